@@ -605,6 +605,9 @@ public final class Agree {
                 return String.valueOf(stage.future.complete(value(words[2])));
             case "fail":
                 return String.valueOf(stage.future.completeExceptionally(new Thrown(words[2])));
+            case "failAs":
+                Throwable failure = words[2].equals("timeout") ? new TimeoutException() : new BadAnswer();
+                return String.valueOf(stage.future.completeExceptionally(failure));
             case "cancel":
                 return String.valueOf(stage.future.cancel(true));
             case "now":

@@ -30,6 +30,8 @@ def call_of(who, words):
         return (kind, who, i, value_of(words[2]))
     if kind == "fail":
         return (kind, who, i, int(words[2]))
+    if kind == "failAs":
+        return (kind, who, i, words[2])
     content = value_of(words[3]) if words[2] == "give" else int(words[3])
     return (kind, who, i, (words[2], content))
 

@@ -153,8 +153,8 @@ def run(rng, script, sizes, plan, no_words, seen, compare_all):
     for _ in range(2 * len(state.stages) + 6):
         if rng.random() < 0.3:
             i, who = rng.randrange(len(state.stages)), rng.randrange(64)
-            kind = rng.choice(["complete"] * 4 + ["fail", "cancel"])
-            content = {"complete": (rng.choice(VALUES),), "fail": (3,)}.get(kind, ())
+            kind = rng.choice(["complete"] * 4 + ["fail", "failAs", "cancel"])
+            content = {"complete": (rng.choice(VALUES),), "fail": (3,), "failAs": ("timeout",)}.get(kind, ())
             recorder.apply((kind, who, i) + content, seen)
         recorder.step(rng, seen)
     compare_all(recorder.ledger, recorder.words, recorder.states)

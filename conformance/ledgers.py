@@ -7,7 +7,7 @@ import ledger_steps
 import model
 from module import cf, compare, outcome_of, plain, reply_of, told_or_refused
 
-CHANGING = ("complete", "fail", "cancel", "claim", "finish", "tick", "attach")
+CHANGING = ("complete", "fail", "cancel", "claim", "finish", "tick", "attach", "failAs")
 NO_WORDS = (0, 2**63, 2**56 + 2**36 * 7 + 2**32 * 15)
 
 

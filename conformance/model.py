@@ -158,13 +158,15 @@ def answered(state, event):
         return attach(state, *event[2:])
     i = event[2]
     held = state.stages[i]
-    if kind in ("complete", "fail", "cancel"):
+    if kind in ("complete", "fail", "failAs", "cancel"):
         if held[0] == "settled":
             return ("flag", kind == "cancel" and held[1] == CANCELLED), state
         if kind == "complete":
             o = ("value", event[3])
         elif kind == "fail":
             o = ("fault", ("thrown", event[3]), False)
+        elif kind == "failAs":
+            o = ("fault", (event[3],), False)
         else:
             o = CANCELLED
         return ("flag", True), after(state, i, o)
@@ -291,7 +293,7 @@ def plan_of(script):
 
 def room_of(script):
     """For how many stages more a script has room. In the first version it has none, whatever stands there."""
-    return script.get("room", 0) if script["cf"] == 2 else 0
+    return script.get("room", 0) if script["cf"] >= 2 else 0
 
 
 def answer_of(said):

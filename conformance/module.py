@@ -17,6 +17,7 @@ FORM = {name: cf.Form[re.sub("([A-Z])", r"_\1", name).upper()] for name in model
 NO_FORM = len(FORM)
 NAME = {form: name for name, form in FORM.items()}
 CAUSES = {cf.Cancelled: "cancelled", cf.TimedOut: "timeout", cf.BadAnswer: "badanswer"}
+FAILURES = {"timeout": cf.Failure.TIMED_OUT, "badanswer": cf.Failure.BAD_ANSWER}
 
 
 class Difference(Exception):
@@ -95,12 +96,14 @@ def answer_of(answer):
 
 
 def event_of(event):
-    kind, who = type(event).__name__.lower(), event.who
+    name, who = type(event).__name__, event.who
+    kind = name[0].lower() + name[1:]
     if kind == "tick":
         return (kind, who, event.now)
     if kind == "attach":
         return (kind, who, NAME[event.form], event.of, event.function)
-    rest = {"complete": lambda: (event.value,), "fail": lambda: (event.code,), "finish": lambda: (answer_of(event.answer),)}
+    rest = {"complete": lambda: (event.value,), "fail": lambda: (event.code,), "finish": lambda: (answer_of(event.answer),),
+            "failAs": lambda: (next(name for name, failure in FAILURES.items() if failure is event.failure),)}
     return (kind, who, event.stage) + rest.get(kind, tuple)()
 
 
@@ -126,6 +129,8 @@ def changing(caller, call):
     if kind == "attach":
         form, of, function = rest
         return reply_of(kind, caller.attach(FORM.get(form, NO_FORM), *of, function=function))
+    if kind == "failAs":
+        return reply_of(kind, caller.fail_as(rest[0], FAILURES[rest[1]]))
     if kind == "finish":
         rest = (rest[0], answer_in(rest[1]))
     return reply_of(kind, getattr(caller, kind)(*rest))

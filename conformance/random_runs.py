@@ -99,13 +99,15 @@ def random_attach(rng, sizes):
 
 def random_step(rng, sizes, attaches):
     kind = rng.choices(
-        ["complete", "fail", "cancel", "claim", "finish", "tick", "now", "outcome", "work", "ready", "attach"],
-        [8, 2, 2, 8, 8, 2, 4, 6, 3, 1, attaches])[0]
+        ["complete", "fail", "cancel", "claim", "finish", "tick", "now", "outcome", "work", "ready", "attach", "failAs"],
+        [8, 2, 2, 8, 8, 2, 4, 6, 3, 1, attaches, 2])[0]
     i = sizes.random_stage(rng)
     if kind == "complete":
         return [kind, i, rng.choice(VALUES)]
     if kind == "fail":
         return [kind, i, rng.choice(CODES)]
+    if kind == "failAs":
+        return [kind, i, rng.choice(["timeout", "badanswer"])]
     if kind in ("cancel", "outcome", "claim"):
         return [kind, i]
     if kind == "finish":

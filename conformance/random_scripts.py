@@ -1,4 +1,4 @@
-"""Random scripts of both versions by a seed, right ones, spoilt ones and hostile ones, and scripts at the bounds of sizes."""
+"""Random scripts of all versions by a seed, right ones, spoilt ones and hostile ones, and scripts at the bounds of sizes."""
 import copy
 import json
 import random
@@ -34,14 +34,15 @@ def random_attach(rng, count):
 
 
 def random_step(rng, count, version):
-    kind = rng.choices(["complete", "fail", "cancel", "tick", "work", "now", "outcome", "claim", "finish", "nudge", "attach"],
-                       [8, 2, 2, 2, 6, 4, 4, 6, 5, 2, 9 * (version - 1)])[0]
+    kind = rng.choices(["complete", "fail", "cancel", "tick", "work", "now", "outcome", "claim", "finish", "nudge", "attach", "failAs"],
+                       [8, 2, 2, 2, 6, 4, 4, 6, 5, 2, 9 * min(version - 1, 1), 4 * max(version - 2, 0)])[0]
     if kind == "attach":
         return random_attach(rng, count)
     i = rng.randrange(count) if count else 0
     values = {"complete": [i, rng.choice(random_runs.VALUES)], "fail": [i, rng.choice(random_runs.CODES)], "cancel": [i],
               "tick": [rng.choice(random_runs.MOMENTS[:-1])], "work": [], "outcome": [i], "claim": [rng.choice([0, 1, 63]), i],
-              "now": rng.choice([[i], [i, rng.choice(random_runs.VALUES)]]), "nudge": [rng.choice([0, 1, 2, 2**32 - 1])]}
+              "now": rng.choice([[i], [i, rng.choice(random_runs.VALUES)]]), "nudge": [rng.choice([0, 1, 2, 2**32 - 1])],
+              "failAs": [i, rng.choice(["timeout", "badanswer"])]}
     if kind == "finish":
         answer = rng.choice([{"give": rng.choice(random_runs.VALUES)}, {"throw": rng.choice(random_runs.CODES)}, {"link": rng.randrange(i + 2)}])
         return [kind, rng.choice([0, 1, 63]), i, answer]
@@ -49,7 +50,7 @@ def random_step(rng, count, version):
 
 
 def random_script(rng):
-    version = rng.choice([1, 2, 2])
+    version = rng.choice([1, 2, 2, 3])
     forms = random_runs.SCRIPT_FORMS if version == 1 else model.FORMS
     stages = [random_runs.random_stage(rng, i, forms) for i in range(rng.randrange(16))]
     script = {"cf": version, "stages": stages, "steps": []}
@@ -155,5 +156,5 @@ def at_bounds():
     yield written(2, [SOURCE], limits=[{"stage": 1, "at": 1, "kind": "timeout"}], room=4_096)
     yield written(2, [SOURCE, {"form": "exceptionallyCompose", "of": [0], "fn": {"goto": 0}}], [["fail", 0, 1], ["work"]])
     yield written(1, [SOURCE, {"form": "exceptionallyCompose", "of": [0], "fn": {"goto": 0}}])
-    for version in (0, 3, 2.0, "2", None):
+    for version in (0, 4, 2.0, "2", None):
         yield written(version, [SOURCE], room="x")

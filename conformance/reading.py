@@ -15,7 +15,7 @@ MAX_EDGES = 16_384
 MAX_LIMITS = 4_096
 MAX_STEPS = 20_000
 MAX_WORDS = 65_535
-RACED = ("complete", "fail", "cancel", "tick")  # beside attaches
+RACED = ("complete", "fail", "failAs", "cancel", "tick")  # beside attaches
 
 
 class Fault(Exception):
@@ -124,7 +124,7 @@ def is_answer(x):
 
 
 def is_form(x, version):
-    return isinstance(x, str) and x in model.FORMS and (version == 2 or x != "exceptionallyCompose")
+    return isinstance(x, str) and x in model.FORMS and (version >= 2 or x != "exceptionallyCompose")
 
 
 def has_shape(stage, version):
@@ -174,8 +174,12 @@ def is_attached(stage, count, functions):
     return len(of) <= 2 and all(i < count for i in of) and model.fits_form(stage["form"], len(of), "fn" in stage)
 
 
-def is_step(step, count):
-    """Whether it is a step that attaches nothing, where there are so many stages."""
+def is_failure(x):
+    return x in ("timeout", "badanswer")
+
+
+def is_step(step, count, version):
+    """Whether it is a step of this version that attaches nothing, where there are so many stages."""
     if not (isinstance(step, list) and step and isinstance(step[0], str)):
         return False
 
@@ -187,7 +191,7 @@ def is_step(step, count):
 
     kinds = {"complete": [(stage, is_value)], "fail": [(stage, is_code)], "cancel": [(stage,)], "tick": [(is_code,)],
              "work": [()], "now": [(stage,), (stage, is_value)], "outcome": [(stage,)], "claim": [(who, stage)],
-             "finish": [(who, stage, is_answer)], "nudge": [(is_code,)]}
+             "finish": [(who, stage, is_answer)], "nudge": [(is_code,)], "failAs": [(stage, is_failure)] * (version >= 3)}
     return any(len(step) == len(parts) + 1 and all(part(x) for part, x in zip(parts, step[1:]))
                for parts in kinds.get(step[0], []))
 
@@ -198,12 +202,12 @@ def check_steps(script, room, is_race):
     functions = sum("fn" in stage for stage in script["stages"])
     for k, step in enumerate(script.get("steps", [])):
         there = count + min(room, attaches)
-        if script["cf"] == 2 and isinstance(step, list) and step[:1] == ["attach"]:
+        if script["cf"] >= 2 and isinstance(step, list) and step[:1] == ["attach"]:
             is_right = len(step) == 2 and is_attached(step[1], there, functions)
             attaches += 1
             functions += is_right and "fn" in step[1]
         else:
-            is_right = is_step(step, there) and not (is_race and step[0] not in RACED)
+            is_right = is_step(step, there, script["cf"]) and not (is_race and step[0] not in RACED)
         need(is_right and k < MAX_STEPS, f"fault 6 step {k}")
 
 
@@ -216,7 +220,7 @@ def read(data):
 def checked(script, workers=None):
     """The script that a JSON value is, to be run or, with so many workers, to be raced."""
     need(isinstance(script, dict), "fault 3 shape top")
-    need(is_whole(script.get("cf"), 1, 2), "fault 3 shape cf")
+    need(is_whole(script.get("cf"), 1, 3), "fault 3 shape cf")
     need(script["cf"] == 1 or is_whole(script.get("room", 0), 0, MAX_STAGES), "fault 3 shape room")
     need(isinstance(script.get("stages"), list), "fault 3 shape stages")
     need(isinstance(script.get("limits", []), list), "fault 3 shape limits")

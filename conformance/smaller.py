@@ -95,7 +95,7 @@ def plainer_step(step):
         yield ["outcome", step[1]]
     if kind == "fail":
         yield [kind, step[1], 1]
-    if kind in ("fail", "cancel"):
+    if kind in ("fail", "failAs", "cancel"):
         yield ["complete", step[1], None]
     if kind == "claim":
         yield [kind, 0, step[2]]

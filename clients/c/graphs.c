@@ -30,6 +30,11 @@ int main(void) {
   cf_fail(&graph, source, 404, &reply); /* no function of apply is called with a fault */
   cf_get_now(&graph, twice, (cf_value){CF_NIL, 0}, &now);
   printf("%s %u\n", now.kind == CF_COMPLETION ? "CompletionException" : "?", now.outcome.code);
+
+  cf_restart(&graph);
+  cf_fail_as(&graph, source, CF_TIMED_OUT, &reply);
+  cf_get(&graph, twice, &outcome);
+  printf("%s\n", outcome.kind == CF_TIMED_OUT ? "timed out" : "?");
   cf_free(&graph);
   cf_free(&plan);
   return 0;

@@ -62,6 +62,7 @@ static void graph_calls(cf_handle *h, uint32_t wanted) {
   cf_handle empty = {0};
   ROW(cf_complete(h, SOURCE, value, &out.reply), wanted);
   ROW(cf_fail(h, SOURCE, 1, &out.reply), wanted);
+  ROW(cf_fail_as(h, SOURCE, CF_TIMED_OUT, &out.reply), wanted);
   ROW(cf_cancel(h, SOURCE, &out.reply), wanted);
   ROW(cf_claim(h, 0, TWICE, &out.reply), wanted);
   ROW(cf_finish_with(h, 0, TWICE, &given, &out.reply), wanted);
@@ -107,6 +108,7 @@ static void caller_calls(cf_handle *h, uint32_t wanted) {
   cf_handle empty = {0};
   ROW(cf_desk_complete(h, SOURCE, value, &out.reply), wanted);
   ROW(cf_desk_fail(h, SOURCE, 1, &out.reply), wanted);
+  ROW(cf_desk_fail_as(h, SOURCE, CF_TIMED_OUT, &out.reply), wanted);
   ROW(cf_desk_cancel(h, SOURCE, &out.reply), wanted);
   ROW(cf_desk_claim(h, TWICE, &out.reply), wanted);
   ROW(cf_desk_finish_with(h, TWICE, &given, &out.reply), wanted);
@@ -124,6 +126,8 @@ static void caller_calls(cf_handle *h, uint32_t wanted) {
   ROW(cf_desk_caller(h, &out.small), wanted);
   ROW(cf_close_begin(h), wanted);
   ROW(cf_desk_meet(h, &empty), wanted == CF_WRONG_KIND ? CF_EMPTY : wanted);
+  ROW(cf_desk_notice(h, &empty), wanted);
+  ROW(cf_desk_heed(h, &empty), wanted);
 }
 
 static void closing_calls(cf_handle *h, uint32_t wanted) {
@@ -234,6 +238,7 @@ static void by_pointers(void) {
   ROW(cf_desk_open_with(plan, &empty, 1, NULL), CF_NULL);
   ROW(cf_complete(graph, SOURCE, value, NULL), CF_NULL);
   ROW(cf_fail(graph, SOURCE, 1, NULL), CF_NULL);
+  ROW(cf_fail_as(graph, SOURCE, CF_TIMED_OUT, NULL), CF_NULL);
   ROW(cf_cancel(graph, SOURCE, NULL), CF_NULL);
   ROW(cf_claim(graph, 0, TWICE, NULL), CF_NULL);
   ROW(cf_finish_with(graph, 0, TWICE, NULL, &out.reply), CF_NULL);
@@ -274,6 +279,7 @@ static void by_pointers(void) {
   ROW(cf_ledger_stages(ledger, NULL), CF_NULL);
   ROW(cf_desk_complete(caller, SOURCE, value, NULL), CF_NULL);
   ROW(cf_desk_fail(caller, SOURCE, 1, NULL), CF_NULL);
+  ROW(cf_desk_fail_as(caller, SOURCE, CF_TIMED_OUT, NULL), CF_NULL);
   ROW(cf_desk_cancel(caller, SOURCE, NULL), CF_NULL);
   ROW(cf_desk_claim(caller, TWICE, NULL), CF_NULL);
   ROW(cf_desk_finish_with(caller, TWICE, NULL, &out.reply), CF_NULL);
@@ -324,6 +330,7 @@ static void by_numbers(uint16_t stage) {
   ROW(cf_builder_limit(builder, stage, 1, CF_TIMEOUT, value), CF_NO_SUCH_STAGE);
   ROW(cf_complete(graph, stage, value, &out.reply), CF_NO_STAGE);
   ROW(cf_fail(graph, stage, 1, &out.reply), CF_NO_STAGE);
+  ROW(cf_fail_as(graph, stage, CF_TIMED_OUT, &out.reply), CF_NO_STAGE);
   ROW(cf_cancel(graph, stage, &out.reply), CF_NO_STAGE);
   ROW(cf_claim(graph, 0, stage, &out.reply), CF_NO_STAGE);
   ROW(cf_finish_with(graph, 0, stage, &given, &out.reply), CF_NO_STAGE);
@@ -341,6 +348,7 @@ static void by_numbers(uint16_t stage) {
   ROW(cf_ledger_step(ledger, &step, &task, out.news, 2, &out.n), CF_NO_STAGE);
   ROW(cf_desk_complete(caller, stage, value, &out.reply), CF_NO_STAGE);
   ROW(cf_desk_fail(caller, stage, 1, &out.reply), CF_NO_STAGE);
+  ROW(cf_desk_fail_as(caller, stage, CF_TIMED_OUT, &out.reply), CF_NO_STAGE);
   ROW(cf_desk_cancel(caller, stage, &out.reply), CF_NO_STAGE);
   ROW(cf_desk_claim(caller, stage, &out.reply), CF_NO_STAGE);
   ROW(cf_desk_finish_with(caller, stage, &given, &out.reply), CF_NO_STAGE);
@@ -363,7 +371,7 @@ static void by_other_numbers(void) {
   cf_handle *builder = &held[BUILDER], *plan = &held[PLAN], *graph = &held[GRAPH], *ledger = &held[LEDGER], *caller = &held[CALLER];
   const uint16_t three[3] = {SOURCE, SOURCE, SOURCE};
   cf_handle empty = {0}, many[65] = {{0}};
-  cf_event event = {.call = 7};
+  cf_event event = {.call = 8};
   cf_task task = {.held = 1, .stage = TWICE};
   cf_step step = {.who = 64};
   fill();
@@ -404,6 +412,10 @@ static void by_other_numbers(void) {
   ROW(cf_apply(graph, UINT64_MAX, &out.reply), CF_NO_WORD);
   ROW(cf_event_of(0, &out.event), CF_NO_WORD);
   ROW(cf_word_of_event(&event, &out.word), CF_NO_SUCH_NUMBER);
+  event.call = CF_CALL_FAIL_AS, event.code = CF_CANCELLED;
+  ROW(cf_word_of_event(&event, &out.word), CF_NO_SUCH_NUMBER);
+  ROW(cf_fail_as(graph, SOURCE, CF_CANCELLED, &out.reply), CF_NO_SUCH_NUMBER);
+  ROW(cf_desk_fail_as(&held[CALLER], SOURCE, CF_VALUE, &out.reply), CF_NO_SUCH_NUMBER);
   event.call = CF_CALL_ATTACH, event.form = 19;
   ROW(cf_word_of_event(&event, &out.word), CF_NO_SUCH_NUMBER);
   event.form = CF_APPLY, event.sources = 3;

@@ -25,7 +25,7 @@ from jobs import tables  # noqa: E402
 from judge import Judge  # noqa: E402
 from mixed_functions import given_by, raises  # noqa: E402
 
-from cf.service.words import ATTACH, CANCEL, CLAIM, COMPLETE, FAIL, FINISH, LINKS  # noqa: E402
+from cf.service.words import ATTACH, CANCEL, CLAIM, COMPLETE, FAIL, FAIL_AS, FINISH, LINKS  # noqa: E402
 
 KEPT = {  # what keeps the rows of requests that are dropped
     "sqlite": ["create table kept_request (id integer, name text, plan text)",
@@ -168,7 +168,7 @@ class MixedJudge(Judge):
         entries, plan, payloads = self.rows[key]
         self.key, self.payloads, self.entries = key, payloads, entries
         self.stages = list(plan["stages"])
-        self.places = {}  # where each was settled
+        self.places, self.failed = {}, {}  # where each was settled, and by which word each timed out, itself or what it has it from
         self.claimed, self.finished, self.open, self.links = [], {}, {}, {}
         self.tokens, self.labels = {}, {it["kwargs"]["where"] for it in self.stages if "kwargs" in it}
         self.has = {kind for kind, note in (("timed", "timer"), ("called back", "called back"), ("opened again", "again")) if self.told[(note, *key)]}
@@ -205,34 +205,42 @@ class MixedJudge(Judge):
             self.claim(stage, token >> 23, reply)
         if kind == FINISH:
             self.finish(stage, tag, place, reply)
-        if kind in (COMPLETE, FAIL, CANCEL):
+        if kind in (COMPLETE, FAIL, FAIL_AS, CANCEL):
             self.by_hand(kind, stage, place, reply, token >> 23)
         if reply == "notyours":
             self.wrong.append(f"{name}: place {place} finishes what another claimed")
         for k in range(graph.stages):
             if k not in self.places and graph.settled(k):
                 self.places[k] = place
+                if graph.told[k][:2] == ("fault", "timeout"):
+                    linked = [low] if kind == FINISH and tag == LINKS else []
+                    self.failed[k] = place if kind == FAIL_AS else self.failed_of(linked + graph.of[k])
 
     def thing(self, place):
         """What a payload holds, a value or what is said of an error."""
         return None if place in (None, "nil") else json.loads(self.payloads[int(place)])
 
-    def error(self, cause):
-        if cause.startswith("thrown"):
-            said = self.thing(cause.split()[1])
+    def failed_of(self, of):
+        return next((self.failed[it] for it in of if it in self.failed), None)
+
+    def error(self, cause, of):
+        """What is said of the error of a cause, which one of these stages ended in."""
+        place = cause.split()[1] if cause.startswith("thrown") else self.failed_of(of) if cause == "timeout" else None
+        if place is not None:
+            said = self.thing(place)
             return {"error": said["error"], "text": said["text"]}
         return {"error": {"cancelled": "CancelledError", "badanswer": "BadAnswer"}.get(cause, "TimeoutError"), "text": ""}
 
     def outcome(self, stage):
         """A stage's value and error by the plain graph, of which one is None."""
         told = self.graph.told[stage]
-        return (self.thing(told[1]), None) if told[0] == "value" else (None, self.error(told[1]))
+        return (self.thing(told[1]), None) if told[0] == "value" else (None, self.error(told[1], [stage]))
 
     def claim(self, stage, session, reply):
         """What a claim's function is called with, and whether it is called."""
         said, words = self.stages[stage], reply.split()[1:]
         if words[0] == "got":
-            got = (self.thing(words[2]), None) if words[1] == "value" else (None, self.error(" ".join(words[2:-1])))
+            got = (self.thing(words[2]), None) if words[1] == "value" else (None, self.error(" ".join(words[2:-1]), self.graph.of[stage]))
             args = got[1:] if self.graph.form[stage] in ("exceptionally", "exceptionallyCompose") else got
         else:
             args = tuple(self.thing(it) for it in words[1:])
@@ -312,8 +320,9 @@ class MixedJudge(Judge):
         """A word that settles a stage without a function: somebody has to have meant it."""
         if kind == CANCEL:
             return
-        said, given = self.stages[stage], self.thing(place if kind == FAIL or self.entries[place - 1][0] >> 32 & 0xF else None)
-        text = given["text"] if kind == FAIL else ""
+        fails = kind in (FAIL, FAIL_AS)
+        said, given = self.stages[stage], self.thing(place if fails or self.entries[place - 1][0] >> 32 & 0xF else None)
+        text = given["text"] if fails else ""
         is_relay = said["name"].startswith("what ")
         if kind == FAIL and given["error"] == "Abandoned" and "may have run" in text and not is_relay:
             self.count["abandoned"] += reply == "true"
@@ -321,12 +330,13 @@ class MixedJudge(Judge):
                 self.misfit(place, f"stage {stage} is abandoned, and no other has it")
             return
         timed = re.search(r"took longer than (.* s)", text)
-        token = timed.group(1) if timed else text if kind == FAIL else (given or {}).get("token")
+        token = timed.group(1) if timed else text if fails else (given or {}).get("token")
         is_meant = token in self.meant[(*self.key, stage)] or token in self.meant[self.key[0], None, stage]
         if not is_meant and is_relay:
             to = self.links.get(stage)
             told = None if to is None else self.graph.told[to]
-            if told is None or self.outcome(to) != ((given, None) if kind == COMPLETE else (None, {"error": given["error"], "text": text})):
+            is_alike = told is not None and (kind == FAIL_AS) == (told[:2] == ("fault", "timeout"))
+            if not is_alike or self.outcome(to) != ((given, None) if kind == COMPLETE else (None, {"error": given["error"], "text": text})):
                 self.misfit(place, f"stage {stage} isn't settled as stage {to} is")
             return
         if not is_meant:

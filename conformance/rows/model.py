@@ -4,7 +4,7 @@ An outcome is ("value", v) or ("fault", cause, wrapped), a cause is its text. A 
 "linked", "settled". Each event settles all that follows from it at once, in rising number."""
 import heapq
 
-COMPLETE, FAIL, CANCEL, CLAIM, FINISH, TICK, ATTACH = range(1, 8)
+COMPLETE, FAIL, CANCEL, CLAIM, FINISH, TICK, ATTACH, FAIL_AS = range(1, 9)
 FORMS = ("source supply runAsync apply accept thenRun combine acceptBoth runBoth applyEither acceptEither runEither compose handle "
          "whenComplete exceptionally allOf anyOf exceptionallyCompose").split()
 
@@ -160,6 +160,8 @@ class Graph:
             return "true" if self._direct(stage, ("value", signed(low) if tag else None)) else "false"
         if kind == FAIL:
             return "true" if self._direct(stage, ("fault", f"thrown {low}", False)) else "false"
+        if kind == FAIL_AS:
+            return "true" if self._direct(stage, ("fault", ("timeout", "badanswer")[tag], False)) else "false"
         if kind == CANCEL:
             raw = ("fault", "cancelled", False)
             return "true" if self._direct(stage, raw) or self.told[stage] == raw else "false"

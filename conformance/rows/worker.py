@@ -13,7 +13,7 @@ sys.path.insert(0, str(Path(__file__).resolve().parent))
 sys.path.insert(0, str(Path(__file__).resolve().parents[2] / "clients/python"))
 from plans import plan_of  # noqa: E402
 
-from cf.service.words import (ATTACH, CANCEL, CLAIM, COMPLETE, FAIL, FINISH, FORMS, GIVES, IS_CLAIMED, LINKS, THROWS, THROWN,  # noqa: E402
+from cf.service.words import (ATTACH, CANCEL, CLAIM, COMPLETE, FAIL, FAIL_AS, FINISH, FORMS, GIVES, IS_CLAIMED, LINKS, THROWS, THROWN,  # noqa: E402
                               VALUE)
 from cf.shared import Desk, StoreError, Unknown, Watcher, connect, new_session  # noqa: E402
 
@@ -119,8 +119,11 @@ class Worker:
             stage = rng.choice(sources)
             if rng.random() < 0.8:
                 put(COMPLETE, stage, {"value": rng.random()}, GIVES)
-            else:
+            elif rng.random() < 0.6:
                 put(FAIL, stage, {"error": "no"})
+            else:
+                failure = rng.randrange(2)
+                desk.act(lambda desk: [(word(FAIL_AS, desk, stage, failure << 32), None)])
         elif pick < 0.65:
             desk.act(lambda desk: [(word(CANCEL, desk, stage), None)])
         elif pick < 0.72 and many < len(desk.plan.rows) + 3:

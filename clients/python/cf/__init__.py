@@ -15,11 +15,12 @@ from .graph import Future, Graph
 from .ledger import Applied, Ledger, Stage, StageKind, Stepped
 from .plan import Plan
 from .texts import BadScript, code_text, outcome_text, run_script
-from .values import (BadAnswer, Cancelled, ClaimReply, ClaimStatus, Code, Fault, FinishReply, Form, Link, Misfit, Now, NowKind, Outcome,
-                     Refused, Task, Thrown, TimedOut)
+from .values import (BadAnswer, Cancelled, ClaimReply, ClaimStatus, Code, Failure, Fault, FinishReply, Form, Link, Misfit, Now, NowKind,
+                     Outcome, Refused, Task, Thrown, TimedOut)
 from .workers import Workers
 
-__all__ = ["Applied", "BadAnswer", "BadScript", "Caller", "Cancelled", "ClaimReply", "ClaimStatus", "Closed", "Code", "Desk", "Did", "Event",
-           "Fault", "FinishReply", "Form", "Future", "Graph", "InUse", "InvalidStateError", "Ledger", "Link", "Misfit", "Now", "NowKind", "Outcome", "Plan",
-           "Record", "Refused", "Saw", "SawNow", "SharedFuture", "Stage", "StageKind", "Stepped", "Task", "Thrown", "TimedOut", "Workers", "code_text", "event_of", "events",
-           "outcome_text", "run_script", "word_of"]
+__all__ = ["Applied", "BadAnswer", "BadScript", "Caller", "Cancelled", "ClaimReply", "ClaimStatus", "Closed", "Code", "Desk",
+           "Did", "Event", "Failure", "Fault", "FinishReply", "Form", "Future", "Graph", "InUse", "InvalidStateError", "Ledger",
+           "Link", "Misfit", "Now", "NowKind", "Outcome", "Plan", "Record", "Refused", "Saw", "SawNow", "SharedFuture", "Stage",
+           "StageKind", "Stepped", "Task", "Thrown", "TimedOut", "Workers", "code_text", "event_of", "events", "outcome_text",
+           "run_script", "word_of"]

@@ -6,7 +6,7 @@ from types import SimpleNamespace
 from typing import Any, Callable, Dict, List, Sequence
 
 NO_FUNCTION = 0xFFFFFFFF
-VERSION = (1, 2)  # of the library that this module is written for
+VERSION = (1, 4)  # of the library that this module is written for
 
 
 class CHandle(c.Structure):
@@ -104,6 +104,7 @@ CALLS: Dict[str, List[Any]] = {
     "cf_graph_new": [_H, _U16, _H],
     "cf_complete": [_H, _U16, CValue, _R],
     "cf_fail": [_H, _U16, _U32, _R],
+    "cf_fail_as": [_H, _U16, _U32, _R],
     "cf_cancel": [_H, _U16, _R],
     "cf_claim": [_H, _U8, _U16, _R],
     "cf_finish_with": [_H, _U8, _U16, _ANSWER, _R],
@@ -123,6 +124,7 @@ CALLS: Dict[str, List[Any]] = {
     "cf_desk_open_with": [_H, _H, _SIZE, c.POINTER(CDeskSizes)],
     "cf_desk_complete": [_H, _U16, CValue, _R],
     "cf_desk_fail": [_H, _U16, _U32, _R],
+    "cf_desk_fail_as": [_H, _U16, _U32, _R],
     "cf_desk_cancel": [_H, _U16, _R],
     "cf_desk_claim": [_H, _U16, _R],
     "cf_desk_finish_with": [_H, _U16, _ANSWER, _R],

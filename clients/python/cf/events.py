@@ -5,7 +5,7 @@ from typing import Any, Callable, List, Optional, Tuple, Union
 
 from ._library import NO_FUNCTION, CEvent, CReply, in_range, library
 from .handle import function_in
-from .values import (Answer, Form, Reply, Value, answer_in, answer_out, check, claim_out, finish_out, flag_out, number_out, value_in,
+from .values import (Answer, Failure, Form, Reply, Value, answer_in, answer_out, check, claim_out, finish_out, flag_out, number_out, value_in,
                      value_out)
 
 
@@ -21,6 +21,13 @@ class Fail:
     who: int
     stage: int
     code: int
+
+
+@dataclass(frozen=True)
+class FailAs:
+    who: int
+    stage: int
+    failure: Failure
 
 
 @dataclass(frozen=True)
@@ -59,9 +66,9 @@ class Attach:
 
 
 # A changing call, by a caller: 0 to 63 where it has a word.
-Event = Union[Complete, Fail, Cancel, Claim, Finish, Tick, Attach]
+Event = Union[Complete, Fail, FailAs, Cancel, Claim, Finish, Tick, Attach]
 
-_CALLS: List[Any] = [Complete, Fail, Cancel, Claim, Finish, Tick, Attach]
+_CALLS: List[Any] = [Complete, Fail, Cancel, Claim, Finish, Tick, Attach, FailAs]
 
 
 def _event_in(event: Event) -> CEvent:
@@ -77,6 +84,8 @@ def _event_in(event: Event) -> CEvent:
         known.value = value_in(event.value)
     elif isinstance(event, Fail):
         known.code = in_range(event.code, 2**32 - 1)
+    elif isinstance(event, FailAs):
+        known.code = in_range(event.failure, 2**32 - 1)
     elif isinstance(event, Finish):
         known.answer = answer_in(event.answer)
     return known
@@ -88,6 +97,8 @@ def _event_out(event: CEvent) -> Event:
         return Complete(who, stage, value_out(event.value))
     if call is Fail:
         return Fail(who, stage, event.code)
+    if call is FailAs:
+        return FailAs(who, stage, Failure(event.code))
     if call is Finish:
         return Finish(who, stage, answer_out(event.answer))
     if call is Tick:
@@ -118,7 +129,7 @@ def _known(word: int) -> CEvent:
     return event
 
 
-_REPLIES: List[Callable[[CReply], Reply]] = [flag_out, flag_out, flag_out, claim_out, finish_out, number_out, number_out]
+_REPLIES: List[Callable[[CReply], Reply]] = [flag_out, flag_out, flag_out, claim_out, finish_out, number_out, number_out, flag_out]
 
 
 def reply_of(word: int, reply: CReply) -> Reply:

@@ -4,8 +4,8 @@ import threading
 from typing import TYPE_CHECKING, Any, Callable, ContextManager, Optional, Tuple, TypeVar, Union, cast
 
 from ._library import NO_FUNCTION, CHandle, CReply, in_range, library, numbers
-from .values import (Answer, Args, ClaimReply, Code, FinishReply, Form, Link, Refused, Task, Thrown, Value, answer_in, check, claim_out,
-                     finish_out, flag_out, number_out, task_in, task_out, value_in)
+from .values import (Answer, Args, ClaimReply, Code, Failure, FinishReply, Form, Link, Refused, Task, Thrown, Value, answer_in, check,
+                     claim_out, finish_out, flag_out, number_out, task_in, task_out, value_in)
 
 # The function of a stage. One that raises `Thrown(code)` throws the code.
 Function = Callable[..., Union[Value, Link]]
@@ -92,6 +92,10 @@ class Calls(Handle):
     def fail(self, stage: int, code: int) -> bool:
         """Settles a stage with a thrown code, and says whether it did."""
         return flag_out(self._do("fail", stage, code))
+
+    def fail_as(self, stage: int, failure: Failure) -> bool:
+        """Settles a stage as timed out, or, where it stands in for another, with a bad answer, and says whether it did."""
+        return flag_out(self._do("fail_as", stage, failure))
 
     def cancel(self, stage: int) -> bool:
         """Cancels a stage, and says whether it is cancelled then."""

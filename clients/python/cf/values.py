@@ -29,6 +29,12 @@ class Code(enum.IntEnum):
     NULL = 255
 
 
+class Failure(enum.IntEnum):
+    """A cause, other than a thrown code and a cancellation, with which a caller fails a stage."""
+
+    TIMED_OUT, BAD_ANSWER = 4, 5
+
+
 class Refused(Exception):
     """A call was refused, and changed nothing."""
 
@@ -68,11 +74,11 @@ class Thrown(Fault):
 
 
 class TimedOut(Fault):
-    """A limit fired."""
+    """A limit fired, or a caller failed the stage as timed out."""
 
 
 class BadAnswer(Fault):
-    """A function answered what its form can't take."""
+    """A function answered what its form can't take, or a caller failed the stage as one that stands in for such."""
 
 
 class Cancelled(Fault, CancelledError):

@@ -25,12 +25,14 @@
 
 enum { MOST = 4096, CALLERS = 64, NONE = 0xFFFF, THIS_THREAD = -1 };
 enum { DEEPER = 200, TRIES = 100 };  /* calls of Python's beyond its limit for what has to be told, and how often that is tried */
-enum { COMPLETE = 1, FAIL = 2, CANCEL = 3, CLAIM = 4, FINISH = 5, ATTACH = 7 };  /* the kinds of words */
+enum { COMPLETE = 1, FAIL = 2, CANCEL = 3, CLAIM = 4, FINISH = 5, ATTACH = 7, FAIL_AS = 8 };  /* the kinds of words */
 #define KIND(kind) ((uint64_t)(kind) << 56)
 #define WHO(who) ((uint64_t)(who) << 48)
 #define OF(stage) ((uint64_t)(stage) << 36)
 #define GIVES (1ULL << 32)
 #define THROWS (2ULL << 32)
+#define LINKS (3ULL << 32)
+#define BAD_ANSWER (1ULL << 32)
 
 static _Thread_local int caller;   /* which caller this thread is */
 
@@ -50,11 +52,14 @@ typedef struct {
 /* An event, when it was done in nanoseconds, and what it was answered. */
 typedef struct { int64_t at; cf_reply reply; } Event;
 
-/* What stands beside a stage. `told` is pending until the stage is settled, by the event before `place`. `stage` is its future, which is
- * held until all was told of it, and may be missing of a planned one. */
+/* What stands beside a stage. `told` is pending until the stage is settled, by the event before `place`. `error` is one more than the
+ * number of the exception of a stage that timed out or has a bad answer, which its outcome doesn't tell; 0 where nobody gave one. `stage`
+ * is its future, which is held until all was told of it, and may be missing of a planned one. `of` says of an attached one how many sources
+ * it has, and these. */
 typedef struct {
   cf_outcome told;
-  uint32_t place;
+  uint32_t place, error;
+  uint16_t of[3];
   uint16_t next_settled, next_ready;
   uint8_t form;
   bool running;
@@ -67,6 +72,7 @@ typedef struct {
   cf_handle plan;
   uint16_t stages;
   uint8_t *forms;
+  uint16_t **of;            /* of each stage how many sources it has, and these */
   PyObject *calls, *names;  /* tuples */
   PyObject *rows;           /* what it was made of */
   cf_stage *start;          /* each stage as a new ledger has it */
@@ -93,9 +99,10 @@ typedef struct {
   PyObject *call, *args, *kwargs, *callbacks, *condition, *waiters, *error;
 } Stage;
 
-/* The stages that an event settled and made ready, as lists through their rows. */
-typedef struct { uint16_t settled, last_settled, ready, last_ready; } News;
-static const News NO_NEWS = {NONE, NONE, NONE, NONE};
+/* The stages that an event settled and made ready, as lists through their rows. `error` is the one that stages time out with by the next
+ * event, or have a bad answer with, as in their rows. */
+typedef struct { uint16_t settled, last_settled, ready, last_ready; uint32_t error; } News;
+static const News NO_NEWS = {NONE, NONE, NONE, NONE, 0};
 
 static PyObject *refused(uint32_t code) {
   if (code == CF_NO_MEMORY) return PyErr_NoMemory();
@@ -122,6 +129,19 @@ static int room_for_events(Request *self) {
   return 0;
 }
 
+/* How many sources a stage has, and these. */
+static const uint16_t *sources_of(Request *self, uint16_t i) {
+  return self->plan && i < self->plan->stages ? self->plan->of[i] : self->rows[i].of;
+}
+
+/* What the row of the first source says of an exception whose outcome is of this kind; 0 where none is. */
+static uint32_t error_of_sources(Request *self, uint16_t i, uint32_t kind) {
+  const uint16_t *of = sources_of(self, i);
+  for (uint32_t k = 1; k <= of[0]; k++)
+    if (self->rows[of[k]].told.kind == kind) return self->rows[of[k]].error;
+  return 0;
+}
+
 /* Writes down the stages that the last event changed. */
 static void note(Request *self, size_t n, News *news) {
   const cf_news *changed = self->state->changed;
@@ -131,6 +151,8 @@ static void note(Request *self, size_t n, News *news) {
     if (changed[k].now.kind == CF_IS_SETTLED) {
       row->told = changed[k].now.outcome;
       row->place = self->events;
+      bool is_failed_as = row->told.kind == CF_TIMED_OUT || row->told.kind == CF_BAD_ANSWER;
+      if (is_failed_as) row->error = news->error ? news->error : error_of_sources(self, i, row->told.kind);
       row->next_settled = NONE;
       if (news->last_settled == NONE) news->settled = i; else self->rows[news->last_settled].next_settled = i;
       news->last_settled = i;
@@ -140,6 +162,7 @@ static void note(Request *self, size_t n, News *news) {
       news->last_ready = i;
     } else if (changed[k].now.kind == CF_IS_CLAIMED) row->running = true;
   }
+  news->error = 0;
 }
 
 /* Does the event of a word, and adds what it settled and made ready to the news. The code of the library. */
@@ -204,14 +227,16 @@ static PyObject *value_out(Request *self, cf_value value) {
   return given;
 }
 
-/* The exception of an outcome that is a fault. Where nobody raised one, it is made. */
-static PyObject *error_out(Request *self, cf_outcome outcome) {
-  if (outcome.kind == CF_THROWN) {
-    PyObject *error = PyList_GET_ITEM(self->errors, outcome.code);
-    Py_INCREF(error);
-    return error;
+/* The exception of an outcome that is a fault, with what its stage's row says of one. Where nobody gave one, it is made. */
+static PyObject *error_out(Request *self, cf_outcome outcome, uint32_t error) {
+  if (outcome.kind == CF_THROWN) error = outcome.code + 1;
+  if (error) {
+    PyObject *given = PyList_GET_ITEM(self->errors, error - 1);
+    Py_INCREF(given);
+    return given;
   }
-  return PyObject_CallNoArgs(outcome.kind == CF_CANCELLED ? self->state->cancelled_error : self->state->bad_answer);
+  return PyObject_CallNoArgs(outcome.kind == CF_CANCELLED ? self->state->cancelled_error : outcome.kind == CF_TIMED_OUT ? PyExc_TimeoutError
+                             : self->state->bad_answer);
 }
 
 static bool was_cancelled(cf_outcome outcome) { return outcome.kind == CF_CANCELLED && !outcome.wrapped; }
@@ -558,10 +583,12 @@ static PyObject *Request_attach(Request *self, PyObject *const *args, Py_ssize_t
     self->stages++;
   }
   uint16_t number = (uint16_t)self->stages;
-  self->rows[number] = (Row){.next_settled = NONE, .next_ready = NONE, .form = (uint8_t)form, .stage = (PyObject *)stage, .name = name};
+  uint16_t first = sources > 0 ? ((Stage *)args[1])->number : 0, second = sources > 1 ? ((Stage *)args[2])->number : 0;
+  self->rows[number] = (Row){.next_settled = NONE, .next_ready = NONE, .form = (uint8_t)form, .of = {(uint16_t)sources, first, second},
+                             .stage = (PyObject *)stage, .name = name};
   stage->number = number;
-  uint64_t word = KIND(ATTACH) | WHO(caller) | OF(sources > 0 ? ((Stage *)args[1])->number : 0) | (uint64_t)sources << 32 |
-                  (uint64_t)form << 24 | (uint64_t)(sources > 1 ? ((Stage *)args[2])->number : 0) << 12 | (call ? number : 0);
+  uint64_t word = KIND(ATTACH) | WHO(caller) | OF(first) | (uint64_t)sources << 32 | (uint64_t)form << 24 | (uint64_t)second << 12 |
+                  (call ? number : 0);
   if ((code = apply(self, word, &reply, &news))) { refused(code); goto failed; }
   self->stages++;
   Py_INCREF(stage);  /* (one for the row, and one for the caller) */
@@ -588,23 +615,29 @@ static int stage_in(Request *self, PyObject *stage, uint16_t *i) {
   return 0;
 }
 
-/* _change(kind, who, stage, given): completes, fails or cancels a stage, and says whether that did it. */
+/* _change(kind, who, stage, given): completes, fails or cancels a stage, and says whether that did it. By FAIL_AS it has a bad answer where
+ * the exception is a `BadAnswer`, and else times out. */
 static PyObject *Request_change(Request *self, PyObject *const *args, Py_ssize_t n) {
   uint16_t stage;
   if (n != 4 || stage_in(self, args[2], &stage)) return n == 4 ? NULL : PyErr_Format(PyExc_TypeError, "_change takes 4");
-  long kind = number_below(args[0], CANCEL + 1, "change");
+  long kind = number_below(args[0], FAIL_AS + 1, "change");
+  if (kind > CANCEL && kind < FAIL_AS) return PyErr_Format(PyExc_ValueError, "no change has the number %ld", kind);
   if (kind < 0) return NULL;
   int who = PyLong_AsLong(args[1]) == THIS_THREAD && !PyErr_Occurred() ? caller : caller_in(args[1]);
   if (who < 0) return NULL;
   uint64_t low = 0;
   uint32_t number, code;
   if (kind == COMPLETE && value_in(self, args[3], &low)) return NULL;
-  if (kind == FAIL) {
+  News news = NO_NEWS;
+  if (kind == FAIL || kind == FAIL_AS) {
     if (kept(&self->errors, args[3], &number)) return NULL;
-    low = number;
+    if (kind == FAIL) low = number;
+    else {
+      low = PyErr_GivenExceptionMatches(args[3], self->state->bad_answer) ? BAD_ANSWER : 0;
+      news.error = number + 1;
+    }
   }
   if (kind == CANCEL && args[3] == Py_True && self->rows[stage].running && !self->rows[stage].told.kind) Py_RETURN_FALSE;  /* unless it runs */
-  News news = NO_NEWS;
   cf_reply reply;
   if ((code = apply(self, KIND(kind) | WHO(who) | OF(stage) | low, &reply, &news))) return refused(code);
   if (tell(self, news, NULL)) return NULL;
@@ -637,7 +670,7 @@ static int to_call(Request *self, uint16_t i, const cf_args *args, Called *it) {
     cf_outcome got = args->outcome;
     it->many = 2;
     it->given[0] = got.kind == CF_VALUE ? value_out(self, got.value) : (Py_INCREF(Py_None), Py_None);
-    it->given[1] = got.kind == CF_VALUE ? (Py_INCREF(Py_None), Py_None) : error_out(self, got);
+    it->given[1] = got.kind == CF_VALUE ? (Py_INCREF(Py_None), Py_None) : error_out(self, got, error_of_sources(self, i, got.kind));
     if (!it->given[1]) { called_clear(it); return -1; }
   }
   return 1;
@@ -667,6 +700,7 @@ static PyObject *call(Called *it, uint8_t form) {
 /* Finishes a stage, and tells what came of it. */
 static int end(Request *self, uint16_t i, int who, uint64_t low, uint16_t *following) {
   News news = NO_NEWS;
+  if (low >= LINKS) news.error = self->rows[low & 0xFFFF].error;  /* what it links to may have ended */
   cf_reply reply;
   uint32_t code = apply(self, KIND(FINISH) | WHO(who) | OF(i) | low, &reply, &news);
   if (code) { refused(code); return -1; }
@@ -815,7 +849,7 @@ static PyObject *Request_end(Request *self, PyObject *const *args, Py_ssize_t n)
   int failed;
   if (kind == 3) {
     if (!is_own(self, args[3])) return PyErr_Format(PyExc_TypeError, "no stage of this request");
-    failed = end(self, i, who, 3ULL << 32 | ((Stage *)args[3])->number, &following);
+    failed = end(self, i, who, LINKS | ((Stage *)args[3])->number, &following);
   } else failed = (kind == 1 ? end_giving : end_raising)(self, i, who, args[3], &following);
   if (failed) {
     if (following != NONE) {  /* nobody else will */
@@ -983,9 +1017,10 @@ static PyObject *Stage_running(Stage *self, PyObject *Py_UNUSED(none)) {
 
 /* The exception of a settled stage, the same each time. */
 static PyObject *error_of(Stage *self) {
-  if (told(self).kind == CF_THROWN) return error_out(self->request, told(self));
+  uint32_t given = self->request->rows[self->number].error;
+  if (told(self).kind == CF_THROWN) return error_out(self->request, told(self), 0);
   if (!self->error) {
-    PyObject *error = error_out(self->request, told(self));
+    PyObject *error = error_out(self->request, told(self), given);
     if (!error) return NULL;
     if (!self->error) self->error = error; else Py_DECREF(error);
   }
@@ -1055,6 +1090,8 @@ static PyObject *Stage_form(Stage *self, void *Py_UNUSED(which)) {
   return PyLong_FromLong(self->request ? self->request->rows[self->number].form : 0);
 }
 
+static PyObject *Stage_ended(Stage *self, void *Py_UNUSED(which)) { return PyLong_FromUnsignedLong(told(self).kind); }
+
 static PyObject *Stage_shown(Stage *self, void *Py_UNUSED(which)) {
   be_here(self);
   return PyBool_FromLong(self->shown);
@@ -1121,6 +1158,7 @@ static PyGetSetDef stage_getters[] = {
   {"_state", (getter)Stage_state, NULL, NULL, NULL},
   {"_shown", (getter)Stage_shown, (setter)Stage_set_shown, NULL, NULL},
   {"_form", (getter)Stage_form, NULL, NULL, NULL},
+  {"_ended", (getter)Stage_ended, NULL, NULL, NULL},
   {"_condition", (getter)Stage_condition, NULL, NULL, NULL},
   {"_waiters", (getter)Stage_waiters, NULL, NULL, NULL},
   {"_done_callbacks", (getter)Stage_callbacks, NULL, NULL, NULL},
@@ -1156,16 +1194,16 @@ static uint32_t plan_stage(Plan *self, PyObject *row, Py_ssize_t k) {
   Py_INCREF(function); PyTuple_SET_ITEM(self->calls, k, function);
   Py_INCREF(name); PyTuple_SET_ITEM(self->names, k, name);
   Py_ssize_t many = PyTuple_GET_SIZE(of);
-  uint16_t *sources = PyMem_Calloc(many + 1, sizeof *sources), stage;
+  uint16_t *sources = self->of[k] = PyMem_Calloc(many + 1, sizeof *sources), stage;
   if (!sources) return CF_NO_MEMORY;
   uint32_t code = CF_OK;
+  sources[0] = (uint16_t)many;
   for (Py_ssize_t s = 0; !code && s < many; s++) {
     long source = number_below(PyTuple_GET_ITEM(of, s), k, "lower stage");
-    if (source < 0) code = CF_NULL; else sources[s] = (uint16_t)source;
+    if (source < 0) code = CF_NULL; else sources[s + 1] = (uint16_t)source;
   }
   self->forms[k] = (uint8_t)form;
-  if (!code) code = cf_builder_stage(&self->plan, form, sources, many, function == Py_None ? CF_NO_FUNCTION : (uint32_t)k, &stage);
-  PyMem_Free(sources);
+  if (!code) code = cf_builder_stage(&self->plan, form, sources + 1, many, function == Py_None ? CF_NO_FUNCTION : (uint32_t)k, &stage);
   return code;
 }
 
@@ -1182,8 +1220,9 @@ static int Plan_init(Plan *self, PyObject *args, PyObject *kwargs) {
   self->calls = PyTuple_New(n);
   self->names = PyTuple_New(n);
   self->forms = PyMem_Calloc(n + 1, 1);
+  self->of = PyMem_Calloc(n + 1, sizeof *self->of);
   self->start = PyMem_Calloc(n + 1, sizeof *self->start);
-  if (!self->calls || !self->names || !self->forms || !self->start) { PyErr_NoMemory(); return -1; }
+  if (!self->calls || !self->names || !self->forms || !self->of || !self->start) { PyErr_NoMemory(); return -1; }
   for (Py_ssize_t k = 0; !code && k < n; k++) code = plan_stage(self, PyList_GET_ITEM(rows, k), k);
   if (code == CF_NULL) return -1;
   if (code == CF_TOO_MANY_EDGES) { PyErr_SetString(self->state->full, "a flow has at most 16,384 mentions of sources"); return -1; }
@@ -1218,7 +1257,8 @@ static void Plan_dealloc(Plan *self) {
   Plan_clear(self);
   Py_CLEAR(self->names);
   cf_free(&self->plan);
-  PyMem_Free(self->forms); PyMem_Free(self->start);
+  for (uint16_t **of = self->of; of && *of; of++) PyMem_Free(*of);
+  PyMem_Free(self->of); PyMem_Free(self->forms); PyMem_Free(self->start);
   type->tp_free((PyObject *)self);
   Py_DECREF(state->module);
   Py_DECREF(type);

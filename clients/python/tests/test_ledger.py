@@ -16,7 +16,7 @@ if not os.environ.get("CF_INSTALLED"):
     sys.path.insert(0, str(Path(__file__).resolve().parent.parent))
 import cf  # noqa: E402
 from cf import Form  # noqa: E402
-from cf.events import Cancel, Claim, Complete, Finish  # noqa: E402
+from cf.events import Cancel, Claim, Complete, FailAs, Finish  # noqa: E402
 
 WORKER = 5
 FUNCTIONS = [lambda x: x + 1, lambda x, y: x * y]
@@ -88,6 +88,26 @@ class Steps(unittest.TestCase):
         self.assertEqual((told.finished, told.news), (cf.FinishReply.LATE, []))
         told = self.ledger.step(WORKER, told.task, cf.Thrown(4))
         self.assertEqual(told.news[0].outcome.fault.code, 4)
+
+    def test_timed_out_and_with_a_bad_answer(self):
+        for tag, (failure, fault) in enumerate([(cf.Failure.TIMED_OUT, cf.TimedOut), (cf.Failure.BAD_ANSWER, cf.BadAnswer)]):
+            ledger, event = cf.Ledger(self.plan), FailAs(WORKER, self.source, failure)
+            word = 8 << 56 | WORKER << 48 | self.source << 36 | tag << 32
+            self.assertEqual((cf.word_of(event), cf.event_of(word)), (word, event))
+            told = ledger.do(event)
+            self.assertEqual((told.reply, len(told.news)), (True, ledger.stages()))
+            self.assertEqual([(type(it.outcome.fault), it.outcome.fault.wrapped) for it in told.news], [(fault, it.number > 0) for it in told.news])
+            self.assertEqual((ledger.do(event), self.stages(cf.Ledger.of_words(self.plan, [word]))), (cf.Applied(False, []), self.stages(ledger)))
+        for wrong in (0, 3, 6):
+            with self.assertRaises(cf.Refused) as refused:
+                cf.word_of(FailAs(WORKER, 0, wrong))
+            self.assertEqual(refused.exception.code, cf.Code.NO_SUCH_NUMBER)
+        for word in (8 << 56 | 2 << 32, 8 << 56 | 1):
+            with self.assertRaises(cf.Refused) as refused:
+                cf.event_of(word)
+            self.assertEqual(refused.exception.code, cf.Code.NO_WORD)
+        with self.assertRaises(OverflowError):
+            cf.word_of(FailAs(WORKER, 0, -1))
 
     def test_refused_steps_change_nothing(self):
         self.ledger.do(Complete(0, self.source, 1))

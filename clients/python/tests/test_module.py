@@ -14,6 +14,7 @@ import copy
 import faulthandler
 import functools
 import gc
+import json
 import logging
 import os
 import pickle
@@ -31,7 +32,7 @@ if not os.environ.get("CF_INSTALLED"):
     sys.path.insert(0, str(HERE.parent))
 import cf  # noqa: E402
 from cf.service import Flow, Request, RequestFull, Service, Stage, _core  # noqa: E402
-from cf.service.words import CANCEL, COMPLETE, FAIL, THIS_THREAD  # noqa: E402
+from cf.service.words import CANCEL, CLIENT, COMPLETE, FAIL, FAIL_AS, THIS_THREAD  # noqa: E402
 
 IS_MODULE = _core.IS_MODULE
 faulthandler.enable()
@@ -287,7 +288,7 @@ class Misuse(Case):
                          lambda: _core.be(bad) if bad != 7 else 1 / 0, lambda: r._change(COMPLETE, bad if bad not in (-1, 7) else 99, stage, 1),
                          lambda: r._attach(bad if bad != 7 else 19, stage, None, str, None, None, None), lambda: r._name_of(bad), lambda: r._rename(bad, "x"),
                          kinds=(TypeError, ValueError, IndexError, RuntimeError, OverflowError, ZeroDivisionError))
-        for kind in (4, 5, 6):
+        for kind in (4, 5, 6, 9):
             self.refused(lambda: r._change(kind, 0, stage, None))
         self.fits(r)
         self.assertEqual((len(r._facts()[4]), stage.complete(1), stage.then(str).result(9)), (1, True, "1"))
@@ -890,6 +891,28 @@ class Relays(Case):
         self.assertEqual(str(self.request.supply(str).compose(lambda _: Mute()).exception(30)), "refused")
         with self.assertRaises(OSError):
             self.request.adopt(Mute())
+
+    def test_a_relay_ends_as_what_it_stands_for(self):
+        """As timed out, or with a bad answer. Where somebody failed it with an exception of such a class, the relay fails with that."""
+        for error, says, cause in ((TimeoutError("x"), "relay times out 0 relay of p of a\n", "timeout"),
+                                   (cf.BadAnswer("x"), "relay fails 0 relay of p of a with a bad answer\n", "badanswer")):
+            stage, b = self.service.request("a").promise("p"), self.service.request("b")
+            relays = [b.adopt(stage)]
+            self.assertTrue(stage.request._change(FAIL_AS, CLIENT, stage, error))
+            relays.append(b.adopt(stage))
+            self.assertTrue(all(relay.exception(0) is error for relay in relays))
+            history = b.history()
+            self.assertIn(says, str(history))
+            self.assertEqual([step for step in json.loads(history.script())["steps"] if step[0] != "attach"],
+                             [["failAs", 0, cause], ["failAs", 1, cause]])
+            self.fits(b)
+            future, stage = concurrent.futures.Future(), self.service.request("a").promise("p")
+            future.set_exception(error)
+            stage.fail(error)
+            for each in (future, stage):
+                relay = self.service.request().adopt(each)
+                self.assertIs(relay.exception(0), error)
+                self.assertIn(f"with {error!r}", str(relay.request.history()))
 
     def test_adopting_while_it_is_done(self):
         """Threads adopt a future as it is done: none of the relays is lost, and none is told twice."""

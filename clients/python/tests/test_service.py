@@ -37,6 +37,7 @@ if not os.environ.get("CF_INSTALLED"):
 import cf  # noqa: E402
 from cf.service import Flow, LoopService, Request, RequestFull, Service, Stage, describe_nothing, describe_types, flow as flows  # noqa: E402
 from cf.service._core import IS_MODULE  # noqa: E402
+from cf.service.words import CLIENT, CLOCK, FAIL_AS  # noqa: E402
 
 REQUESTS = int(os.environ.get("CF_REQUESTS", "20000"))
 
@@ -239,6 +240,74 @@ class Settling(Case):
             r.promise().result(0.01)
         with self.assertRaises(concurrent.futures.TimeoutError):
             r.promise().exception(timeout=0)
+
+    def test_a_timeout_is_told_as_one(self):
+        """By the history and by the script, which is of version 3 once one is in it."""
+        r = self.service.request("r")
+        late = r.promise("late")
+        behind = late.then(inc)
+        late.or_timeout(0.01)
+        self.assertIsInstance(behind.exception(20), TimeoutError)
+        self.assertFalse(r._change(FAIL_AS, CLOCK, late, TimeoutError()))
+        history = r.history()
+        for part in ("clock times out 0 late\n", "0 late ends: timeout\n", "1 inc ends: timeout, passed on\n", "clock times out 0 late, too late"):
+            self.assertIn(part, str(history))
+        script, before = json.loads(history.script()), json.loads(history.script(2))
+        self.assertEqual((script["cf"], script["steps"]), (3, before["steps"] + [["failAs", 0, "timeout"]] * 2))
+        self.assertEqual((before["cf"], json.loads(history.account())["plan"]["cf"]), (2, 2))
+        self.assertEqual(cf.run_script(history.script()), history.report())
+
+    def test_a_bad_answer_is_told_as_one(self):
+        r, bad = self.service.request("r"), cf.BadAnswer("x")
+        stage = r.promise("p")
+        self.assertTrue(r._change(FAIL_AS, CLIENT, stage, bad))
+        self.assertIs(stage.then(inc).exception(20), bad)
+        history = r.history()
+        for part in ("caller fails 0 p with a bad answer\n", "0 p ends: a bad answer\n"):
+            self.assertIn(part, str(history))
+        self.assertIn('["failAs", 0, "badanswer"]', history.script())
+        self.assertEqual(cf.run_script(history.script()), history.report())
+
+    def test_the_exception_of_a_timeout(self):
+        """All that stand behind a stage which timed out have its exception, whenever they are told."""
+        r, told = self.request, []
+        late, slow = r.promise("late"), r.promise("slow")
+        made = [late.then(inc), late.either(slow, inc), r.first_of(slow, late), late.when_done(lambda *_: None), late.combine(slow, max),
+                slow.combine(late, max), r.all_of(slow, late), r.gather(slow, late), r.supply(str).compose(lambda _: late),
+                self.service.request("other").adopt(late), self.service.request("other").supply(str).compose(lambda _: late)]
+        calls = [late.recover(told.append), late.handle(lambda _, error: told.append(error)),
+                 late.recover_compose(lambda error: [told.append(error), slow][1])]
+        error = late.or_timeout(0.01).exception(20)
+        self.assertTrue(slow.complete(1))
+        made += [late.then(inc), late.then(inc).then(inc), r.all_of(slow, late), r.supply(str).compose(lambda _: late),
+                 late.when_done(lambda *_: None)]
+        calls += [late.then(inc).recover(told.append)]
+        self.assertEqual([stage.exception(20) for stage in made], [error] * len(made))
+        concurrent.futures.wait(calls, 20)
+        self.assertEqual(told, [error] * 4)
+
+    def test_the_exception_of_a_timeout_in_a_flow(self):
+        """Stages of any number of sources have that of the first which ended so."""
+        flow = Flow()
+        promises = [flow.promise() for _ in range(5)]
+        after, told = flow.all_of(*promises), flow.first_of(*promises[3:]).recover(lambda error: error)
+        request = self.service.start(flow)
+        errors = [request[step].or_timeout(0.01).exception(20) for step in promises[3:]]
+        for step in promises[:3]:
+            self.assertTrue(request[step].complete(1))
+        self.assertIs(request[after].exception(20), errors[0])
+        self.assertIs(request[told].result(20), errors[0])
+
+    def test_two_timeouts_and_a_stage_that_nobody_runs(self):
+        """What fails as nobody runs it, behind the second that times out, lets a stage have the exception of the first."""
+        r, service = self.request, self.service
+        first, second = r.promise(), r.promise()
+        both = r.all_of(first, second.recover(str))
+        service.shutdown()
+        errors = TimeoutError("first"), TimeoutError("second")
+        for stage, error in zip((first, second), errors):
+            self.assertTrue(r._change(FAIL_AS, CLOCK, stage, error))
+        self.assertIs(both.exception(20), errors[0])
 
     def test_limits_of_any_size(self):
         """An endless limit never fires, one that is over fires at once, one that is none is refused; and the clock goes on."""

@@ -29,9 +29,9 @@ sys.path.insert(0, str(HERE))
 if not os.environ.get("CF_INSTALLED"):
     sys.path.insert(0, str(HERE.parent))
 import shared_functions as f  # noqa: E402
-from cf import requests  # noqa: E402
+from cf import BadAnswer, requests, run_script  # noqa: E402
 from cf.service import Flow, RequestFull, Service, describe_nothing, describe_types  # noqa: E402
-from cf.service.words import VALUE  # noqa: E402
+from cf.service.words import BAD_ANSWER, FAIL_AS, TIMED_OUT, VALUE  # noqa: E402
 from cf.shared import (Abandoned, Broken, Desk, DurableService, Functions, Grouped, Json, Memory, Put, RemoteError, StoreError, Timer,  # noqa: E402
                        Unknown, connect, new_session)
 from cf.shared import Watcher  # noqa: E402
@@ -1012,6 +1012,77 @@ class Services(Case):
             stage = service.submit(f.load, 4, extra=1)
             self.assertEqual(stage.result(20), {"number": 4, "extra": 1})
             self.until(lambda: stage.request.name not in service.store.ends())
+
+    def test_timeouts(self):
+        """A stage times out by a word of its own, and all that stand behind it have its exception, whenever they are told."""
+        for service, name in self.each():
+            r = service.request(name)
+            late, slow = r.promise("late"), r.promise("slow")
+            fails = [late.then(f.inc), late.when_done(f.nothing), r.all_of(slow, late), slow.combine(late, f.add)]
+            texts = [late.recover(f.text)]
+            late.or_timeout(0.05)
+            self.assertEqual(str(late.exception(20)), "late took longer than 0.05 s")
+            slow.complete(1)
+            fails += [late.then(f.inc), r.all_of(slow, late), late.when_done(f.nothing)]
+            texts += [late.recover(f.text), fails[0].recover(f.text)]
+            for stage in fails:
+                self.assertEqual((type(stage.exception(20)), str(stage.exception())), (TimeoutError, "late took longer than 0.05 s"))
+            self.assertEqual([stage.result(20) for stage in texts], ["sorry, late took longer than 0.05 s"] * 3)
+            history = r.history()
+            for part in (" times out 0 late\n", "0 late ends: timeout\n", " ends: timeout, passed on\n"):
+                self.assertIn(part, str(history))
+            self.assertIn('["failAs", 0, "timeout"]', history.script())
+            self.assertEqual(run_script(history.script()), history.report())
+            with Service(1) as plain:
+                relay = plain.request().adopt(late)
+                self.assertIs(relay.exception(0), late.exception())
+                self.assertIn("relay times out 0 relay of a Stage\n", str(relay.request.history()))
+
+    def test_promises_of_what_ends_without_a_code(self):
+        """A stage that composes ends as the one does that its function gives: as timed out, with that one's exception, or with a bad answer."""
+        for service, name in self.each():
+            for failure, given, kind, text in ((TIMED_OUT, Json().write_error(TimeoutError("x")), TimeoutError, "x"),
+                                               (TIMED_OUT, None, TimeoutError, ""), (BAD_ANSWER, None, BadAnswer, "")):
+                r = service.request(f"{name} {failure} {given}")
+                number = r.promise("number")
+                composed = number.compose(f.waiting)
+                number.complete(1)
+                self.until(lambda: any(it["name"] == "late" for it in map(r._desk.said, range(len(r._desk.forms)))))
+                self.assertTrue(r._settle(FAIL_AS, r["late"].number, given, failure=failure))
+                for stage in (r["late"], composed, composed.then(f.inc)):
+                    self.assertEqual((type(stage.exception(20)), str(stage.exception())), (kind, text))
+                self.assertEqual([word >> 32 & 0xF for word in r._desk.words if word >> 56 == FAIL_AS], [failure - TIMED_OUT] * 2)
+
+    def test_a_promise_that_timed_out_before_it_was_linked_to(self):
+        for service, name in self.each():
+            r, begun = service.request(name), threading.Event()
+            number = r.promise("number")
+
+            def composing(request, number):
+                begun.set()
+                time.sleep(0.3)
+                return request.promise("late")
+            service.function(f"composing {name}")(composing)
+            composed = number.compose(composing)
+            number.complete(1)
+            self.assertTrue(begun.wait(20))
+            error = r[composed.number - 1].or_timeout(0.01).exception(20)
+            self.assertEqual(str(composed.exception(20)), str(error))
+
+    def test_rows_and_timers_of_before(self):
+        """A time-out was a failing with an exception, and may stand so in a row. A timer that was set then lets the stage time out."""
+        store = Memory()
+        desk = Desk(store, store.open("r", EMPTY), new_session())
+        given, promise = Json().write_error(TimeoutError("p took longer than 1 s")), b'{"name":"p"}'
+        desk.act(lambda desk: [(7 << 56 | desk.who << 48, promise)] * 2 + [(2 << 56 | desk.who << 48 | desk.place + 2, given)])
+        store.set_timer(Timer("r", 1, 0.0, b"E" + given))
+        service = DurableService(store, 1, functions=f.functions)
+        self.services.append(service)
+        r = service.open("r")
+        for stage in (r[0], r[1], r[0].then(f.inc), r[1].then(f.inc)):
+            self.assertEqual((type(stage.exception(20)), str(stage.exception())), (TimeoutError, "p took longer than 1 s"))
+        self.assertIn("fails 0 p with TimeoutError('p took longer than 1 s')\n", str(r.history()))
+        self.assertIn(" times out 1 p\n", str(r.history()))
 
     def test_compose(self):
         """What a function gives is a stage of the request, which may be settled later, by anybody."""

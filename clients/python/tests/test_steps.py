@@ -55,6 +55,18 @@ class Graphs(unittest.TestCase):
         fault = graph.outcome(last).fault
         self.assertEqual((type(fault), fault.code, fault.wrapped), (cf.Thrown, 9, True))
 
+    def test_timed_out_and_with_a_bad_answer(self):
+        for failure, fault in [(cf.Failure.TIMED_OUT, cf.TimedOut), (cf.Failure.BAD_ANSWER, cf.BadAnswer)]:
+            plan, last = chain(1)
+            graph = cf.Graph(plan)
+            self.assertEqual((graph.fail_as(0, failure), graph.fail_as(0, failure)), (True, False))
+            faults = [graph.outcome(stage).fault for stage in (0, last)]
+            self.assertEqual([(type(it), it.wrapped) for it in faults], [(fault, False), (fault, True)])
+            for stage, wrong, code in [(0, 3, Code.NO_SUCH_NUMBER), (9, failure, Code.NO_STAGE)]:
+                with self.assertRaises(cf.Refused) as refused:
+                    graph.fail_as(stage, wrong)
+                self.assertEqual(refused.exception.code, code)
+
     def test_a_task_that_isnt_held_changes_nothing(self):
         graph = cf.Graph(chain()[0])
         graph.complete(0, 1)
@@ -133,6 +145,22 @@ class Desks(unittest.TestCase):
             graph = desk.close().graph()
         self.assertEqual(sorted(stage for mine in called for stage in mine), list(range(1, MANY + 1)))
         self.assertTrue(all(graph.outcome(stage) == cf.Outcome(2, None) for stage in range(1, MANY + 1)))
+
+    def test_timed_out_and_with_a_bad_answer(self):
+        plan, _ = chain(1)
+        plan.stage(Form.SOURCE)
+        with plan.open_desk(2, 8, 8) as desk:
+            one, other = desk.callers
+            self.assertEqual((one.fail_as(0, cf.Failure.TIMED_OUT), other.fail_as(2, cf.Failure.BAD_ANSWER), other.fail_as(0, cf.Failure.BAD_ANSWER)),
+                             (True, True, False))
+            with self.assertRaises(cf.Refused) as refused:
+                one.fail_as(0, 2)
+            self.assertEqual(refused.exception.code, Code.NO_SUCH_NUMBER)
+            closed = desk.close()
+            event = cf.events.FailAs(1, 2, cf.Failure.BAD_ANSWER)
+            self.assertEqual((closed.records(1)[0].event, closed.records(1)[0].reply), (event, True))
+            graph = closed.graph()
+        self.assertEqual([type(graph.outcome(stage).fault) for stage in range(3)], [cf.TimedOut, cf.TimedOut, cf.BadAnswer])
 
     def test_completes_a_row_up_to_what_is_refused(self):
         plan = cf.Plan()

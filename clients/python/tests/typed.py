@@ -78,6 +78,10 @@ if TYPE_CHECKING:
         ledger.apply_all([1, 2])
         ledger.restart()
         ledger.step(3, answer="x")  # type: ignore[arg-type]
+        event: cf.Event = cf.events.FailAs(3, 0, cf.Failure.TIMED_OUT)
+        late: bool = cf.Graph(plan).fail_as(0, cf.Failure.BAD_ANSWER)
+        cf.Graph(plan).fail_as(0, "timeout")  # type: ignore[arg-type]
+        print(event, late)
         print(args, news)
 
 

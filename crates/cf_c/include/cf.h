@@ -11,7 +11,8 @@
  * What C owes, and nothing can check (docs/C.md has more):
  *   - a handle isn't copied and then used twice; it may be moved, by memcpy too, if the old one isn't used again;
  *   - one call at a time has a handle, and the handles of one call are different ones; no handle is another thread's meanwhile;
- *   - the callers of cf_desk_meet, and those given to one closing, are of one desk; where they are seen not to be, CF_OTHER_DESK is told;
+ *   - the callers of cf_desk_meet, the caller and the notice of cf_desk_heed, and the callers given to one closing, are of one desk; where they
+ *     are seen not to be, CF_OTHER_DESK is told;
  *   - each pointer is aligned, and to as many elements as said, in memory that no other call uses meanwhile.
  * A null pointer is answered CF_NULL, unless a count or a room follows it that is 0; cf_free of one does nothing.
  *
@@ -128,7 +129,7 @@ enum { CF_ABSENT = 0, CF_GOT_VALUE = 1, CF_COMPLETION = 2, CF_CANCELLATION = 3 }
 typedef struct { uint32_t kind; cf_outcome outcome; } cf_now;
 
 /* What a changing call is answered. What a call doesn't have is 0.
- *   complete, fail: `answer` is 1 where the stage was settled by it, else 0; cancel: 1 where the stage is cancelled then, else 0
+ *   complete, fail, fail as: `answer` is 1 where the stage was settled by it, else 0; cancel: 1 where the stage is cancelled then, else 0
  *   claim: a CF_GRANTED .., and where granted the `args` of the function; CF_TAKEN also where it waits for the stage it links to
  *   finish: CF_WON where the answer was taken, and with a link the stage waits for that stage then; CF_LATE where the stage was settled
  *     after its claim; CF_NOT_YOURS where this caller hasn't claimed it, or has finished it already
@@ -177,9 +178,11 @@ uint32_t cf_build(cf_handle *builder);
  * CF_ROOM, CF_NO_MEMORY, in this order. */
 uint32_t cf_graph_new(cf_handle *plan, uint16_t room, cf_handle *graph);
 
-/* Settle a stage of any form, unless it is settled. CF_NO_STAGE. */
+/* Settle a stage of any form, unless it is settled. cf_fail_as has the kind of an outcome: CF_TIMED_OUT, or, of a stage that stands in
+ * for another, CF_BAD_ANSWER; CF_NO_SUCH_NUMBER of any other. CF_NO_STAGE. */
 uint32_t cf_complete(cf_handle *graph, uint16_t stage, cf_value value, cf_reply *reply);
 uint32_t cf_fail(cf_handle *graph, uint16_t stage, uint32_t code, cf_reply *reply);
+uint32_t cf_fail_as(cf_handle *graph, uint16_t stage, uint32_t kind, cf_reply *reply);
 uint32_t cf_cancel(cf_handle *graph, uint16_t stage, cf_reply *reply);
 
 /* Takes a ready stage for a caller of any number, who then runs its function and finishes the stage. A stage is ready once its sources
@@ -270,11 +273,12 @@ static inline uint32_t cf_desk_open_growing(cf_handle *plan, cf_handle *callers,
 
 /* The calls of a graph, done by the caller behind the handle and told to all: each has a place in the desk's one history, and its reply
  * is the graph's after the events before that place. A stage that another caller has attached is there for this one once it has looked,
- * and a call that names one that isn't there yet looks first. Of cf_desk_attach CF_NO_SUCH_NUMBER of a form and CF_WRONG_SOURCE_COUNT
- * above two sources; then CF_NO_STAGE, CF_BAD_ATTACH where it doesn't fit its form or its function isn't one of the desk's, CF_PASS_FULL,
- * CF_LOG_FULL, the first that holds. */
+ * and a call that names one that isn't there yet looks first. CF_NO_SUCH_NUMBER of the kind of cf_desk_fail_as and of the form of
+ * cf_desk_attach; of that, CF_WRONG_SOURCE_COUNT above two sources; then CF_NO_STAGE, CF_BAD_ATTACH where it doesn't fit its form or its
+ * function isn't one of the desk's, CF_PASS_FULL, CF_LOG_FULL, the first that holds. */
 uint32_t cf_desk_complete(cf_handle *caller, uint16_t stage, cf_value value, cf_reply *reply);
 uint32_t cf_desk_fail(cf_handle *caller, uint16_t stage, uint32_t code, cf_reply *reply);
+uint32_t cf_desk_fail_as(cf_handle *caller, uint16_t stage, uint32_t kind, cf_reply *reply);
 uint32_t cf_desk_cancel(cf_handle *caller, uint16_t stage, cf_reply *reply);
 uint32_t cf_desk_claim(cf_handle *caller, uint16_t stage, cf_reply *reply);
 uint32_t cf_desk_finish_with(cf_handle *caller, uint16_t stage, const cf_answer *answer, cf_reply *reply);
@@ -312,6 +316,13 @@ uint32_t cf_desk_ready(cf_handle *caller, uint16_t *stage);
  * both as they were. */
 uint32_t cf_desk_meet(cf_handle *caller, cf_handle *other);
 
+/* Puts what the caller has seen behind an empty handle: a notice, which may go to another thread by any way. CF_FULL, CF_NO_MEMORY, in this
+ * order. Then another caller of the desk heeds it: it sees all of that, so that each later call of it stands behind that in the history. The
+ * notice is used up, and its handle empty; CF_OTHER_DESK leaves both as they were. A notice holds its desk, so heed or free it before the
+ * desk is closed. */
+uint32_t cf_desk_notice(cf_handle *caller, cf_handle *notice);
+uint32_t cf_desk_heed(cf_handle *caller, cf_handle *notice);
+
 /* Without a look: how many events the caller has seen; how many records it still takes; the number of a stage's function, or CF_NOTHING,
  * or CF_NO_STAGE where it hasn't seen that stage; the caller's number. */
 uint32_t cf_desk_seen(cf_handle *caller, uint16_t *events);
@@ -327,8 +338,8 @@ uint32_t cf_close_begin(cf_handle *caller);
 /* Gives one more caller of the same desk back, whose handle is empty then. CF_OTHER_DESK leaves both as they were. */
 uint32_t cf_close_add(cf_handle *closing, cf_handle *caller);
 
-/* Ends it: the closing becomes a closed desk. CF_NOT_ALL where callers are missing; CF_STILL_SHARED never comes where no other call is at
- * work on the desk. */
+/* Ends it: the closing becomes a closed desk. CF_NOT_ALL where callers are missing, for good where one was freed; CF_STILL_SHARED never
+ * comes where no other call is at work on the desk. */
 uint32_t cf_close_end(cf_handle *closing);
 
 /* What a caller was told. CF_DID: a changing call as the word of its event (cf_event_of), and its reply; `place` counts the history's
@@ -354,11 +365,12 @@ uint32_t cf_closed_graph(cf_handle *closed);
 
 /* ---- Words of events ---- */
 
-/* A changing call as an event: `who` does `call`. CF_CALL_ATTACH has so many `sources`, `first` and `second`; the other fields are called
- * as the calls' parameters. What a call doesn't have is left aside, and 0 where it is told; that a stage has no function is told as
+/* A changing call as an event: `who` does `call`. CF_CALL_ATTACH has so many `sources`, `first` and `second`; CF_CALL_FAIL_AS has its kind in
+ * `code`; the other fields are called as the calls' parameters. What a call doesn't have is left aside, and 0 where it is told; that a stage has no function is told as
  * CF_NO_FUNCTION. */
 enum {
-  CF_CALL_COMPLETE = 0, CF_CALL_FAIL = 1, CF_CALL_CANCEL = 2, CF_CALL_CLAIM = 3, CF_CALL_FINISH = 4, CF_CALL_TICK = 5, CF_CALL_ATTACH = 6
+  CF_CALL_COMPLETE = 0, CF_CALL_FAIL = 1, CF_CALL_CANCEL = 2, CF_CALL_CLAIM = 3, CF_CALL_FINISH = 4, CF_CALL_TICK = 5, CF_CALL_ATTACH = 6,
+  CF_CALL_FAIL_AS = 7
 };
 typedef struct {
   uint32_t call; uint8_t who; uint16_t stage; cf_value value; uint32_t code; cf_answer answer; uint32_t now;
@@ -366,8 +378,8 @@ typedef struct {
 } cf_event;
 
 /* The word of an event, of which no two events have the same and which is never 0, and the event of a word. An event has a word where
- * its caller is at most 63, its stages and its function at most 4,095, and what it attaches fits its form. CF_NO_SUCH_NUMBER of a call
- * or form, CF_WRONG_SOURCE_COUNT where sources is above 2, CF_NO_WORD. */
+ * its caller is at most 63, its stages and its function at most 4,095, and what it attaches fits its form. CF_NO_SUCH_NUMBER of a call,
+ * a form or the kind of a CF_CALL_FAIL_AS, CF_WRONG_SOURCE_COUNT where sources is above 2, CF_NO_WORD. */
 uint32_t cf_word_of_event(const cf_event *event, uint64_t *word);
 static inline uint32_t cf_word_of(cf_event event, uint64_t *word) {
   return cf_word_of_event(&event, word);
@@ -457,10 +469,10 @@ uint32_t cf_code_text(uint32_t code, uint8_t *text, size_t room, size_t *length)
 
 /* The version of this header. A library of a later one with the same first number has all that stands here, and as it stands here. */
 #define CF_VERSION_MAJOR 1
-#define CF_VERSION_MINOR 3
+#define CF_VERSION_MINOR 4
 #define CF_VERSION_PATCH 0
 
-/* The library's version ("1.3.0"); whether a program that was written for this version of the header runs with the library; the name of a
+/* The library's version ("1.4.0"); whether a program that was written for this version of the header runs with the library; the name of a
  * code as cf_code_text has it ("NoStage"), or null where a number is no code's; of a struct ("cf_reply") its size, and of a field of one
  * ("cf_reply.args") its offset, in bytes, or SIZE_MAX where there is none of this name or it is null. The texts are static and end in a
  * zero byte. None of these calls answers a cf_code. */

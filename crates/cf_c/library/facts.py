@@ -2,7 +2,7 @@
 """Writes what the library tells of itself, by cf.h.
 
     facts.py HEADER              in C: its version, the names of codes, the sizes of structs and the offsets of their fields
-    facts.py --version HEADER    the version, as 1.3.0
+    facts.py --version HEADER    the version, as 1.4.0
     facts.py --script HEADER     for the linker: what the shared library exports, each call with the version in which it came
 
 The header is the only table: a code is named by its constant, CF_NO_STAGE as NoStage, and the compiler says sizes and offsets.
@@ -20,6 +20,7 @@ LATER: Dict[str, str] = {
     **dict.fromkeys(["cf_restart_with", "cf_plan_of", "cf_ledger_step", "cf_ledger_apply_all", "cf_ledger_restart"], "1.1"),
     **dict.fromkeys(["cf_round", "cf_desk_next", "cf_desk_complete_many"], "1.2"),
     **dict.fromkeys(["cf_sweep_begin", "cf_sweep_next", "cf_sweep_end"], "1.3"),
+    **dict.fromkeys(["cf_fail_as", "cf_desk_fail_as", "cf_desk_notice", "cf_desk_heed"], "1.4"),
 }
 TEXT = """#include "cf.h"
 #include <string.h>

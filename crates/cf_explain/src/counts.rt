@@ -32,7 +32,7 @@ pub(crate) fn counts_before(json: &Json, k: usize) -> Counts {
             }
         }
     }
-    let grown = if version == 2 { attached.min(room) } else { 0 };
+    let grown = if version >= 2 { attached.min(room) } else { 0 };
     Counts {
         version,
         stages: u32::try_from(stages)

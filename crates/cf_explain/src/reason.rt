@@ -23,8 +23,8 @@ pub enum Reason {
         /// The nearest of them, if one is near.
         nearest: Option<&'static str>,
     },
-    /// Version 1 hasn't got it.
-    NotInVersionOne,
+    /// It came with this version, and the script is of one before.
+    NotBefore(i64),
     /// An object has so many members, and is to have exactly one of these.
     Members(usize, Words),
     /// A step isn't written like this.
@@ -57,7 +57,6 @@ impl Reason {
     fn text(&self) -> Option<&'static str> {
         match self {
             Reason::TooLong => Some("has more than 1048576 bytes"),
-            Reason::NotInVersionOne => Some("is read with \"cf\": 2 alone"),
             Reason::FunctionUnwanted => Some("may not be there: the form calls no function"),
             Reason::TooManySources => Some(
                 "names too many: an attached stage has at most 2 sources",
@@ -108,6 +107,7 @@ fn in_numbers<W: fmt::Write>(f: &mut fmt::Formatter<W>, why: &Reason) -> fmt::Re
         Reason::Sources { wanted, found } => {
             write!(f, "names {found} stages; the form takes {wanted}")
         }
+        Reason::NotBefore(version) => write!(f, "is read from \"cf\": {version} on"),
         Reason::NotLower(k) => not_lower(f, *k),
         Reason::TooMany(most, what) => write!(
             f,

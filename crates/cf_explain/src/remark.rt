@@ -20,7 +20,7 @@ pub enum Remark {
     NoTitle(Place),
     /// What is to be the list of names is none.
     NoList(Place),
-    /// `room` is read in version 2 alone.
+    /// `room` is read from version 2 on.
     RoomInVersionOne,
     /// A limit that times its stage out has no value.
     ValueOfTimeout(Place),
@@ -71,7 +71,7 @@ impl fmt::Display for Remark {
             }
             Remark::NoTitle(place) => write!(f, "{place}: has to be a text"),
             Remark::NoList(place) => write!(f, "{place}: has to be an array"),
-            Remark::RoomInVersionOne => f.write_str("room: is read with \"cf\": 2 alone"),
+            Remark::RoomInVersionOne => f.write_str("room: is read from \"cf\": 2 on"),
             Remark::ValueOfTimeout(place) => {
                 write!(f, "{place}: is read with the kind \"value\" alone")
             }

@@ -33,7 +33,7 @@ pub(crate) fn stage_wrong(
         return Ok(Some(found));
     }
     if version == 1 && form.and_then(Json::as_str) == Some(LATER) {
-        return Ok(wrong_at(place.member("form"), Reason::NotInVersionOne));
+        return Ok(wrong_at(place.member("form"), Reason::NotBefore(2)));
     }
     Ok(sources_wrong(place.member("of"), json.get("of"), source))
 }

@@ -28,85 +28,106 @@ pub(crate) enum Element {
     Caller,
     /// A finish's answer.
     Answer,
+    /// The cause that a failAs names.
+    Failure,
     /// A stage that is attached.
     NewStage,
 }
 
-/// A step: its word, what stands behind it, how many elements have to, and how it is written.
+/// A step: its word, the version that it came with, what stands behind it, how many elements have to, and how it is written.
 pub(crate) struct StepShape {
     pub(crate) word: &'static str,
+    since: i64,
     elements: &'static [Element],
     least: usize,
     written: &'static str,
 }
 
 /// All steps.
-pub(crate) const STEPS: [StepShape; 11] = [
+pub(crate) const STEPS: [StepShape; 12] = [
     StepShape {
         word: "complete",
+        since: 1,
         elements: &[Element::Stage, Element::Value],
         least: 2,
         written: "[\"complete\",stage,value]",
     },
     StepShape {
         word: "fail",
+        since: 1,
         elements: &[Element::Stage, Element::Number],
         least: 2,
         written: "[\"fail\",stage,code]",
     },
     StepShape {
         word: "cancel",
+        since: 1,
         elements: &[Element::Stage],
         least: 1,
         written: "[\"cancel\",stage]",
     },
     StepShape {
         word: "tick",
+        since: 1,
         elements: &[Element::Number],
         least: 1,
         written: "[\"tick\",moment]",
     },
     StepShape {
         word: "work",
+        since: 1,
         elements: &[],
         least: 0,
         written: "[\"work\"]",
     },
     StepShape {
         word: "now",
+        since: 1,
         elements: &[Element::Stage, Element::Value],
         least: 1,
         written: "[\"now\",stage] or [\"now\",stage,value]",
     },
     StepShape {
         word: "outcome",
+        since: 1,
         elements: &[Element::Stage],
         least: 1,
         written: "[\"outcome\",stage]",
     },
     StepShape {
         word: "claim",
+        since: 1,
         elements: &[Element::Caller, Element::Stage],
         least: 2,
         written: "[\"claim\",caller,stage]",
     },
     StepShape {
         word: "finish",
+        since: 1,
         elements: &[Element::Caller, Element::Stage, Element::Answer],
         least: 3,
         written: "[\"finish\",caller,stage,answer]",
     },
     StepShape {
         word: "nudge",
+        since: 1,
         elements: &[Element::Number],
         least: 1,
         written: "[\"nudge\",turns]",
     },
     StepShape {
         word: "attach",
+        since: 2,
         elements: &[Element::NewStage],
         least: 1,
         written: "[\"attach\",{\"form\":..}]",
+    },
+    StepShape {
+        word: "failAs",
+        since: 3,
+        elements: &[Element::Stage, Element::Failure],
+        least: 2,
+        written: "[\"failAs\",stage,cause]",
     },
 ];
 
@@ -134,10 +155,6 @@ pub(crate) fn step_wrong(
     }
     let counts = counts_before(json, k);
     match word.and_then(Json::as_str) {
-        Some("attach") if counts.version == 1 => Ok(wrong_at(
-            place.item(0),
-            Reason::NotInVersionOne,
-        )),
         Some(word) => written_wrong(alloc, place, word, step, counts),
         None => Ok(None),
     }
@@ -155,6 +172,9 @@ fn written_wrong(
 {
     for shape in &STEPS {
         if shape.word == word {
+            if counts.version < shape.since {
+                return Ok(wrong_at(place.item(0), Reason::NotBefore(shape.since)));
+            }
             return elements_wrong(alloc, place, shape, step, counts);
         }
     }
@@ -203,6 +223,7 @@ fn element_wrong(
         Element::Number => Ok(taken(place, json, Wanted::UpTo(u32::MAX))),
         Element::Caller => Ok(taken(place, json, Wanted::UpTo(63))),
         Element::Answer => lone_wrong(alloc, place, json, Words::Answers),
+        Element::Failure => word_wrong(alloc, place, Some(json), Words::Failures),
         Element::NewStage => attached_wrong(alloc, place, json, counts),
     }
 }

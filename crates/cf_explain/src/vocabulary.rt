@@ -19,6 +19,8 @@ pub enum Words {
     Steps,
     /// The answers that a finish hands in.
     Answers,
+    /// The causes that a failAs names.
+    Failures,
     /// The kinds of limits.
     Kinds,
     /// The members of a script.
@@ -49,6 +51,8 @@ const ANSWERS: [(&str, Wanted); 3] = [
 ];
 
 const PLAIN_FUNCTIONS: [&str; 2] = ["neg", "sum"];
+
+const FAILURES: [&str; 2] = ["timeout", "badanswer"];
 
 const KINDS: [&str; 2] = ["timeout", "value"];
 
@@ -85,6 +89,7 @@ impl Words {
             Words::Functions => name_at(&FUNCTIONS, i),
             Words::Steps => Some(STEPS.get(i)?.word),
             Words::Answers => name_at(&ANSWERS, i),
+            Words::Failures => FAILURES.get(i).copied(),
             Words::Kinds => KINDS.get(i).copied(),
             Words::ScriptMembers => SCRIPT_MEMBERS.get(i).copied(),
             Words::StageMembers => STAGE_MEMBERS.get(i).copied(),
@@ -147,6 +152,7 @@ impl Words {
             Words::PlainFunctions | Words::Functions => "function",
             Words::Steps => "step",
             Words::Answers => "answer",
+            Words::Failures => "failure",
             Words::Kinds => "kind of limit",
             Words::ScriptMembers | Words::StageMembers | Words::LimitMembers => "member",
         }

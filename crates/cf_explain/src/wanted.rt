@@ -37,7 +37,7 @@ impl Wanted {
         match self {
             Wanted::Object | Wanted::Lone(_) => json.is_object(),
             Wanted::Array => json.is_array(),
-            Wanted::Version => within(json, 1, 2),
+            Wanted::Version => within(json, 1, 3),
             Wanted::UpTo(most) => within(json, 0, i64::from(most)),
             Wanted::Int => within(json, -2_147_483_648, 2_147_483_647),
             Wanted::Value => json.is_null() || within(json, -2_147_483_648, 2_147_483_647),
@@ -71,7 +71,7 @@ impl Wanted {
         match self {
             Wanted::Object => Some("an object"),
             Wanted::Array => Some("an array"),
-            Wanted::Version => Some("1 or 2"),
+            Wanted::Version => Some("1, 2 or 3"),
             Wanted::Int => Some("a whole number, -2147483648 to 2147483647"),
             Wanted::Value => Some("null or a whole number, -2147483648 to 2147483647"),
             Wanted::Stage(0) => Some("a stage, and none is there"),

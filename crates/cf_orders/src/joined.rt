@@ -117,7 +117,7 @@ fn form_of<'a>(word: &str, rest: &'a [Json]) -> Option<Stands<'a>> {
         ("claim", [stage]) => Some(Stands::Claim(stage)),
         ("finish", [stage, answer]) => Some(Stands::Finish(stage, answer)),
         ("join", [stage, most]) => join_of(stage, most),
-        ("complete" | "fail" | "cancel" | "tick", _) => Some(Stands::Same),
+        ("complete" | "fail" | "failAs" | "cancel" | "tick", _) => Some(Stands::Same),
         ("now" | "outcome" | "attach", _) => Some(Stands::Same),
         _ => None,
     }

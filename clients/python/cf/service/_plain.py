@@ -19,14 +19,14 @@ from array import array
 from concurrent.futures import CancelledError, Future
 from concurrent.futures._base import CANCELLED_AND_NOTIFIED, FINISHED, PENDING as PENDING_STATE, RUNNING
 from time import monotonic_ns
-from typing import TYPE_CHECKING, Any, Callable, Dict, List, NamedTuple, Optional, Tuple, Type
+from typing import TYPE_CHECKING, Any, Callable, Dict, List, NamedTuple, Optional, Sequence, Tuple, Type
 
 from .._library import CALLS, CNews, CReply, CStage, library, path
 from ..plan import Plan
 from ..values import Form, check
-from .words import (ANSWER, ARGS, ATTACH, CANCEL, CANCELLED, CLAIM, COMPLETE, COMPOSE_FORMS, FAIL, FINISH, FIRST, FIRST_SOME, GIVES, GOT, IS_CLAIMED, IS_READY,
-                    IS_SETTLED, LINKS, MOST_STAGES, ONE, OUTCOME, PENDING, REPLY_NUMBERS, SECOND, SECOND_SOME, THIS_THREAD, THROWN, THROWS,
-                    VALUE, RequestFull)
+from .words import (ANSWER, ARGS, ATTACH, CANCEL, CANCELLED, CLAIM, COMPLETE, COMPOSE_FORMS, FAIL, FAIL_AS, FAILURES, FINISH, FIRST,
+                    FIRST_SOME, GIVES, GOT, IS_CLAIMED, IS_READY, IS_SETTLED, LINKS, MOST_STAGES, ONE, OUTCOME, PENDING, REPLY_NUMBERS,
+                    SECOND, SECOND_SOME, THIS_THREAD, THROWN, THROWS, TIMED_OUT, VALUE, RequestFull)
 
 if TYPE_CHECKING:
     from .request import Works
@@ -142,13 +142,15 @@ _NOT_YET = Told(PENDING, 0, 0, 0, 0)
 
 
 class _Row:
-    """What stands beside a stage. Its future is held until it is settled, and may be missing of a planned one."""
+    """What stands beside a stage. Its future is held until it is settled, and may be missing of a planned one. `error` is the number of
+    the exception of a stage that timed out or has a bad answer, which its outcome doesn't tell; None where nobody gave one."""
 
-    __slots__ = ("form", "name", "stage", "told", "place", "running")
+    __slots__ = ("form", "of", "name", "stage", "told", "error", "place", "running")
 
-    def __init__(self, form: int, name: str, stage: "Optional[Stage[Any]]" = None) -> None:
-        self.form, self.name, self.stage = form, name, stage
+    def __init__(self, form: int, of: Sequence[int], name: str, stage: "Optional[Stage[Any]]" = None) -> None:
+        self.form, self.of, self.name, self.stage = form, of, name, stage
         self.told, self.place, self.running = _NOT_YET, 0, False
+        self.error: Optional[int] = None
 
 
 class _News(NamedTuple):
@@ -195,6 +197,11 @@ class StageCore(_Future):
         return self.request._rows[self.number].form
 
     @property
+    def _ended(self) -> int:
+        """The kind of its outcome."""
+        return self.request._rows[self.number].told.kind
+
+    @property
     def _condition(self) -> threading.Condition:
         forks, condition = self._guard
         return condition if forks == _forks.count else self._own_condition()
@@ -219,7 +226,8 @@ class StageCore(_Future):
             elif told.kind == CANCELLED and not told.wrapped:
                 self._state, note = CANCELLED_AND_NOTIFIED, "add_cancelled"
             else:
-                self._exception, self._state, note = self.request._error(told), FINISHED, "add_exception"
+                error = self.request._error(told, self.request._rows[self.number].error)
+                self._exception, self._state, note = error, FINISHED, "add_exception"
             for waiter in self._waiters:
                 getattr(waiter, note)(self)
             self._condition.notify_all()
@@ -307,7 +315,7 @@ class RequestCore:
     def __init__(self, works: "Works", title: str, room: int, keeps: object = None, plan: Optional[PlanCore] = None) -> None:
         self._works, self._title, self._keeps, self._plan = works, title, keeps, plan
         self._lock: "threading.Lock | _Parents" = threading.Lock()
-        self._rows: List[_Row] = [] if plan is None else [_Row(form, name) for form, _, _, name in plan.rows]
+        self._rows: List[_Row] = [] if plan is None else [_Row(form, of, name) for form, of, _, name in plan.rows]
         for row, (kind, told) in zip(self._rows, () if plan is None else plan.start):
             row.told = told if kind == IS_SETTLED else _NOT_YET
         room = min(room, MOST_STAGES - len(self._rows))
@@ -324,8 +332,9 @@ class RequestCore:
 
     # One event, under the lock.
 
-    def _apply(self, word: int, news: _News) -> "c.Array[c.c_uint32]":
-        """Does the event of a word, shows what came of it, and adds that to the news."""
+    def _apply(self, word: int, news: _News, error: Optional[int] = None) -> "c.Array[c.c_uint32]":
+        """Does the event of a word, shows what came of it, and adds that to the news. `error` is the number of the exception that stages
+        time out with by it, or have a bad answer with."""
         ledger, rows = self._ledger, self._rows
         ledger.apply(word)
         self._times.append(monotonic_ns())
@@ -334,6 +343,8 @@ class RequestCore:
             row, kind = rows[changed.stage], changed.now.kind
             if kind == IS_SETTLED:
                 row.told, row.place = _told(changed.now), len(self._times)
+                if row.told.kind in FAILURES:
+                    row.error = self._error_of_sources(row, row.told.kind) if error is None else error
                 stage, row.stage = row.stage, None
                 if stage is not None:
                     stage._publish(row.told)
@@ -343,6 +354,10 @@ class RequestCore:
             elif kind == IS_CLAIMED:
                 self._show_running(row)
         return ledger.reply
+
+    def _error_of_sources(self, row: _Row, kind: int) -> Optional[int]:
+        """What the row of the first source says of an exception whose outcome is of this kind."""
+        return next((self._rows[source].error for source in row.of if self._rows[source].told.kind == kind), None)
 
     @staticmethod
     def _show_running(row: _Row) -> None:
@@ -383,10 +398,10 @@ class RequestCore:
         with self._lock:
             self._make_room(1 + (form in COMPOSE_FORMS))
             if form in COMPOSE_FORMS:
-                self._rows.append(_Row(Form.SOURCE, "relay"))
+                self._rows.append(_Row(Form.SOURCE, (), "relay"))
                 self._apply(ATTACH << 56 | _here.who << 48, news)
             stage.number = number = len(self._rows)
-            self._rows.append(_Row(form, known, stage))
+            self._rows.append(_Row(form, of, known, stage))
             sources = (*of, 0, 0)
             self._apply(ATTACH << 56 | _here.who << 48 | sources[0] << 36 | len(of) << 32 | form << 24 | sources[1] << 12 |
                         (0 if call is None else number), news)
@@ -395,14 +410,16 @@ class RequestCore:
 
     def _change(self, kind: int, who: int, stage: "int | Stage[Any]", given: Any) -> bool:
         """Completes, fails or cancels a stage, and says whether that did it. `given` is the value, the exception, or True where a stage
-        whose function runs isn't to be cancelled."""
+        whose function runs isn't to be cancelled. By FAIL_AS it has a bad answer where the exception is a `BadAnswer`, and else times out."""
         number, news = stage if isinstance(stage, int) else stage.number, _News([], [])
         with self._lock:
             row = self._rows[number]
             if kind == CANCEL and given is True and row.running and row.told.kind == PENDING:
                 return False
-            low = self._number(given) if kind == COMPLETE else self._code(given) if kind == FAIL else 0
-            did = self._apply(kind << 56 | (_here.who if who == THIS_THREAD else who) << 48 | number << 36 | low, news)[ANSWER]
+            error = self._code(given) if kind == FAIL_AS else None
+            low = (self._number(given) if kind == COMPLETE else self._code(given) if kind == FAIL else
+                   int(kind == FAIL_AS and isinstance(given, _classes["bad_answer"])) << 32)
+            did = self._apply(kind << 56 | (_here.who if who == THIS_THREAD else who) << 48 | number << 36 | low, news, error)[ANSWER]
         self._tell(news)
         return bool(did)
 
@@ -458,7 +475,8 @@ class RequestCore:
         news = _News([], [])
         with self._lock:
             low = self._number(given) if kind == GIVES else THROWS << 32 | self._code(given) if kind == THROWS else LINKS << 32 | given.number
-            self._apply(FINISH << 56 | who << 48 | stage.number << 36 | low, news)
+            error = self._rows[given.number].error if kind == LINKS else None  # what it links to may have ended
+            self._apply(FINISH << 56 | who << 48 | stage.number << 36 | low, news, error)
         following = self._stage(news.ready.pop(0)) if news.ready else None
         try:
             self._tell(news)
@@ -549,7 +567,7 @@ class RequestCore:
         kind = reply[ARGS]
         if kind == GOT:
             got = Told(*reply[OUTCOME])
-            error = None if got.kind == VALUE else self._error(got)
+            error = None if got.kind == VALUE else self._error(got, self._error_of_sources(self._rows[stage.number], got.kind))
             if self._rows[stage.number].form in _TOLD_FAULT_ALONE:
                 return (error,)
             return (self._value(got.some, got.number) if error is None else None, error)
@@ -559,10 +577,12 @@ class RequestCore:
     def _value(self, some: int, number: int) -> Any:
         return self._values[number] if some else None
 
-    def _error(self, told: Told) -> BaseException:
-        if told.kind == THROWN:
-            return self._errors[told.code]
-        made: BaseException = CancelledError() if told.kind == CANCELLED else _classes["bad_answer"]()
+    def _error(self, told: Told, error: Optional[int]) -> BaseException:
+        """The exception of an outcome that is a fault, with the number that stands beside it. Where there is none, it is made."""
+        number = told.code if told.kind == THROWN else error
+        if number is not None:
+            return self._errors[number]
+        made: BaseException = (CancelledError if told.kind == CANCELLED else TimeoutError if told.kind == TIMED_OUT else _classes["bad_answer"])()
         return made
 
     def _number(self, value: Any) -> int:

@@ -5,10 +5,10 @@ import unicodedata
 from array import array
 from typing import TYPE_CHECKING, Any, Callable, Dict, Iterator, List, NamedTuple, Optional, Sequence, Tuple
 
-from ..events import Attach, Cancel, Claim, Complete, Event, Fail, Finish, Tick, event_of
-from ..values import Link, Thrown
-from .words import (ANSWER, ARGS, BAD_ANSWER, CANCELLED, CLIENT, CLOCK, FIRST, FIRST_SOME, FIRST_WORKER, FORMS, GOT, NUMBER, ONE, OUTCOME, PENDING,
-                    RELAY, REPLY_NUMBERS, SECOND, SECOND_SOME, THROWN, VALUE)
+from ..events import Attach, Cancel, Claim, Complete, Event, Fail, FailAs, Finish, Tick, event_of
+from ..values import Failure, Link, Thrown
+from .words import (ANSWER, ARGS, BAD_ANSWER, CANCELLED, CLIENT, CLOCK, FIRST, FIRST_SOME, FIRST_WORKER, FORMS, GOT, NUMBER, ONE, OUTCOME,
+                    PENDING, RELAY, REPLY_NUMBERS, SECOND, SECOND_SOME, THROWN, TIMED_OUT, VALUE)
 
 if TYPE_CHECKING:
     from ._plain import PlanCore
@@ -19,6 +19,7 @@ FORGING = ("Cc", "Cf", "Cs", "Zl", "Zp")  # the categories of characters that co
 SHORT = {"\n": "\\n", "\r": "\\r", "\t": "\\t"}
 Describe = Callable[[object], str]  # what is told of a value or an exception
 CALLERS = {CLIENT: "caller", CLOCK: "clock", RELAY: "relay"}
+CAUSES = {CANCELLED: "cancelled", TIMED_OUT: "timeout", BAD_ANSWER: "badanswer"}  # of faults without a code, as scripts name them
 
 
 class Told(NamedTuple):
@@ -174,6 +175,8 @@ class History:
             return f"{who} lets it be {event.now}"
         did = (f"completes {self.stage(event.stage)} with {self.value(event.value)}" if isinstance(event, Complete) else
                f"fails {self.stage(event.stage)} with {self.error(event.code)}" if isinstance(event, Fail) else
+               f"times out {self.stage(event.stage)}" if isinstance(event, FailAs) and event.failure == Failure.TIMED_OUT else
+               f"fails {self.stage(event.stage)} with a bad answer" if isinstance(event, FailAs) else
                f"cancels {self.stage(event.stage)}")
         return f"{who} {did}{'' if reply[ANSWER] else ', too late'}"
 
@@ -256,8 +259,10 @@ class History:
 
     def script(self, most: Optional[int] = None) -> str:
         """What `cf run` does again and `cf_look dot` draws, a line of JSON: the first events, or all."""
-        return json.dumps({"cf": 2, "room": len(self.names) - len(self.planned), "stages": self._stages(),
-                           "steps": [_step(entry.event) for entry in self.entries()[:most]]})
+        events = [entry.event for entry in self.entries()[:most]]
+        version = 3 if any(isinstance(event, FailAs) for event in events) else 2
+        return json.dumps({"cf": version, "room": len(self.names) - len(self.planned), "stages": self._stages(),
+                           "steps": [_step(event) for event in events]})
 
     def report(self) -> str:
         """What `cf run` prints of the script: the replies as they came, and what stages hold in the end."""
@@ -295,6 +300,8 @@ def _step(event: Event) -> List[Any]:
         return ["complete", event.stage, event.value]
     if isinstance(event, Fail):
         return ["fail", event.stage, event.code]
+    if isinstance(event, FailAs):
+        return ["failAs", event.stage, CAUSES[event.failure]]
     if isinstance(event, Cancel):
         return ["cancel", event.stage]
     if isinstance(event, Claim):
@@ -314,7 +321,7 @@ def _value_text(some: int, number: int) -> str:
 def _outcome_text(told: Told) -> str:
     if told.kind == VALUE:
         return f"value {_value_text(told.some, told.number)}"
-    cause = {THROWN: f"thrown {told.code}", CANCELLED: "cancelled", BAD_ANSWER: "badanswer"}.get(told.kind, "timeout")
+    cause = f"thrown {told.code}" if told.kind == THROWN else CAUSES[told.kind]
     return f"fault {cause} {'wrapped' if told.wrapped else 'raw'}"
 
 

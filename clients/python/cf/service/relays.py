@@ -9,7 +9,7 @@ import weakref
 from collections import deque
 from typing import TYPE_CHECKING, Any, Callable, Deque, Dict, List, Optional, Tuple
 
-from .words import CANCEL, COMPLETE, FAIL, RELAY
+from .words import CANCEL, COMPLETE, FAIL, FAIL_AS, FAILURES, RELAY
 
 if TYPE_CHECKING:
     from .stage import Stage
@@ -135,6 +135,8 @@ def _outcome_of(future: "concurrent.futures.Future[Any]") -> Tuple[int, Any]:
         if future.cancelled():
             return CANCEL, False
         error = future.exception()
-        return (COMPLETE, future.result()) if error is None else (FAIL, error)
+        if error is None:
+            return COMPLETE, future.result()
+        return FAIL_AS if getattr(future, "_ended", None) in FAILURES else FAIL, error
     except BaseException as error:
         return FAIL, error

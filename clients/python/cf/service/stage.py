@@ -9,7 +9,7 @@ from typing import TYPE_CHECKING, Any, Callable, Generator, Generic, Optional, T
 from ..values import BadAnswer, Form
 from ._core import StageCore, use
 from .history import escaped
-from .words import CANCEL, CLOCK, COMPLETE, FAIL, THIS_THREAD, RequestFull
+from .words import CANCEL, CLOCK, COMPLETE, FAIL, FAIL_AS, THIS_THREAD, RequestFull
 
 if TYPE_CHECKING:
     from .request import Request
@@ -102,7 +102,7 @@ class Stage(_Future[T]):
         """Lets it fail with a `TimeoutError`, unless it is settled by then: at once where the time is over already, and never where it is
         endless; `ValueError` of NaN. This stage itself is given back."""
         error = f"{escaped(self.name)} took longer than {seconds} s"
-        return self.request._later(self, seconds, lambda: self.request._change(FAIL, CLOCK, self, TimeoutError(error)))
+        return self.request._later(self, seconds, lambda: self.request._change(FAIL_AS, CLOCK, self, TimeoutError(error)))
 
     def complete_on_timeout(self, value: T, seconds: float) -> "Stage[T]":
         """Gives it the value, unless it is settled by then, as `or_timeout`. This stage itself is given back."""

@@ -1,12 +1,13 @@
 """The numbers in words of events, replies and outcomes, as cf.h and docs/FORMATS.md have them; and who is which caller."""
 
 # The kinds of words.
-COMPLETE, FAIL, CANCEL, CLAIM, FINISH, TICK, ATTACH = range(1, 8)
+COMPLETE, FAIL, CANCEL, CLAIM, FINISH, TICK, ATTACH, FAIL_AS = range(1, 9)
 # What a finish says.
 GIVES, THROWS, LINKS = range(1, 4)
 # The kinds of stages in the news, of outcomes, and of what a function is called with.
 IS_PENDING, IS_READY, IS_CLAIMED, IS_LINKED, IS_SETTLED = range(5)
 PENDING, VALUE, THROWN, CANCELLED, TIMED_OUT, BAD_ANSWER = range(6)
+FAILURES = (TIMED_OUT, BAD_ANSWER)  # by the tags of FAIL_AS
 NO_ARGS, ONE, TWO, GOT = range(4)
 # The places of a reply's numbers.
 ANSWER, NUMBER, ARGS, FIRST_SOME, FIRST, SECOND_SOME, SECOND = range(7)

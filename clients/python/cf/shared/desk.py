@@ -12,8 +12,8 @@ from .._library import CNews
 from ..events import _known
 from ..service._plain import PlanCore, _grow, _Ledger, _told
 from ..service.history import History, Told
-from ..service.words import (ANSWER, ATTACH, CLAIM, COMPOSE_FORMS, FINISH, IS_CLAIMED, IS_READY, IS_SETTLED, LINKS, MOST_STAGES, NUMBER, PENDING,
-                             TICK, RequestFull)
+from ..service.words import (ANSWER, ATTACH, CLAIM, COMPOSE_FORMS, FAIL_AS, FAILURES, FINISH, IS_CLAIMED, IS_READY, IS_SETTLED, LINKS,
+                             MOST_STAGES, NUMBER, PENDING, TICK, RequestFull)
 from .codec import Json
 from .plans import SharedPlan, said_in
 from .rows import COUNT_BITS, Broken, Entry, Gone, Opened, Put, Store, Unknown, sure
@@ -94,6 +94,7 @@ class Desk:
         self.kinds: List[int] = [kind for kind, _ in self.plan.core.start]
         self.told: List[Told] = [Told(*told) for _, told in self.plan.core.start]
         self.places: List[int] = [0] * len(self.forms)  # where each was settled
+        self.failed: Dict[int, int] = {}  # the places of the words by which stages, or sources of theirs, timed out or had a bad answer
         self.attached: Dict[int, int] = {}  # the place of the word that attached a stage
         self.links: Dict[int, int] = {}  # the promises that composing stages were linked to, with the places of those words
         self.unlinked: Set[int] = set()  # composing stages that were settled, and whose promises may be waited for by nobody
@@ -245,7 +246,9 @@ class Desk:
             self.claims.pop(stage, None)
             if word >> 32 & 0xF == LINKS and not reply[ANSWER]:
                 self.links[word & 0xFFF] = place
-        done = Done(place, word, token, reply, self._changed(self._ledger.news[:self._ledger.changed.value], place))
+        links = kind == FINISH and word >> 32 & 0xF == LINKS
+        failed = place if kind == FAIL_AS else self.failed.get(word & 0xFFF, 0) if links else 0
+        done = Done(place, word, token, reply, self._changed(self._ledger.news[:self._ledger.changed.value], place, failed))
         if token in self._doubt:
             self._find(done, who)
         if self._doubt:  # what was to stand here and doesn't never will
@@ -273,12 +276,17 @@ class Desk:
         for source in set(of):
             self._behind.setdefault(source, []).append(number)
 
-    def _changed(self, news: "Sequence[CNews]", place: int) -> List[int]:
+    def _changed(self, news: "Sequence[CNews]", place: int, failed: int) -> List[int]:
+        """Takes over what a word changed, and gives the stages that it settled. `failed` is the place for `self.failed` of those that time
+        out by it or have a bad answer, or 0 where that is their sources'."""
         settled = []
         for it in news:
             number, kind = it.stage, it.now.kind
             if kind == IS_SETTLED and not self.places[number]:
-                self.told[number], self.places[number] = Told(*_told(it.now)), place  # (first: other threads look whether it is settled)
+                told = Told(*_told(it.now))
+                if told.kind in FAILURES:
+                    self.failed[number] = failed or self.failed_of(self.forms[number][1], told.kind)
+                self.told[number], self.places[number] = told, place  # (first: other threads look whether it is settled)
                 settled.append(number)
                 if self.forms[number][0] in COMPOSE_FORMS:
                     self.unlinked.add(number)
@@ -288,6 +296,10 @@ class Desk:
             else:
                 self.ready.discard(number)
         return settled
+
+    def failed_of(self, sources: Sequence[int], kind: int) -> int:
+        """The place in `failed` of the first of these stages that ended so, or 0."""
+        return next((self.failed.get(source, 0) for source in sources if self.told[source].kind == kind), 0)
 
     # Room for stages that are attached.
 
@@ -345,12 +357,21 @@ class Desk:
     def _payloads(self, places: Sequence[int]) -> Dict[int, bytes]:
         return self.sure(lambda: self.store.payloads(self.name, places, self.opened.number))  # type: ignore[no-any-return]
 
+    def read_if_any(self, place: int, reader: Callable[[bytes], T]) -> Optional[T]:
+        """What the payload of a word says that may have none."""
+        found = self.payload_if_any(place)
+        return None if found is None else self._reading(place, found, reader)
+
     def payload(self, place: int) -> bytes:
         """The payload of a word. `Broken` where there is none."""
-        found: Dict[int, bytes] = self._own if place in self._own else self._payloads([place])
-        if place not in found:
+        found = self.payload_if_any(place)
+        if found is None:
             raise Broken(self.name, place, "no payload is there, and a word names it")
-        return found[place]
+        return found
+
+    def payload_if_any(self, place: int) -> Optional[bytes]:
+        """The payload of a word, or None where there is none, as at place 0."""
+        return self._own[place] if place in self._own else self._payloads([place]).get(place) if place else None
 
     def outcome(self, stage: int) -> Told:
         """What a stage ended in by what is seen."""

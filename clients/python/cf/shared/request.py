@@ -10,7 +10,8 @@ from typing import TYPE_CHECKING, Any, Callable, ContextManager, Dict, Generator
 
 from ..service.flow import Again, Step, _alone
 from ..service.history import Describe, History, Told, escaped
-from ..service.words import ANSWER, ATTACH, CANCEL, CANCELLED, COMPLETE, FAIL, GIVES, MOST_STAGES, NUMBER, PENDING, THROWN, VALUE, RequestFull
+from ..service.words import (ANSWER, ATTACH, CANCEL, CANCELLED, COMPLETE, FAIL, FAIL_AS, FAILURES, GIVES, MOST_STAGES, NUMBER, THROWN,
+                             TIMED_OUT, VALUE, RequestFull)
 from ..values import BadAnswer, Form
 from .desk import Desk, Done
 from .functions import said_of
@@ -132,6 +133,11 @@ class Stage(_Future[T]):
     def __await__(self) -> Generator[Any, None, T]:
         """Awaits it on the running loop."""
         return asyncio.wrap_future(self).__await__()
+
+    @property
+    def _ended(self) -> int:
+        """The kind of its outcome, as far as it is read."""
+        return self.request._desk.told[self.number].kind
 
     def _show(self, value: Any, error: Optional[BaseException], is_cancelled: bool) -> None:
         """Tells those who wait, once."""
@@ -335,20 +341,21 @@ class Request:
             if given == promise:
                 desk.links.pop(promise, None)
             elif desk.is_settled(given):
-                kind, payload = self._alike(desk.told[given])
-                self._settle(kind, promise, payload)
+                kind, payload = self._alike(given)
+                self._settle(kind, promise, payload, failure=desk.told[given].kind)
 
-    def _alike(self, told: Told) -> Tuple[int, Optional[bytes]]:
-        """The call that settles a promise so, and its payload."""
+    def _alike(self, stage: int) -> Tuple[int, Optional[bytes]]:
+        """The call that settles a promise as a stage is, and its payload."""
+        told = self._desk.told[stage]
         if told.kind == VALUE:
             return COMPLETE, self._desk.payload(told.number) if told.some else None
         if told.kind == CANCELLED and not told.wrapped:
             return CANCEL, None
         if told.kind == THROWN:
             return FAIL, self._desk.payload(told.code)
-        error = self._outcome(told)[1]
-        assert error is not None
-        return FAIL, self._service._error(error)
+        if told.kind in FAILURES:
+            return FAIL_AS, self._desk.payload_if_any(self._desk.failed_of((stage,), told.kind))
+        return FAIL, self._service._error(CancelledError())
 
     def _tree(self, form: Form, of: "Sequence[Stage[Any]]", name: str) -> "Stage[Any]":
         """An attached stage has at most two sources; a tree of them tells what one stage of all would."""
@@ -359,12 +366,14 @@ class Request:
             row = [self._attach(form, row[k:k + 2], None, name=name) if k + 1 < len(row) else row[k] for k in range(0, len(row), 2)]
         return self._attach(form, row, None, name=name)
 
-    def _settle(self, kind: int, stage: int, payload: Optional[bytes], waits: bool = False) -> bool:
-        """Completes, fails or cancels a stage, and says whether that did it. `waits`: not while its function runs."""
+    def _settle(self, kind: int, stage: int, payload: Optional[bytes], waits: bool = False, failure: int = TIMED_OUT) -> bool:
+        """Completes, fails or cancels a stage, and says whether that did it. `waits`: not while its function runs. `failure`: what it ends
+        in by FAIL_AS, whose word doesn't name the payload."""
         def decide(desk: Desk) -> Any:
             if desk.is_settled(stage) or waits and stage in desk.claims:
                 return None
-            low = 0 if payload is None else (GIVES << 32 if kind == COMPLETE else 0) | desk.place
+            low = (FAILURES.index(failure) << 32 if kind == FAIL_AS else 0 if payload is None else
+                   (GIVES << 32 if kind == COMPLETE else 0) | desk.place)
             return [(kind << 56 | desk.who << 48 | stage << 36 | low, payload)]
         try:
             done = self._act(decide)
@@ -395,7 +404,7 @@ class Request:
         kind, payload = timer.payload[:1], timer.payload[1:]
         if not 0 <= timer.stage < len(self._desk.forms):
             raise StoreError(f"place {self._desk.place}: a timer is set for stage {timer.stage}, which isn't there")
-        self._settle(FAIL if kind == b"E" else COMPLETE, timer.stage, None if kind == b"N" else payload)
+        self._settle(FAIL_AS if kind == b"E" else COMPLETE, timer.stage, None if kind == b"N" else payload)
 
     @contextlib.contextmanager
     def _transacting(self) -> Generator[None, None, None]:
@@ -494,7 +503,7 @@ class Request:
         told = self._desk.outcome(stage.number)
         is_cancelled = told.kind == CANCELLED and not told.wrapped
         try:
-            value, error = (None, None) if is_cancelled else self._outcome(told)
+            value, error = (None, None) if is_cancelled else self._outcome(told, (stage.number,))
         except StoreError as broken:
             value, error = None, broken
         except Unknown:
@@ -503,12 +512,16 @@ class Request:
         self._unshown.discard(stage.number)
         stage._show(value, error, is_cancelled)
 
-    def _outcome(self, told: Told) -> Tuple[Any, Optional[BaseException]]:
+    def _outcome(self, told: Told, of: Sequence[int]) -> Tuple[Any, Optional[BaseException]]:
+        """The value or the exception of an outcome that one of these stages has."""
         if told.kind == VALUE:
             return self._value(told.some, told.number), None
         if told.kind == THROWN:
             return None, self._desk.read(told.code, self._service.codec.read_error)
-        return None, CancelledError() if told.kind == CANCELLED else TimeoutError() if told.kind != PENDING + 5 else BadAnswer()
+        if told.kind == CANCELLED:
+            return None, CancelledError()
+        error = self._desk.read_if_any(self._desk.failed_of(of, told.kind), self._service.codec.read_error)
+        return None, error if error is not None else TimeoutError() if told.kind == TIMED_OUT else BadAnswer()
 
     def _value(self, some: int, place: int) -> Any:
         return self._desk.read(place, self._service.codec.read) if some else None

@@ -496,7 +496,7 @@ class DurableService(concurrent.futures.Executor):
         """What a claim says that the function is called with."""
         kind = reply[ARGS]
         if kind == GOT:
-            value, error = request._outcome(Told(*reply[OUTCOME]))
+            value, error = request._outcome(Told(*reply[OUTCOME]), request._desk.forms[stage][1])
             return (error,) if request._desk.forms[stage][0] in ONLY_FAULT else (value, error)
         first = request._value(reply[FIRST_SOME], reply[FIRST]) if kind in (ONE, TWO) else None
         second = request._value(reply[SECOND_SOME], reply[SECOND]) if kind == TWO else None
@@ -507,9 +507,9 @@ class DurableService(concurrent.futures.Executor):
         form, of = request._desk.forms[stage]
         told = [request._desk.told[source] for source in of]
         if form in (Form.HANDLE, Form.WHEN_COMPLETE):
-            return request._outcome(told[0])
+            return request._outcome(told[0], of)
         if form == Form.EXCEPTIONALLY:
-            return (request._outcome(told[0])[1],)
+            return (request._outcome(told[0], of)[1],)
         if form == Form.APPLY_EITHER:
             first = min((source for source in of if request._desk.is_settled(source)), key=lambda source: request._desk.places[source])
             told = [request._desk.told[first]]

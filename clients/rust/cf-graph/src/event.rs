@@ -17,6 +17,7 @@ pub enum Of {
 pub enum Call {
     Complete(u16, Value),
     Fail(u16, u32),
+    FailAs(u16, Failure),
     Cancel(u16),
     Claim(u16),
     Finish(u16, Answer),
@@ -56,6 +57,7 @@ fn event_in(event: Event) -> sys::cf_event {
     match event.call {
         Call::Complete(stage, value) => sys::cf_event { call: 0, stage, value: value_in(value), ..none },
         Call::Fail(stage, code) => sys::cf_event { call: 1, stage, code, ..none },
+        Call::FailAs(stage, failure) => sys::cf_event { call: 7, stage, code: failure_in(failure), ..none },
         Call::Cancel(stage) => sys::cf_event { call: 2, stage, ..none },
         Call::Claim(stage) => sys::cf_event { call: 3, stage, ..none },
         Call::Finish(stage, answer) => sys::cf_event { call: 4, stage, answer: answer_in(answer), ..none },
@@ -79,6 +81,7 @@ fn event_out(event: sys::cf_event) -> Event {
         3 => Call::Claim(event.stage),
         4 => Call::Finish(event.stage, answer_out(event.answer)),
         5 => Call::Tick(event.now),
+        7 => Call::FailAs(event.stage, failure_out(event.code)),
         _ => {
             let of = match event.sources {
                 0 => Of::None,
@@ -94,7 +97,7 @@ fn event_out(event: sys::cf_event) -> Event {
 /// What a changing call was answered.
 pub(crate) fn reply_out(call: Call, reply: sys::cf_reply) -> Reply {
     match call {
-        Call::Complete(..) | Call::Fail(..) | Call::Cancel(..) => Reply::Flag(reply.answer != 0),
+        Call::Complete(..) | Call::Fail(..) | Call::FailAs(..) | Call::Cancel(..) => Reply::Flag(reply.answer != 0),
         Call::Claim(_) => Reply::Claimed(claimed_out(reply)),
         Call::Finish(..) => Reply::Finished(finished_out(reply)),
         Call::Tick(_) => Reply::Ticked(ticked_out(reply)),
@@ -106,7 +109,7 @@ pub(crate) fn reply_out(call: Call, reply: sys::cf_reply) -> Reply {
 #[inline]
 pub(crate) fn reply_of_word(word: u64, reply: sys::cf_reply) -> Reply {
     match word >> 56 {
-        1..=3 => Reply::Flag(reply.answer != 0),
+        1..=3 | 8 => Reply::Flag(reply.answer != 0),
         4 => Reply::Claimed(claimed_out(reply)),
         5 => Reply::Finished(finished_out(reply)),
         6 => Reply::Ticked(ticked_out(reply)),

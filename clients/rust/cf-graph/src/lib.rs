@@ -83,4 +83,4 @@ pub use refused::Refused;
 pub use step::{Step, Taken};
 pub use sweep::Sweep;
 pub use text::{outcome_text, run_script, ScriptFault};
-pub use values::{Answer, Args, Cause, Claimed, Finished, Now, Outcome, Reply, Ticked, Value};
+pub use values::{Answer, Args, Cause, Claimed, Failure, Finished, Now, Outcome, Reply, Ticked, Value};

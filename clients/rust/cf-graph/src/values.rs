@@ -17,6 +17,15 @@ pub enum Cause {
     BadAnswer,
 }
 
+/// With which cause, other than a thrown code and a cancellation, a caller fails a stage.
+#[derive(Clone, Copy, PartialEq, Eq, Debug)]
+pub enum Failure {
+    /// Time ran out for it.
+    TimedOut,
+    /// It stands in for another stage, whose function answered what its form can't take.
+    BadAnswer,
+}
+
 /// What a stage is settled with. `wrapped`: the cause stands inside a `CompletionException`.
 #[derive(Clone, Copy, PartialEq, Eq, Debug)]
 pub enum Outcome {
@@ -75,7 +84,7 @@ pub enum Ticked {
 /// What a changing call was answered.
 #[derive(Clone, Copy, PartialEq, Eq, Debug)]
 pub enum Reply {
-    /// Of complete, fail and cancel.
+    /// Of complete, fail, fail as and cancel.
     Flag(bool),
     Claimed(Claimed),
     Finished(Finished),
@@ -117,6 +126,23 @@ fn cause_of(outcome: sys::cf_outcome) -> Cause {
         3 => Cause::Cancelled,
         4 => Cause::TimedOut,
         _ => Cause::BadAnswer,
+    }
+}
+
+/// The kind of an outcome with this cause.
+#[inline]
+pub(crate) fn failure_in(failure: Failure) -> u32 {
+    match failure {
+        Failure::TimedOut => sys::CF_TIMED_OUT,
+        Failure::BadAnswer => sys::CF_BAD_ANSWER,
+    }
+}
+
+#[inline]
+pub(crate) fn failure_out(kind: u32) -> Failure {
+    match kind {
+        sys::CF_TIMED_OUT => Failure::TimedOut,
+        _ => Failure::BadAnswer,
     }
 }
 

@@ -1,5 +1,5 @@
 //! What each call answers, row by row.
-use cf_graph::{Answer, Args, Cause, Claimed, Finished, Form, Graph, Limit, Now, Outcome, Plan, PlanBuilder, Refused, Step, Taken, Ticked, Value};
+use cf_graph::*;
 use std::thread;
 
 const THROWN: Outcome = fault(Cause::Thrown(4_000_000_000), false);
@@ -61,6 +61,27 @@ fn a_fault_is_wrapped_where_it_is_taken_over() {
     assert_eq!(graph.now(1, Value::Nil), Ok(Now::Completion(Cause::Thrown(4_000_000_000))));
     assert_eq!(graph.claim(0, 4), Ok(Claimed::Granted(Args::Got(TAKEN_OVER))));
     assert_eq!(graph.outcome(4), Ok(None));
+}
+
+#[test]
+fn a_failure_has_its_cause() {
+    for (failure, cause) in [(Failure::TimedOut, Cause::TimedOut), (Failure::BadAnswer, Cause::BadAnswer)] {
+        let mut graph = graph(0);
+        assert_eq!(graph.fail_as(0, failure), Ok(true));
+        assert_eq!(graph.fail_as(0, failure), Ok(false));
+        assert_eq!(graph.outcome(0), Ok(Some(fault(cause, false))));
+        assert_eq!(graph.outcome(1), Ok(Some(fault(cause, true))));
+        assert_eq!(graph.claim(0, 4), Ok(Claimed::Granted(Args::Got(fault(cause, true)))));
+        assert_eq!(graph.fail_as(4, failure), Ok(true));
+        assert_eq!(graph.finish(0, 4, Answer::Give(Value::Nil)), Ok(Finished::Late));
+        assert_eq!(graph.now(4, Value::Nil), Ok(Now::Completion(cause)));
+        assert_eq!(graph.fail_as(9, failure), Err(Refused::NO_STAGE));
+        // The same by its word.
+        let event = Event { who: 63, call: Call::FailAs(2, failure) };
+        let mut ledger = Ledger::new(&mut plan(), 0).unwrap();
+        assert_eq!((graph.apply(event.word().unwrap()), ledger.act(event)), (Ok(Reply::Flag(true)), Ok(Reply::Flag(true))));
+        assert_eq!(ledger.stage(2).unwrap().state, State::Settled(fault(cause, false)));
+    }
 }
 
 #[test]

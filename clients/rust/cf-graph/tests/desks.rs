@@ -80,6 +80,21 @@ fn two_callers_do_what_a_graph_does() {
 }
 
 #[test]
+fn callers_fail_stages_as_they_say() {
+    for (failure, cause) in [(Failure::TimedOut, Cause::TimedOut), (Failure::BadAnswer, Cause::BadAnswer)] {
+        let (desk, mut callers) = plan().desk(sizes(2, 9, 9)).unwrap();
+        assert_eq!(callers[0].fail_as(2, failure), Ok(true));
+        assert_eq!(callers[1].fail_as(2, failure), Ok(false));
+        assert_eq!(callers[1].fail_as(9, failure), Err(Refused::NO_STAGE));
+        assert_eq!(callers[1].read(3), Ok(Some(Outcome::Fault { cause, wrapped: true })));
+        let mut closed = desk.close(callers).unwrap();
+        let event = Event { who: 0, call: Call::FailAs(2, failure) };
+        assert_eq!(closed.records(0), Ok(vec![Record::Did { place: 1, event, reply: Reply::Flag(true) }]));
+        replayed(&mut plan(), 0, closed);
+    }
+}
+
+#[test]
 fn callers_go_step_by_step() {
     let (_desk, mut callers) = plan().desk(sizes(2, 100, 5)).unwrap();
     let (one, other) = callers.split_at_mut(1);
@@ -301,6 +316,8 @@ fn words_are_read_as_they_are_written() {
         Call::Complete(4_095, Value::Int(i32::MIN)),
         Call::Complete(0, Value::Nil),
         Call::Fail(1, u32::MAX),
+        Call::FailAs(4_095, Failure::TimedOut),
+        Call::FailAs(0, Failure::BadAnswer),
         Call::Cancel(2),
         Call::Claim(3),
         Call::Finish(4, Answer::Give(Value::Int(-1))),

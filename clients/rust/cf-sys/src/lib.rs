@@ -137,6 +137,7 @@ pub const CF_CALL_CLAIM: u32 = 3;
 pub const CF_CALL_FINISH: u32 = 4;
 pub const CF_CALL_TICK: u32 = 5;
 pub const CF_CALL_ATTACH: u32 = 6;
+pub const CF_CALL_FAIL_AS: u32 = 7;
 
 pub const CF_IS_PENDING: u32 = 0;
 pub const CF_IS_READY: u32 = 1;
@@ -147,7 +148,7 @@ pub const CF_IS_SETTLED: u32 = 4;
 pub const CF_NO_FUNCTION: u32 = u32::MAX;
 pub const CF_NOBODY: u32 = u32::MAX;
 pub const CF_VERSION_MAJOR: u32 = 1;
-pub const CF_VERSION_MINOR: u32 = 3;
+pub const CF_VERSION_MINOR: u32 = 4;
 
 #[repr(C)]
 #[derive(Clone, Copy, Debug, Default, PartialEq, Eq)]
@@ -293,6 +294,7 @@ extern "C" {
     pub fn cf_graph_new(plan: *mut cf_handle, room: u16, graph: *mut cf_handle) -> u32;
     pub fn cf_complete(graph: *mut cf_handle, stage: u16, value: cf_value, reply: *mut cf_reply) -> u32;
     pub fn cf_fail(graph: *mut cf_handle, stage: u16, code: u32, reply: *mut cf_reply) -> u32;
+    pub fn cf_fail_as(graph: *mut cf_handle, stage: u16, kind: u32, reply: *mut cf_reply) -> u32;
     pub fn cf_cancel(graph: *mut cf_handle, stage: u16, reply: *mut cf_reply) -> u32;
     pub fn cf_claim(graph: *mut cf_handle, who: u8, stage: u16, reply: *mut cf_reply) -> u32;
     pub fn cf_finish_with(graph: *mut cf_handle, who: u8, stage: u16, answer: *const cf_answer, reply: *mut cf_reply) -> u32;
@@ -311,6 +313,7 @@ extern "C" {
     pub fn cf_desk_open_with(plan: *mut cf_handle, callers: *mut cf_handle, n: usize, sizes: *const cf_desk_sizes) -> u32;
     pub fn cf_desk_complete(caller: *mut cf_handle, stage: u16, value: cf_value, reply: *mut cf_reply) -> u32;
     pub fn cf_desk_fail(caller: *mut cf_handle, stage: u16, code: u32, reply: *mut cf_reply) -> u32;
+    pub fn cf_desk_fail_as(caller: *mut cf_handle, stage: u16, kind: u32, reply: *mut cf_reply) -> u32;
     pub fn cf_desk_cancel(caller: *mut cf_handle, stage: u16, reply: *mut cf_reply) -> u32;
     pub fn cf_desk_claim(caller: *mut cf_handle, stage: u16, reply: *mut cf_reply) -> u32;
     pub fn cf_desk_finish_with(caller: *mut cf_handle, stage: u16, answer: *const cf_answer, reply: *mut cf_reply) -> u32;

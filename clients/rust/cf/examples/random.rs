@@ -3,11 +3,12 @@
 //!     random FIRST COUNT [CF_LOOK]
 //!
 //! Each seed makes two requests, of which the one takes stages of the other. Eight threads attach stages of all forms, complete, fail, cancel
-//! and name them, while four threads run their functions, which give values, return errors, panic, rest, wait for stages, or give futures.
-//! Three lines for each history, one of them taken in the midst of the race: the account, the script, and the report with tabs for ends of
-//! lines. At the end no stage may be ready or claimed, and by the program CF_LOOK the first history has to become a page: else the status is 1.
+//! and name them, let them time out and have bad answers, while four threads run their functions, which give values, return errors, panic, rest,
+//! wait for stages, or give futures. Three lines for each history, one of them taken in the midst of the race: the account, the script, and the
+//! report with tabs for ends of lines. At the end no stage may be ready or claimed, each has to have the error of the stage from which that came,
+//! and by the program CF_LOOK the first history has to become a page: else the status is 1.
 use cf::{Error, HandClock, Pool, Request, Spawn, Stage, SystemClock};
-use cf_graph::{Ledger, PlanBuilder, State};
+use cf_graph::{Call, Cause, Event, Ledger, Outcome, PlanBuilder, State};
 use std::sync::Arc;
 use std::time::{Duration, Instant};
 use std::{env, panic, process, thread};
@@ -78,10 +79,12 @@ fn step(dice: &mut Dice, request: &Request, stages: &[Stage<i64>], others: &[Sta
         20 => request.promise().or_timeout(Duration::from_micros(500)),
         21 => request.promise().complete_on_timeout(7, Duration::from_micros(500)),
         22 => {
-            match dice.roll(4) {
+            match dice.roll(6) {
                 0 => assert!(a.complete(dice.roll(9) as i64).map_or(true, |()| true)),
                 1 => drop(a.fail("gone")),
                 2 => drop(a.cancel()),
+                3 => drop(a.fail(Error::TimedOut(Duration::from_nanos(dice.roll(1000) as u64)))),
+                4 => drop(a.fail(Error::BadAnswer)),
                 _ => drop(a.named("named")),
             }
             return None;
@@ -98,6 +101,7 @@ struct Raced {
     midst: cf::History,
     request: Request,
     other: Request,
+    stages: Vec<Stage<i64>>,
     promises: Vec<Stage<i64>>,
 }
 
@@ -108,8 +112,8 @@ fn race(seed: u64, spawn: &Arc<dyn Spawn>) -> Raced {
     let request = Request::try_new(&format!("seed {seed}"), spawn.clone(), clock, room).expect("a ledger");
     let other = Request::with_clock("other", spawn.clone(), Arc::new(HandClock::new()));
     let others = vec![other.promise(), other.supply(|| 9), other.try_supply(|| Err("no other"))];
-    let midst = thread::scope(|scope| {
-        for k in 0..8 {
+    let (midst, stages) = thread::scope(|scope| {
+        let race = |k| {
             let (mut dice, request, others) = (Dice::of(seed << 8 | k), &request, &others);
             scope.spawn(move || {
                 let mut stages = vec![request.promise(), request.supply(|| 3)];
@@ -121,13 +125,60 @@ fn race(seed: u64, spawn: &Arc<dyn Spawn>) -> Raced {
                         let _ = stage.complete(4);
                     }
                 }
-            });
-        }
+                stages
+            })
+        };
+        let threads: Vec<_> = (0..8).map(race).collect();
         let midst = request.history();
-        let _ = others[0].complete(seed as i64);
-        midst
+        let _ = match seed % 4 {
+            0 => others[0].fail(Error::TimedOut(Duration::from_secs(1))),
+            1 => others[0].fail(Error::BadAnswer),
+            _ => others[0].complete(seed as i64).is_ok(),
+        };
+        (midst, threads.into_iter().flat_map(|thread| thread.join().expect("it ends")).collect())
     });
-    Raced { midst, request, other, promises: others }
+    Raced { midst, request, other, stages, promises: others }
+}
+
+/// From which stage each has its error: the code of that error, done again in a ledger for which what times out or has a bad answer throws.
+fn blamed(history: &cf::History) -> Vec<Option<u16>> {
+    let mut plan = PlanBuilder::new().and_then(|plan| plan.build()).expect("a plan");
+    let mut ledger = Ledger::new(&mut plan, history.names().len().max(1) as u16).expect("a ledger");
+    let code = |ledger: &mut Ledger, stage: u16| match ledger.stage(stage).expect("the stage is there").state {
+        State::Settled(Outcome::Fault { cause: Cause::Thrown(code), .. }) => Some(code as u16),
+        _ => None,
+    };
+    for &word in history.words() {
+        let Event { who, call } = Event::of_word(word).expect("an event");
+        let call = match call {
+            Call::FailAs(stage, _) => {
+                // A relay of the same request has what the stage has for which it stands.
+                let of = history.names()[usize::from(stage)].strip_prefix("relay of ").and_then(|of| of.parse().ok());
+                let from = of.map_or(Some(stage), |of| code(&mut ledger, of)).expect("the stage failed");
+                Call::Fail(stage, u32::from(from))
+            }
+            call => call,
+        };
+        ledger.act(Event { who, call }).expect("the words fit");
+    }
+    (0..history.names().len() as u16).map(|stage| code(&mut ledger, stage)).collect()
+}
+
+/// Whether each stage has the error of the stage from which it came.
+fn have_their_errors(stages: &[Stage<i64>], history: &cf::History) -> bool {
+    let (from, outcomes) = (blamed(history), history.report());
+    let told = |stage: &Stage<i64>| stage.peek().and_then(Result::err).map(|error| error.to_string());
+    let number = |stage: &Stage<i64>| usize::from(stage.number().expect("there is room"));
+    stages.iter().all(|stage| {
+        let outcome = outcomes.lines().find_map(|line| line.strip_prefix(&format!("stage {} ", number(stage)))).expect("it is told");
+        let is_so = match stage.peek() {
+            Some(Err(Error::TimedOut(_))) => outcome.starts_with("fault t"),
+            Some(Err(Error::BadAnswer)) => outcome.starts_with("fault badanswer ") || outcome.starts_with("fault thrown "),
+            _ => !outcome.starts_with("fault timeout ") && !outcome.starts_with("fault badanswer "),
+        };
+        let of = stages.iter().find(|of| of.number() == stage.blamed());
+        is_so && stage.blamed() == from[number(stage)] && of.map_or(true, |of| told(of) == told(stage))
+    })
 }
 
 /// Whether a stage has what it needs, and its function isn't finished.
@@ -164,7 +215,12 @@ fn main() {
             }
             thread::sleep(Duration::from_micros(200));
         };
-        for history in [settled(&raced.request), settled(&raced.other), raced.midst] {
+        let ended = settled(&raced.request);
+        if !have_their_errors(&raced.stages, &ended) {
+            eprintln!("a stage has the error of another:\n{ended}");
+            process::exit(1);
+        }
+        for history in [ended, settled(&raced.other), raced.midst] {
             if !history.comes_again() {
                 eprintln!("it doesn't come again:\n{history}");
                 process::exit(1);

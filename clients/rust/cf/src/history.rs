@@ -7,7 +7,7 @@ use crate::name::Made;
 use crate::record::{Item, Record};
 use crate::spawn::{CALLER, CLOCK, FIRST_WORKER, RELAY};
 use crate::value::Val;
-use crate::word::{self, Parts, ATTACH, CANCEL, CLAIM, COMPLETE, FAIL, FINISH, FORM_NAMES, LINKS, SOME, THROWS, TICK};
+use crate::word::{self, Parts, ATTACH, CANCEL, CLAIM, COMPLETE, FAIL, FAIL_AS, FINISH, FORM_NAMES, LINKS, SOME, THROWS, TICK, TIMED_OUT};
 use cf_graph::{Args, Cause, Claimed, Finished, Outcome, Reply, Ticked, Value};
 use std::ffi::OsStr;
 use std::fmt::{self, Write};
@@ -164,7 +164,7 @@ impl History {
     }
 
     /// What `cf run` does again, and `cf_look dot` draws: a line of JSON. A function stands there as `{"const": N}`, and is never called, since
-    /// each finish is a step.
+    /// each finish is a step. It is of version 2, or of 3 where a stage was to time out or to have a bad answer.
     ///
     /// ```
     /// let request = cf::Request::new("order 17", cf::Inline);
@@ -173,7 +173,8 @@ impl History {
     /// ```
     #[must_use]
     pub fn script(&self) -> String {
-        let mut text = format!("{{\"cf\":2,\"room\":{},\"stages\":[],\"steps\":[", self.names.len());
+        let version = if self.words.iter().any(|word| word::parts(*word).kind == FAIL_AS) { 3 } else { 2 };
+        let mut text = format!("{{\"cf\":{version},\"room\":{},\"stages\":[],\"steps\":[", self.names.len());
         list(&mut text, self.words.iter().map(|word| step(*word)));
         text + "]}"
     }
@@ -381,6 +382,14 @@ impl History {
             (COMPLETE, _) => format!("{who} completes {}, too late", stage()),
             (FAIL, Reply::Flag(true)) => format!("{who} fails {} with {}", stage(), self.error(parts.low)),
             (FAIL, _) => format!("{who} fails {}, too late", stage()),
+            (FAIL_AS, reply) => {
+                let late = if reply == Reply::Flag(true) { "" } else { ", too late" };
+                if parts.tag == TIMED_OUT {
+                    format!("{who} times out {}{late}", stage())
+                } else {
+                    format!("{who} fails {} with a bad answer{late}", stage())
+                }
+            }
             (CANCEL, Reply::Flag(true)) => format!("{who} cancels {}", stage()),
             (CANCEL, _) => format!("{who} cancels {}, too late", stage()),
             (CLAIM, Reply::Claimed(claimed)) => format!("{who} claims {} and {}", stage(), self.claimed(claimed)),
@@ -489,6 +498,7 @@ fn step(word: u64) -> String {
     match parts.kind {
         COMPLETE => format!("[\"complete\",{stage},{}]", given()),
         FAIL => format!("[\"fail\",{stage},{low}]"),
+        FAIL_AS => format!("[\"failAs\",{stage},\"{}\"]", if parts.tag == TIMED_OUT { "timeout" } else { "badanswer" }),
         CANCEL => format!("[\"cancel\",{stage}]"),
         CLAIM => format!("[\"claim\",{who},{stage}]"),
         FINISH => match parts.tag {

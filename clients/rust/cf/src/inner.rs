@@ -6,14 +6,14 @@
 //! A value's number is that of the stage that gave it, and so is an error's.
 use crate::core::{Core, First, Needs};
 use crate::error::{Error, Refusal};
-use crate::ledger::Ledger;
+use crate::ledger::{Hangs, Ledger};
 use crate::name::Made;
 use crate::slot::{Held, Slot};
 use crate::spawn::RELAY;
 use crate::task::Task;
 use crate::value::{Call, Gave, Given, Val};
 use crate::wakers::Wakers;
-use crate::word::{self, Form, CANCEL, COMPLETE, FAIL, FINISH, LINKS, SOME, THROWS};
+use crate::word::{self, Form, BAD_ANSWER, CANCEL, COMPLETE, FAIL, FAIL_AS, FINISH, LINKS, SOME, THROWS, TIMED_OUT};
 use cf_graph::{Answer, Args, Cause, Changes, Finished, Outcome, Reply, State, Value};
 #[cfg(feature = "tokio")]
 use std::any::Any;
@@ -23,7 +23,6 @@ use std::collections::BTreeMap;
 use std::mem::{replace, take};
 use std::sync::{Arc, Weak};
 use std::task::Waker;
-use std::time::Duration;
 
 /// How many stages a request's first memory is for, at most; it grows like any row.
 pub(crate) const SLOTS: u16 = 64;
@@ -165,18 +164,23 @@ impl Inner {
     /// What a stage is settled with, as the ledger told it.
     #[inline]
     pub(crate) fn told(&self, stage: u16) -> Option<Result<Val, Error>> {
-        self.slots[usize::from(stage)].outcome().map(|outcome| self.outcome(outcome))
+        let slot = &self.slots[usize::from(stage)];
+        match slot.blamed() {
+            Some(from) => Some(Err(self.error(from))),
+            None => slot.outcome().map(|outcome| self.outcome(outcome)),
+        }
     }
 
+    fn error(&self, from: u16) -> Error {
+        self.slots[usize::from(from)].error().expect("the stage failed").clone()
+    }
+
+    /// What an outcome stands for, in which any error but a cancellation has a code.
     fn outcome(&self, outcome: Outcome) -> Result<Val, Error> {
         match outcome {
             Outcome::Value(value) => Ok(self.value(value)),
-            Outcome::Fault { cause, .. } => Err(match cause {
-                Cause::Thrown(code) => self.slots[code as usize].error().expect("the stage failed").clone(),
-                Cause::Cancelled => Error::Cancelled,
-                Cause::TimedOut => Error::TimedOut(Duration::ZERO),
-                Cause::BadAnswer => Error::BadAnswer,
-            }),
+            Outcome::Fault { cause: Cause::Thrown(code), .. } => Err(self.error(code as u16)),
+            Outcome::Fault { .. } => Err(Error::Cancelled),
         }
     }
 
@@ -221,7 +225,14 @@ impl Inner {
             Ok(Val::Nil) => (COMPLETE, 0, Held::Nothing),
             Ok(value) => (COMPLETE, SOME | number, Held::Value(value)),
             Err(Error::Cancelled) => (CANCEL, 0, Held::Nothing),
-            Err(error) => (FAIL, number, Held::Error(Box::new(error))),
+            Err(error) => {
+                let (kind, tail) = match error {
+                    Error::TimedOut(_) => (FAIL_AS, TIMED_OUT),
+                    Error::BadAnswer => (FAIL_AS, BAD_ANSWER),
+                    _ => (FAIL, number),
+                };
+                (kind, tail, Held::Error(Box::new(error)))
+            }
         };
         if matches!(self.act(word::of(kind, who, stage, tail), after), Reply::Flag(true)) {
             self.hold(stage, holds, after);
@@ -256,11 +267,12 @@ impl Inner {
     /// Shows what the last word changed: which stages are ready, and which are settled.
     #[inline]
     fn show(&mut self, after: &mut After) {
+        let mut hangs = Hangs::new();
         for at in 0..after.changes.len() {
             let news = after.changes.at(at);
             match news.now.state {
                 State::Ready => self.set_ready(news.stage),
-                State::Settled(outcome) => self.settled(news.stage, outcome, after),
+                State::Settled(outcome) => self.settled(news.stage, outcome, &mut hangs, after),
                 State::Pending | State::Claimed | State::Linked(_) => {}
             }
         }
@@ -285,13 +297,17 @@ impl Inner {
 
     /// A stage is told to be settled. A second time that is told where only the claim of it has ended.
     #[inline]
-    fn settled(&mut self, stage: u16, outcome: Outcome, after: &mut After) {
+    fn settled(&mut self, stage: u16, outcome: Outcome, hangs: &mut Hangs, after: &mut After) {
         self.set_unready(stage);
-        let slot = &mut self.slots[usize::from(stage)];
-        if slot.is_settled() {
+        if self.slot(stage).is_settled() {
             return;
         }
-        slot.settle(outcome);
+        let from = match outcome {
+            Outcome::Fault { cause: Cause::TimedOut | Cause::BadAnswer, .. } => self.came_from(stage, hangs),
+            _ => stage,
+        };
+        let slot = &mut self.slots[usize::from(stage)];
+        slot.settle(outcome, from);
         self.ledger.told(stage, outcome);
         if let Held::Call(_) = slot.held {
             after.dropped.push(replace(&mut slot.held, Held::Nothing));
@@ -300,11 +316,27 @@ impl Inner {
             self.waiting.take(&mut slot.waits, &mut after.wakers);
         }
         if !self.extras.is_empty() {
-            self.settled_extra(stage, outcome, after);
+            self.settled_extra(stage, after);
         }
     }
 
-    fn settled_extra(&mut self, stage: u16, outcome: Outcome, after: &mut After) {
+    /// From which stage the time-out or the bad answer came that this one is settled with, since the ledger has no code for it: from this one, where
+    /// it holds the error; else whence the stage has it from which this one took it over. That is the one to which it is linked, the one for which
+    /// it is a relay, or the first of its sources that failed.
+    fn came_from(&mut self, stage: u16, hangs: &mut Hangs) -> u16 {
+        if let Some(Error::TimedOut(_) | Error::BadAnswer) = self.slot(stage).error() {
+            return stage;
+        }
+        if hangs.is_empty() {
+            *hangs = self.ledger.hangs();
+        }
+        let [first, second, link] = hangs[usize::from(stage)].1;
+        let relayed = self.relays.iter().find(|relay| relay.0 == stage).map(|relay| relay.1);
+        let mut of = [link, relayed, first, second].into_iter().flatten();
+        of.find_map(|of| self.slots[usize::from(of)].blamed()).expect("what it hangs on failed")
+    }
+
+    fn settled_extra(&mut self, stage: u16, after: &mut After) {
         let extra = self.extras.remove(&stage).unwrap_or_default();
         after.tasks.extend(extra.task);
         after.dropped.extend(extra.values.into_iter().map(|(_, value)| Held::Value(value)));
@@ -315,7 +347,7 @@ impl Inner {
         for (to, relay) in extra.feeds {
             match to {
                 None => self.relaying.push((relay, stage)),
-                Some(to) => after.feeds.push((to, relay, self.outcome(outcome))),
+                Some(to) => after.feeds.push((to, relay, self.told(stage).expect("the stage is settled"))),
             }
         }
     }
@@ -336,10 +368,8 @@ impl Inner {
                 Outcome::Value(Value::Int(number)) => (COMPLETE, SOME | u64::from(number as u32)),
                 Outcome::Fault { cause: Cause::Thrown(code), .. } => (FAIL, u64::from(code)),
                 Outcome::Fault { cause: Cause::Cancelled, .. } => (CANCEL, 0),
-                Outcome::Fault { .. } => {
-                    let _ = self.settle(RELAY, relay, Err(Error::BadAnswer), after);
-                    continue;
-                }
+                Outcome::Fault { cause: Cause::TimedOut, .. } => (FAIL_AS, TIMED_OUT),
+                Outcome::Fault { cause: Cause::BadAnswer, .. } => (FAIL_AS, BAD_ANSWER),
             };
             self.act(word::of(kind, RELAY, relay, tail), after);
             self.show(after);
@@ -425,9 +455,23 @@ impl Inner {
     fn taken(&mut self, stage: u16, args: Args) -> Todo {
         self.ledger.claimed(args);
         self.set_unready(stage);
+        let args = self.blaming(stage, args);
         match replace(&mut self.slot(stage).held, Held::Nothing) {
             Held::Call(call) => (stage, call, args),
             _ => unreachable!("a stage that is ready has its function"),
+        }
+    }
+
+    /// What a function is called with, where an error that has no code is as one thrown by the stage from which it came.
+    #[inline]
+    fn blaming(&mut self, stage: u16, args: Args) -> Args {
+        match args {
+            Args::Got(Outcome::Fault { cause: Cause::TimedOut | Cause::BadAnswer, wrapped }) => {
+                let source = self.ledger.hangs()[usize::from(stage)].1[0].expect("its form has a source");
+                let from = self.slot(source).blamed().expect("the source failed");
+                Args::Got(Outcome::Fault { cause: Cause::Thrown(u32::from(from)), wrapped })
+            }
+            args => args,
         }
     }
 

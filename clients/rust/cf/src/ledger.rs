@@ -18,6 +18,9 @@ pub(crate) struct Ledger {
     pub(crate) now: u64,
 }
 
+/// Of each stage whether it is a source, and the stages that it hangs on: its sources, and the one to which a finish linked it.
+pub(crate) type Hangs = Vec<(bool, [Option<u16>; 3])>;
+
 /// The plan that has no stages, of which all requests are.
 fn nothing() -> Result<MutexGuard<'static, Option<Plan>>, Refused> {
     static NOTHING: Mutex<Option<Plan>> = Mutex::new(None);
@@ -109,8 +112,8 @@ impl Ledger {
         MOST_STAGES - self.stages
     }
 
-    /// Of each stage whether it is a source, and the stages that it hangs on: its sources, and the one to which a finish linked it.
-    pub(crate) fn hangs(&mut self) -> Vec<(bool, [Option<u16>; 3])> {
+    /// What each stage hangs on.
+    pub(crate) fn hangs(&mut self) -> Hangs {
         let mut hangs = Vec::with_capacity(usize::from(self.stages));
         for word in self.words() {
             let parts = word::parts(word);

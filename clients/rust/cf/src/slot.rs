@@ -68,9 +68,9 @@ impl Slot {
         !matches!(self.told, Told::Waits | Told::Ready)
     }
 
-    /// Keeps what it was settled with.
+    /// Keeps what it was settled with, and the stage from which an error came that has no code.
     #[inline]
-    pub(crate) fn settle(&mut self, outcome: Outcome) {
+    pub(crate) fn settle(&mut self, outcome: Outcome, from: u16) {
         (self.told, self.number) = match outcome {
             Outcome::Value(Value::Nil) => (Told::Nil, 0),
             Outcome::Value(Value::Int(number)) => (Told::Value, number as u16),
@@ -78,8 +78,8 @@ impl Slot {
                 let (fault, number) = match cause {
                     Cause::Thrown(code) => (Fault::Thrown, code as u16),
                     Cause::Cancelled => (Fault::Cancelled, 0),
-                    Cause::TimedOut => (Fault::TimedOut, 0),
-                    Cause::BadAnswer => (Fault::BadAnswer, 0),
+                    Cause::TimedOut => (Fault::TimedOut, from),
+                    Cause::BadAnswer => (Fault::BadAnswer, from),
                 };
                 (if wrapped { Told::Wrapped(fault) } else { Told::Fault(fault) }, number)
             }
@@ -103,6 +103,15 @@ impl Slot {
             Fault::BadAnswer => Cause::BadAnswer,
         };
         Some(Outcome::Fault { cause, wrapped })
+    }
+
+    /// The stage from which its error came, unless it has none, or was cancelled.
+    #[inline]
+    pub(crate) fn blamed(&self) -> Option<u16> {
+        match self.told {
+            Told::Fault(fault) | Told::Wrapped(fault) if fault != Fault::Cancelled => Some(self.number),
+            _ => None,
+        }
     }
 
     /// The error that it holds, if it is the one that failed first.
@@ -145,9 +154,15 @@ mod tests {
             }
         }
         for outcome in outcomes {
-            slot.settle(outcome);
+            slot.settle(outcome, 17);
             assert!(slot.is_settled() && !slot.is_ready());
             assert_eq!(slot.outcome(), Some(outcome));
+            let from = match outcome {
+                Outcome::Value(_) | Outcome::Fault { cause: Cause::Cancelled, .. } => None,
+                Outcome::Fault { cause: Cause::Thrown(code), .. } => Some(code as u16),
+                Outcome::Fault { .. } => Some(17),
+            };
+            assert_eq!(slot.blamed(), from);
         }
     }
 }

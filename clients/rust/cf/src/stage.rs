@@ -98,7 +98,8 @@ impl<T> Stage<T> {
         }
     }
 
-    /// Settles it with an error, unless it is settled; whether it did. An [`Error::Cancelled`] cancels it.
+    /// Settles it with an error, unless it is settled; whether it did. An [`Error::Cancelled`] cancels it, and an [`Error::TimedOut`] lets it time
+    /// out.
     ///
     /// ```
     /// let request = cf::Request::new("order 17", cf::Inline);
@@ -150,8 +151,8 @@ impl<T> Stage<T> {
         self
     }
 
-    /// From which stage its error came: the number of the one whose function gave the error, or which was failed with it. None where it has
-    /// no error, or was cancelled.
+    /// From which stage its error came: the number of the one whose function gave the error, or which was failed with it or timed out. None
+    /// where it has no error, or was cancelled.
     ///
     /// ```
     /// let request = cf::Request::new("order 17", cf::Inline);
@@ -160,11 +161,7 @@ impl<T> Stage<T> {
     /// assert_eq!(told.blamed(), price.number());
     /// ```
     pub fn blamed(&self) -> Option<u16> {
-        let told = self.core.lock().slot(self.at.ok()?).outcome()?;
-        match told {
-            cf_graph::Outcome::Fault { cause: cf_graph::Cause::Thrown(code), .. } => Some(code as u16),
-            _ => None,
-        }
+        self.core.lock().slot(self.at.ok()?).blamed()
     }
 
     pub(crate) fn poll_value(&mut self, cx: &mut Context<'_>) -> Poll<Result<Val, Error>> {

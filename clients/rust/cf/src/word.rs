@@ -7,11 +7,16 @@ pub(crate) const CLAIM: u64 = 4 << 56;
 pub(crate) const FINISH: u64 = 5 << 56;
 pub(crate) const TICK: u64 = 6 << 56;
 pub(crate) const ATTACH: u64 = 7 << 56;
+pub(crate) const FAIL_AS: u64 = 8 << 56;
 
 /// The tags of what a complete or a finish gives.
 pub(crate) const SOME: u64 = 1 << 32;
 pub(crate) const THROWS: u64 = 2 << 32;
 pub(crate) const LINKS: u64 = 3 << 32;
+
+/// The tags of what a stage is failed as.
+pub(crate) const TIMED_OUT: u64 = 0;
+pub(crate) const BAD_ANSWER: u64 = 1 << 32;
 
 /// Forms of stages, by their numbers in cf.h.
 #[derive(Clone, Copy, Debug, PartialEq, Eq)]

@@ -3,14 +3,14 @@ use crate::checks::{holds, must, same, same_at};
 use cf_core::Graph;
 use cf_event::{Event, Reply, apply, decode, encode, is_event, replay};
 use cf_forms::{Answer, Args, Form, Of};
-use cf_model::{Claimed, Ticked};
+use cf_model::{Claimed, Failure, Ticked};
 use cf_outcome::Value;
 use cf_plan::{Plan, PlanBuilder};
 use std::alloc::Global;
 use std::process::Abort;
 
 /// Events with their words.
-const ROWS: [(Event, u64); 14] = [
+const ROWS: [(Event, u64); 16] = [
     (
         Event::Complete {
             who: 0,
@@ -37,6 +37,22 @@ const ROWS: [(Event, u64); 14] = [
     ),
     (Event::Cancel { who: 1, stage: 0 }, 0x0301000000000000),
     (Event::Claim { who: 0, stage: 1 }, 0x0400001000000000),
+    (
+        Event::FailAs {
+            who: 63,
+            stage: 4095,
+            failure: Failure::TimedOut,
+        },
+        0x083ffff000000000,
+    ),
+    (
+        Event::FailAs {
+            who: 0,
+            stage: 2,
+            failure: Failure::BadAnswer,
+        },
+        0x0800002100000000,
+    ),
     (
         Event::Finish {
             who: 2,
@@ -110,7 +126,7 @@ const ROWS: [(Event, u64); 14] = [
 ];
 
 /// Words of no event.
-const REFUSED: [u64; 13] = [
+const REFUSED: [u64; 15] = [
     0x0000000000000000,
     0x0100000000000001,
     0x0100000200000000,
@@ -123,7 +139,9 @@ const REFUSED: [u64; 13] = [
     0x0700000303000000,
     0x0700000113000002,
     0x0740000000000000,
-    0x0800000000000000,
+    0x0800000000000001,
+    0x0800000200000000,
+    0x0900000000000000,
 ];
 
 /// Whether this is the word of an event.
@@ -142,7 +160,12 @@ fn each_event_has_its_word(rt: HostRuntime) {
 }
 
 /// Events with a number that is too great for a word.
-const TOO_GREAT: [Event; 2] = [
+const TOO_GREAT: [Event; 3] = [
+    Event::FailAs {
+        who: 0,
+        stage: 4096,
+        failure: Failure::TimedOut,
+    },
     Event::Cancel { who: 64, stage: 0 },
     Event::Claim {
         who: 0,

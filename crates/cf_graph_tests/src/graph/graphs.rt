@@ -4,7 +4,7 @@ use crate::graph::plans::{Row, SOURCE, limited, longest_chain, plan_of, plan_or_
 use crate::graph::steps::{Step, graph_in, play, play_in, play_on, take};
 use cf_core::{Graph, GraphFault};
 use cf_forms::{Answer, Args, Form, Limit, LimitKind};
-use cf_model::{Claimed, Finished, Ticked};
+use cf_model::{Claimed, Failure, Finished, Ticked};
 use cf_outcome::{Cause, Now, Outcome, Value};
 use cf_plan::{Plan, PlanBuilder, PlanFault};
 use std::alloc::Global;
@@ -59,6 +59,34 @@ const COMPOSED: [Row<'static>; 3] = [SOURCE, SOURCE, (Form::Compose, &[0], Some(
 #[test]
 fn cancels_through_a_link(rt: HostRuntime) {
     play(&rt, rt.alloc(), &COMPOSED, &CANCELLED);
+}
+
+const TIMED_OUT: [Step; 10] = [
+    Step::Complete(0, 1, true),
+    Step::Granted(2, 1),
+    Step::FailAs(1, Failure::TimedOut, true),
+    // It is settled.
+    Step::FailAs(1, Failure::BadAnswer, false),
+    Step::Fault(1, Cause::TimedOut, false),
+    Step::Now(1, Now::Completion(Cause::TimedOut)),
+    Step::Cancel(1, false),
+    Step::Finish(2, Answer::Link(1), Finished::Won),
+    Step::Fault(2, Cause::TimedOut, true),
+    Step::FailAs(2, Failure::TimedOut, false),
+];
+
+const ANSWERED_BADLY: [Step; 5] = [
+    Step::Complete(0, 1, true),
+    Step::Granted(2, 1),
+    Step::FailAs(2, Failure::BadAnswer, true),
+    Step::Fault(2, Cause::BadAnswer, false),
+    Step::Finish(2, Answer::Link(1), Finished::Late),
+];
+
+#[test]
+fn times_out_through_a_link(rt: HostRuntime) {
+    play(&rt, rt.alloc(), &COMPOSED, &TIMED_OUT);
+    play(&rt, rt.alloc(), &COMPOSED, &ANSWERED_BADLY);
 }
 
 /// Two sources, and an exceptionallyCompose of the first.

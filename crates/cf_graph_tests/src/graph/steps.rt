@@ -4,7 +4,7 @@ use crate::checks::{holds, must};
 use crate::graph::plans::{Row, plan_of};
 use cf_core::Graph;
 use cf_forms::{Answer, Args, Form, Of, fits_form};
-use cf_model::{Attached, Claimed, Event, Finished, Reply, Ticked};
+use cf_model::{Attached, Claimed, Event, Failure, Finished, Reply, Ticked};
 use cf_outcome::{Cause, Now, Outcome, Value};
 use cf_plan::Plan;
 use std::alloc::Global;
@@ -15,6 +15,7 @@ use std::process::Abort;
 pub(crate) enum Step {
     Complete(u16, i32, bool),
     Fail(u16, u32, bool),
+    FailAs(u16, Failure, bool),
     Cancel(u16, bool),
     Claim(u16, Claimed),
     /// A claim is granted, with this number for its function.
@@ -93,6 +94,7 @@ fn is_answered(graph: &mut Graph, step: Step) -> bool {
     match step {
         Step::Complete(i, v, answer) => graph.has(i) && graph.complete(i, Value::Int(v)) == answer,
         Step::Fail(i, code, answer) => graph.has(i) && graph.fail(i, code) == answer,
+        Step::FailAs(i, failure, answer) => graph.has(i) && graph.fail_as(i, failure) == answer,
         Step::Cancel(i, answer) => graph.has(i) && graph.cancel(i) == answer,
         Step::Claim(i, answer) => graph.has(i) && graph.claim(0, i) == answer,
         Step::Granted(i, n) => graph.has(i) && graph.claim(0, i) == granted(n),

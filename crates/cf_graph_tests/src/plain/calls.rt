@@ -1,6 +1,6 @@
 //! Calls that are made by numbers.
 use cf_forms::Answer;
-use cf_model::Event;
+use cf_model::{Event, Failure};
 use cf_outcome::Value;
 
 /// Completes, fails or cancels a stage, or lets it be a moment, by the upper bits of a number.
@@ -11,9 +11,23 @@ fn settling(who: u8, stage: u16, x: u32) -> Event {
             let value = Value::Int(code as i32);
             Event::Complete { who, stage, value }
         }
-        1 => Event::Fail { who, stage, code },
+        1 => failing(who, stage, code),
         2 => Event::Cancel { who, stage },
         _ => Event::Tick { who, moment: code },
+    }
+}
+
+/// Fails a stage with a code, as timed out or with a bad answer.
+fn failing(who: u8, stage: u16, code: u32) -> Event {
+    let failure = match code {
+        2 => Failure::TimedOut,
+        3 => Failure::BadAnswer,
+        _ => return Event::Fail { who, stage, code },
+    };
+    Event::FailAs {
+        who,
+        stage,
+        failure,
     }
 }
 

@@ -4,6 +4,7 @@ ghost use Rattle.cf_model.specs.Events.{answered};
 ghost use Rattle.cf_model.specs.Ranges.{EventFits};
 
 use crate::graph::Plain;
+use crate::graph::changes::raw;
 use cf_model::{Event, Reply};
 use cf_outcome::{Cause, Outcome};
 use std::alloc::{AllocError, Global};
@@ -21,11 +22,7 @@ impl Plain {
                 Ok(Reply::Flag(done))
             }
             Event::Fail { stage, code, .. } => {
-                let thrown = Outcome::Fault {
-                    cause: Cause::Thrown(code),
-                    wrapped: false,
-                };
-                let done = self.settle(alloc, stage, thrown)?;
+                let done = self.settle(alloc, stage, raw(Cause::Thrown(code)))?;
                 Ok(Reply::Flag(done))
             }
             Event::FailAs { stage, failure, .. } => {

@@ -132,7 +132,7 @@ impl Plain {
 }
 
 /// A fault that stands by itself.
-fn raw(cause: Cause) -> Outcome
+pub(super) fn raw(cause: Cause) -> Outcome
     ensures { result ≡ Fault cause false }
 {
     Outcome::Fault {

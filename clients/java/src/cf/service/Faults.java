@@ -3,23 +3,52 @@ package cf.service;
 import java.util.Arrays;
 import java.util.concurrent.CancellationException;
 import java.util.concurrent.CompletionException;
+import java.util.concurrent.TimeoutException;
 
 /** The exceptions that a request's codes stand for, each as it is told: one for all who are told it. */
 final class Faults {
     private Throwable[] errors = new Throwable[2];
     private Fault[] raw = new Fault[2], wrapped = new Fault[2];
     private int count;
-    private Fault cancellation, wrappedCancellation;
+    private Uncoded cancellation, timeout;
 
     /** What an exception is told by: the stage's outcome, and what its function is called with. */
     static final class Fault {
         final Throwable error;
-        /** Its number in the request, or -1 of a cancellation. */
+        /** Its number in the request, or -1 of a cancellation, a timeout and what is no stage's. */
         final int code;
+        /** Whether a stage timed out: not that somebody's exception says so. */
+        final boolean isTimeout;
 
         Fault(Throwable error, int code) {
+            this(error, code, false);
+        }
+
+        private Fault(Throwable error, int code, boolean isTimeout) {
             this.error = error;
             this.code = code;
+            this.isTimeout = isTimeout;
+        }
+
+        boolean isWrapped() {
+            return error instanceof CompletionException;
+        }
+    }
+
+    /** What is told of all stages by one exception. */
+    private static final class Uncoded {
+        private final Fault raw;
+        private Fault wrapped;
+
+        Uncoded(Throwable error, boolean isTimeout) {
+            raw = new Fault(error, -1, isTimeout);
+        }
+
+        Fault told(boolean isWrapped) {
+            if (isWrapped && wrapped == null) {
+                wrapped = new Fault(new CompletionException(raw.error), -1, raw.isTimeout);
+            }
+            return isWrapped ? wrapped : raw;
         }
     }
 
@@ -39,13 +68,17 @@ final class Faults {
     /** A cancellation has no code: there is one for all stages. */
     Fault cancellation(boolean isWrapped) {
         if (cancellation == null) {
-            cancellation = new Fault(new CancellationException(), -1);
+            cancellation = new Uncoded(new CancellationException(), false);
         }
-        if (!isWrapped) {
-            return cancellation;
+        return cancellation.told(isWrapped);
+    }
+
+    /** Nor has a timeout. */
+    Fault timeout(boolean isWrapped) {
+        if (timeout == null) {
+            timeout = new Uncoded(new TimeoutException(), true);
         }
-        return wrappedCancellation != null ? wrappedCancellation
-                : (wrappedCancellation = new Fault(new CompletionException(cancellation.error), -1));
+        return timeout.told(isWrapped);
     }
 
     /** An exception that is one of completing isn't wrapped once more. */

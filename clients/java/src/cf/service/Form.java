@@ -23,11 +23,14 @@ enum Form {
     final boolean calls;
     /** Whether its function makes a stage. */
     final boolean composes;
+    /** Whether its function is called with its source's fault, as that is. */
+    final boolean handles;
 
     Form(String text) {
         this.text = text;
         calls = !text.equals("source") && !text.equals("allOf") && !text.equals("anyOf");
         composes = text.equals("compose") || text.equals("exceptionallyCompose");
+        handles = text.equals("handle") || text.equals("whenComplete") || text.startsWith("exceptionally");
     }
 
     static Form of(int number) {

@@ -277,6 +277,9 @@ public final class History {
                 return who + " completes " + on + " with " + value(Words.tag(word), Words.low(word)) + late(k);
             case Words.FAIL:
                 return who + " fails " + on + " with " + shown(errors[Words.low(word)]) + late(k);
+            case Words.FAIL_AS:
+                return who + (Words.tag(word) == Words.TIMED_OUT ? " times out " + on : " fails " + on + " as a bad answer")
+                        + late(k);
             default:
                 return who + " cancels " + on + late(k);
         }
@@ -293,7 +296,8 @@ public final class History {
             case OUTCOME:
                 int kind = argument(k, 5);
                 return ", with " + (kind == GIVES ? value(argument(k, 8), argument(k, 9))
-                        : kind == THROWN ? shown(errors[argument(k, 7)]) : "a cancellation");
+                        : kind == THROWN ? shown(errors[argument(k, 7)])
+                        : kind == CANCELLED ? "a cancellation" : kind == TIMED_OUT ? "a timeout" : "a bad answer");
             case ONE:
                 return ", with " + value(argument(k, 1), argument(k, 2));
             default:
@@ -320,8 +324,10 @@ public final class History {
 
     private String outcome(int what, int number) {
         boolean wrapped = (what & 16) != 0;
-        return (what & 0xf) == GIVES ? value(what >>> 5 & 1, number)
-                : ((what & 0xf) == THROWN ? shown(errors[number]) : "cancelled") + (wrapped ? ", wrapped" : "");
+        int kind = what & 0xf;
+        return kind == GIVES ? value(what >>> 5 & 1, number)
+                : (kind == THROWN ? shown(errors[number]) : kind == CANCELLED ? "cancelled"
+                : kind == TIMED_OUT ? "timed out" : "a bad answer") + (wrapped ? ", wrapped" : "");
     }
 
     private String shown(Object thing) {
@@ -452,13 +458,19 @@ public final class History {
         return text.toString();
     }
 
-    /** What {@code cf run} does again, and {@code cf_look} draws and makes a page of. */
+    /**
+     * What {@code cf run} does again, and {@code cf_look} draws and makes a page of. It is of version 3 where an event times a
+     * stage out, else of version 2.
+     */
     public String script() {
         StringBuilder steps = new StringBuilder();
+        int version = 2;
         for (int k = 0; k < events(); k++) {
             steps.append(k == 0 ? "" : ",").append(step(words[k]));
+            version = Words.kind(words[k]) == Words.FAIL_AS ? 3 : version;
         }
-        return "{\"cf\":2,\"room\":" + (stages - planned()) + ",\"stages\":[" + plan() + "],\"steps\":[" + steps + "]}";
+        return "{\"cf\":" + version + ",\"room\":" + (stages - planned()) + ",\"stages\":[" + plan() + "],\"steps\":["
+                + steps + "]}";
     }
 
     private String plan() {
@@ -484,6 +496,8 @@ public final class History {
                 return "[\"complete\"," + stage + "," + given + "]";
             case Words.FAIL:
                 return "[\"fail\"," + stage + "," + low + "]";
+            case Words.FAIL_AS:
+                return "[\"failAs\"," + stage + ",\"" + (tag == Words.TIMED_OUT ? "timeout" : "badanswer") + "\"]";
             case Words.CANCEL:
                 return "[\"cancel\"," + stage + "]";
             case Words.CLAIM:

@@ -18,6 +18,8 @@ final class Link extends AtomicReference<Object> implements BiConsumer<Object, T
 
     /** Until it is settled, or let go. */
     private volatile Stage<?> relay;
+    /** Whether a fault of the relay is wrapped for all who are told it. */
+    final boolean wraps;
     /** The stage at whose end nobody needs the relay any more, until it is told of this. */
     private Stage<?> behind;
 
@@ -76,9 +78,10 @@ final class Link extends AtomicReference<Object> implements BiConsumer<Object, T
         }
     }
 
-    Link(Stage<?> relay, Stage<?> behind) {
+    Link(Stage<?> relay, Stage<?> behind, boolean wraps) {
         this.relay = relay;
         this.behind = behind;
+        this.wraps = wraps;
     }
 
     /** The relay, which the caller is to settle; or null where that was done, or isn't needed. */

@@ -170,7 +170,7 @@ public final class Request implements AutoCloseable {
     }
 
     private static <U> Stage<U> failed(Stage<U> stage, Throwable error) {
-        stage.request.fail(stage.number, error, -1);
+        stage.request.fail(stage.number, error);
         return stage;
     }
 
@@ -194,16 +194,16 @@ public final class Request implements AutoCloseable {
             return (Stage<U>) of;
         }
         Link[] link = new Link[1];
-        Stage<U> relay = relay(of, link, 0);
+        Stage<U> relay = relay(of, link, 0, false);
         link[0].untilSettled(relay);
         return relay;
     }
 
-    /** A relay, and its link in this place of a row. */
-    private <U> Stage<U> relay(CompletionStage<U> of, Link[] links, int at) {
+    /** A relay, and its link in this place of a row; see {@link Link#wraps}. */
+    private <U> Stage<U> relay(CompletionStage<U> of, Link[] links, int at, boolean wraps) {
         Stage<U> relay = promise();
         relay.request.name(relay.number, "relay");
-        links[at] = new Link(relay, null);
+        links[at] = new Link(relay, null, wraps);
         News news = new News();
         Throwable thrown = hang(links[at], of, news);
         tell(news);
@@ -362,7 +362,7 @@ public final class Request implements AutoCloseable {
         Link[] links = new Link[count > 2 ? relays : 0];
         for (int k = 0, made = 0; made < links.length; k++) {
             if (isForeign(row[k])) {
-                row[k] = relay(row[k], links, made++);
+                row[k] = relay(row[k], links, made++, true);
             }
         }
         while (count > 2) {
@@ -392,7 +392,7 @@ public final class Request implements AutoCloseable {
         News news = null;
         Link[] links = foreign == 0 ? NO_LINKS : new Link[2];
         if (foreign == 0 || hasPlace(1 + foreign + (form.composes ? 1 : 0))) {
-            Stage<?> a = own(first, links, 0), b = own(second, links, 1);
+            Stage<?> a = own(form, first, links, 0), b = own(form, second, links, 1);
             // What went to a further request is of no use here.
             if ((a == null || a.request == this) && (b == null || b.request == this)) {
                 synchronized (ledger) {
@@ -422,9 +422,9 @@ public final class Request implements AutoCloseable {
         return stage;
     }
 
-    /** That stage, or a relay of it, whose link is in this place then. */
-    private Stage<?> own(CompletionStage<?> of, Link[] links, int at) {
-        return isForeign(of) ? relay(of, links, at) : (Stage<?>) of;
+    /** That stage, or a relay of it for a stage of this form, whose link is in this place then. */
+    private Stage<?> own(Form form, CompletionStage<?> of, Link[] links, int at) {
+        return isForeign(of) ? relay(of, links, at, !form.handles) : (Stage<?>) of;
     }
 
     private boolean isForeign(CompletionStage<?> of) {
@@ -574,13 +574,26 @@ public final class Request implements AutoCloseable {
         return did;
     }
 
-    boolean fail(int stage, Throwable error, int by) {
+    boolean fail(int stage, Throwable error) {
         checkDepth();
         News news = new News();
         boolean did;
         synchronized (ledger) {
             int who = who();
-            did = change(Words.fail(by < 0 ? who : by, stage, code(error)), who, news);
+            did = change(Words.fail(who, stage, code(error)), who, news);
+            claimNext(news, who);
+        }
+        tell(news);
+        return did;
+    }
+
+    boolean timeOut(int stage) {
+        checkDepth();
+        News news = new News();
+        boolean did;
+        synchronized (ledger) {
+            int who = who();
+            did = change(Words.failAs(CLOCK, stage, Words.TIMED_OUT), who, news);
             claimNext(news, who);
         }
         tell(news);
@@ -600,10 +613,14 @@ public final class Request implements AutoCloseable {
         return did;
     }
 
-    /** The word by which a relay is settled as a stage of this request or another one was. */
-    private long relayWord(int relay, Object told, boolean own) {
+    /** The word by which a relay is settled as a stage of this request or another one was; see {@link Link#wraps}. */
+    private long relayWord(int relay, Object told, boolean own, boolean wraps) {
         if (told instanceof Fault) {
             Fault fault = (Fault) told;
+            // Who would see that it isn't wrapped any more gets the exception itself.
+            if (fault.isTimeout && (wraps || !fault.isWrapped())) {
+                return Words.failAs(RELAY, relay, Words.TIMED_OUT);
+            }
             // The stage that is linked to a relay of this request has it wrapped in any case. A cancellation that says more keeps it.
             boolean isPlain = fault.code < 0 && fault.error.getClass() == CancellationException.class && fault.error.getMessage() == null;
             return isPlain ? Words.cancel(RELAY, relay) : Words.fail(RELAY, relay, own && fault.code >= 0 ? fault.code : code(fault.error));
@@ -646,14 +663,14 @@ public final class Request implements AutoCloseable {
     private static void relayed(Link link, Object told, News news) {
         Stage<?> relay = link.take();
         if (relay != null) {
-            relay.request.relayed(relay, told, news);
+            relay.request.relayed(relay, told, link.wraps, news);
         }
     }
 
-    private void relayed(Stage<?> relay, Object told, News news) {
+    private void relayed(Stage<?> relay, Object told, boolean wraps, News news) {
         synchronized (ledger) {
             int who = who();
-            change(relayWord(relay.number, told, false), who, news);
+            change(relayWord(relay.number, told, false, wraps), who, news);
             claimNext(news, who);
         }
     }
@@ -778,7 +795,7 @@ public final class Request implements AutoCloseable {
             if (link == null) {
                 news.fed = stage.more.nextFed;
             } else {
-                change(relayWord(link.take().number, stage.told, true), who, news);
+                change(relayWord(link.take().number, stage.told, true, true), who, news);
             }
         }
     }
@@ -993,12 +1010,12 @@ public final class Request implements AutoCloseable {
             return null;
         }
         if (own == null) {
-            return new Link(relay, at(number));
+            return new Link(relay, at(number), true);
         }
         if (own.told != null) {
-            change(relayWord(relay.number, own.told, true), who, news);
+            change(relayWord(relay.number, own.told, true, true), who, news);
         } else {
-            own.more().feeds = and(own.more().feeds, new Link(relay, null));
+            own.more().feeds = and(own.more().feeds, new Link(relay, null, true));
         }
         return null;
     }
@@ -1085,6 +1102,9 @@ public final class Request implements AutoCloseable {
     private Fault fault(int kind, boolean isWrapped, int code) {
         if (kind == History.CANCELLED) {
             return faults().cancellation(isWrapped);
+        }
+        if (kind == History.TIMED_OUT) {
+            return faults().timeout(isWrapped);
         }
         if (kind != History.THROWN) {
             throw new AssertionError("outcome " + kind);

@@ -381,7 +381,7 @@ public class Stage<T> extends CompletableFuture<T> {
 
     @Override
     public boolean completeExceptionally(Throwable error) {
-        return request.fail(number, Objects.requireNonNull(error), -1);
+        return request.fail(number, Objects.requireNonNull(error));
     }
 
     @Override
@@ -415,7 +415,7 @@ public class Stage<T> extends CompletableFuture<T> {
     @Override
     public Stage<T> orTimeout(long timeout, TimeUnit unit) {
         Objects.requireNonNull(unit);
-        return at(timeout, unit, () -> request.fail(number, new TimeoutException(), Request.CLOCK));
+        return at(timeout, unit, () -> request.timeOut(number));
     }
 
     @Override

@@ -2,7 +2,10 @@ package cf.service;
 
 /** Events as words of 64 bits: kind, who (bit 48), stage (36), tag (32), and 32 bits more (docs/FORMATS.md). */
 final class Words {
-    static final int COMPLETE = 1, FAIL = 2, CANCEL = 3, CLAIM = 4, FINISH = 5, TICK = 6, ATTACH = 7;
+    static final int COMPLETE = 1, FAIL = 2, CANCEL = 3, CLAIM = 4, FINISH = 5, TICK = 6, ATTACH = 7, FAIL_AS = 8;
+
+    /** As what FAIL_AS fails a stage. */
+    static final int TIMED_OUT = 0, BAD_ANSWER = 1;
 
     /** What stands for null where the number of a value is asked for. */
     static final int NIL = -1;
@@ -17,6 +20,10 @@ final class Words {
 
     static long fail(int who, int stage, int code) {
         return head(FAIL, who, stage) | low(code);
+    }
+
+    static long failAs(int who, int stage, int failure) {
+        return head(FAIL_AS, who, stage) | (long) failure << 32;
     }
 
     static long cancel(int who, int stage) {
@@ -43,7 +50,7 @@ final class Words {
         return head(ATTACH, who, first) | (long) sources << 32 | (long) form.ordinal() << 24 | (long) second << 12 | function;
     }
 
-    private static final String[] NAMES = {"", "complete", "fail", "cancel", "claim", "finish", "tick", "attach"};
+    private static final String[] NAMES = {"", "complete", "fail", "cancel", "claim", "finish", "tick", "attach", "failAs"};
 
     /** Its call's name in scripts. */
     static String name(long word) {

@@ -143,6 +143,31 @@ final class LedgerTest {
         pool.shutdown();
     }
 
+    /** A history tells both causes, of which requests have but the first. */
+    static void failedAs() {
+        Ledger ledger = new Ledger(null, 8);
+        ledger.attachLater(source());
+        ledger.attachLater(Words.attach(WHO, Form.HANDLE, 1, 0, 0, 1));
+        ledger.attachLater(source());
+        for (long word : new long[] {Words.failAs(WHO, 0, Words.BAD_ANSWER), Words.claim(WHO, 1),
+            Words.failAs(WHO, 2, Words.TIMED_OUT), Words.failAs(WHO, 2, Words.BAD_ANSWER)}) {
+            ledger.apply(word, Ledger.NOBODY, -1);
+        }
+        String[] threads = {"main"};
+        History history = new History("causes", null, ledger, new String[3], new Object[0], new Throwable[0], threads);
+        is(history.script(), "{\"cf\":3,\"room\":3,\"stages\":[],\"steps\":[[\"attach\",{\"form\":\"source\"}],"
+                + "[\"attach\",{\"form\":\"handle\",\"of\":[0],\"fn\":{\"const\":1}}],[\"attach\",{\"form\":\"source\"}],"
+                + "[\"failAs\",0,\"badanswer\"],[\"claim\",2,1],[\"failAs\",2,\"timeout\"],[\"failAs\",2,\"badanswer\"]]}");
+        is(history.report(), "attached 0\nattached 1\nattached 2\ntrue\ngranted got fault badanswer raw\ntrue\nfalse\n"
+                + "stage 0 fault badanswer raw\nstage 1 pending\nstage 2 fault timeout raw\n");
+        String said = history.toString();
+        is(said.contains("main fails 0 source as a bad answer\n") && said.contains("0 source ends: a bad answer\n"), true);
+        is(said.contains("main claims 1 handle and is granted, with a bad answer\n"), true);
+        is(said.contains("main times out 2 source\n") && said.contains("2 source ends: timed out\n"), true);
+        is(said.contains("main fails 2 source as a bad answer, too late\n"), true);
+        ledger.rest();
+    }
+
     /** Several threads start a flow that nobody has started yet: it gets one plan, and each request is whole. */
     static void startedTogether() throws Exception {
         int threads = 4;

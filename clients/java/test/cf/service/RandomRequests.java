@@ -8,18 +8,21 @@ import java.util.ArrayList;
 import java.util.Collections;
 import java.util.List;
 import java.util.Random;
+import java.util.concurrent.CancellationException;
 import java.util.concurrent.CompletableFuture;
+import java.util.concurrent.CompletionException;
 import java.util.concurrent.CountDownLatch;
 import java.util.concurrent.ExecutorService;
 import java.util.concurrent.Executors;
 import java.util.concurrent.TimeUnit;
+import java.util.concurrent.TimeoutException;
 import java.util.function.Function;
 
 /**
- * Random requests that eight threads race on: attaching stages of all forms, also behind stages of another request and behind other
- * futures, settling, cancelling, timing out, asking and waiting. Half of them are of a flow. A line is written for the request and one for the
- * other: account, script, report. What an account can't tell is checked here: that a stage once seen settled stays so, that all are settled at
- * the end, and that each shows what its history says it holds.
+ * Random requests that eight threads race on: attaching stages of all forms, also behind stages of another request, which may
+ * time out, and behind other futures, settling, cancelling, timing out, asking and waiting. Half of them are of a flow. A line is
+ * written for the request and one for the other: account, script, report. What an account can't tell is checked here: that a
+ * stage once seen settled stays so, that all are settled at the end, and that each shows what its history says it holds.
  *
  * <p>{@code RandomRequests FIRST COUNT}
  */
@@ -39,7 +42,7 @@ public final class RandomRequests {
     private final Service service = new Service(POOL);
     private final List<Stage<Object>> made = Collections.synchronizedList(new ArrayList<>());
     private final Request other = service.request("other");
-    private final Stage<Object> outside = other.promise();
+    private final Stage<Object> outside = other.promise(), behindOutside = outside.thenApply(x -> x);
     private final CompletableFuture<Object> foreign = new CompletableFuture<>();
     private final Request request;
     private final long seed;
@@ -99,6 +102,9 @@ public final class RandomRequests {
         if (!wrong.isEmpty()) {
             throw new AssertionError(wrong.get(0));
         }
+        if (seed % 4 == 0) {
+            other.timeOut(outside.number());
+        }
         outside.complete("outside");
         foreign.complete("foreign");
         settle();
@@ -131,9 +137,21 @@ public final class RandomRequests {
             String end = history.end(stage.number());
             String wanted = stage.isCancelled() ? "fault cancelled raw" : stage.isCompletedExceptionally() ? "fault"
                     : stage.getNow(null) == null ? "value nil" : "value ";
-            if (!end.startsWith(wanted) || wanted.equals("value ") && end.equals("value nil")) {
+            if (!end.startsWith(wanted) || wanted.equals("value ") && end.equals("value nil")
+                    || end.startsWith("fault timeout") != isTimedOut(stage)) {
                 throw new AssertionError(stage + " of which the history says " + end);
             }
+        }
+    }
+
+    private static boolean isTimedOut(Stage<Object> stage) {
+        try {
+            stage.join();
+            return false;
+        } catch (CompletionException error) {
+            return error.getCause() instanceof TimeoutException;
+        } catch (CancellationException cancelled) {
+            return false;
         }
     }
 
@@ -176,7 +194,7 @@ public final class RandomRequests {
         Stage<Object> one = any(random), two = any(random);
         boolean async = random.nextBoolean();
         Function<Object, Object> fn = x -> give(random);
-        switch (random.nextInt(24)) {
+        switch (random.nextInt(26)) {
             case 0: made.add(request.promise()); break;
             case 1: made.add(request.supplyAsync(() -> give(random))); break;
             case 2: made.add(async ? one.thenApplyAsync(fn) : one.thenApply(fn)); break;
@@ -200,6 +218,8 @@ public final class RandomRequests {
             case 20: made.add(one.thenCompose(x -> foreign)); break;
             case 21: made.add(cast(one.thenAccept(x -> give(random)).thenRun(() -> give(random)))); break;
             case 22: stays(one); break;
+            case 23: one.request().timeOut(one.number()); break;
+            case 24: made.add(async ? one.thenCompose(x -> behindOutside) : one.applyToEither(behindOutside, x -> x)); break;
             default: waits(one, random.nextInt(2));
         }
     }

@@ -77,6 +77,8 @@ public final class ServiceTest {
         test("errors of executors", ServiceTest::executorErrors);
         test("a row that is broken off", ServiceTest::brokenOff);
         test("timeouts", ServiceTest::timeouts);
+        test("what timed out", ServiceTest::timedOut);
+        test("relays of what timed out", ServiceTest::timedOutElsewhere);
         test("functions here", ServiceTest::here);
         test("functions of others", ServiceTest::elsewhere);
         test("one call", ServiceTest::oneCall);
@@ -100,6 +102,7 @@ public final class ServiceTest {
         test("cores used again", LedgerTest::usedAgain);
         test("requests of one plan each have a core", LedgerTest::oneCoreEach);
         test("attaches that fail", LedgerTest::failedAttach);
+        test("words that fail a stage for a cause", LedgerTest::failedAs);
         test("flows that several threads start first", LedgerTest::startedTogether);
         test("flows with errors", LedgerTest::flowErrors);
         test("a flow without steps", LedgerTest::emptyFlow);
@@ -900,6 +903,149 @@ public final class ServiceTest {
         go.countDown();
         is(one.get(20, TimeUnit.SECONDS) + two.get(20, TimeUnit.SECONDS), 3);
         last.cancel(true);
+    }
+
+    /** A stage that timed out has Java's exception, and the history says why. */
+    private static void timedOut() throws Exception {
+        Request request = SERVICE.request("slow");
+        Stage<Integer> asked = request.<Integer>promise().named("asked"), behind = asked.thenApply(x -> x).named("behind");
+        List<Throwable> seen = Collections.synchronizedList(new ArrayList<>());
+        Stage<Integer> saved = asked.handle((x, error) -> seen.add(error) ? 1 : 0);
+        Stage<Integer> last = behind.handle((x, error) -> seen.add(error) ? 2 : 0);
+        asked.orTimeout(1, TimeUnit.MILLISECONDS);
+        Throwable why = thrown(ExecutionException.class, () -> asked.get(20, TimeUnit.SECONDS)).getCause();
+        is(why.getClass() == TimeoutException.class && why.getMessage() == null, true);
+        is(saved.get(20, TimeUnit.SECONDS) + last.get(20, TimeUnit.SECONDS), 3);
+        is(seen.get(0) == why && seen.get(1) instanceof CompletionException && seen.get(1).getCause() == why, true);
+        is(thrown(CompletionException.class, asked::join).getCause() == why, true);
+        is(thrown(CompletionException.class, behind::join) == seen.get(1), true);
+        is(asked.isCompletedExceptionally() && !asked.isCancelled(), true);
+        is(asked.exceptionNow() == why && behind.exceptionNow() == why, true);
+        is(asked.toString().endsWith(": 0 asked: Completed exceptionally: java.util.concurrent.TimeoutException]"), true);
+        History history = request.history();
+        String said = history.toString();
+        is(said.contains("the clock times out 0 asked\n") && said.contains("0 asked ends: timed out\n"), true);
+        is(said.contains("1 behind ends: timed out, wrapped\n"), true);
+        is(said.contains("claims 2 handle and is granted, with a timeout\n"), true);
+        is(history.line().contains("; 2 failed: 0 asked by timed out; 0 open"), true);
+        is(history.script().startsWith("{\"cf\":3,\"room\":4,") && history.script().contains("[\"failAs\",0,\"timeout\"]"), true);
+        String report = history.report();
+        is(report.contains("\ngranted got fault timeout raw\n"), true);
+        is(report.contains("\ngranted got fault timeout wrapped\n"), true);
+        is(report.contains("\nstage 0 fault timeout raw\nstage 1 fault timeout wrapped\n"), true);
+        is(history.account().contains("\"errors\":[]"), true);
+        long word = 0;
+        for (long each : history.words()) {
+            word = Words.kind(each) == Words.FAIL_AS ? each : word;
+        }
+        is(word, 8L << 56);
+        is(Words.name(word), "failAs");
+        // All of a request have one; who comes too late is told so.
+        Request other = SERVICE.request();
+        Stage<Integer> first = other.promise(), second = other.promise(), done = other.completedFuture(1);
+        is(other.history().script().startsWith("{\"cf\":2,"), true);
+        is(other.timeOut(first.number()) && other.timeOut(second.number()), true);
+        is(other.timeOut(done.number()) || other.timeOut(first.number()) || first.complete(1) || first.cancel(true), false);
+        is(first.exceptionNow() == second.exceptionNow() && first.exceptionNow() != why, true);
+        is(other.history().toString().contains("the clock times out 2 source, too late\n"), true);
+        is(other.history().report().endsWith("\ntrue\ntrue\nfalse\nfalse\nfalse\nfalse\n"
+                + "stage 0 fault timeout raw\nstage 1 fault timeout raw\nstage 2 value 0\n"), true);
+        // A flow's stage, and what is behind a minimal one.
+        Flow flow = new Flow("flow");
+        Flow.Step<Integer> given = flow.promise(), next = given.thenApply(x -> x);
+        Request begun = SERVICE.start(flow);
+        begun.stage(given).orTimeout(1, TimeUnit.MILLISECONDS);
+        Throwable cause = thrown(ExecutionException.class, () -> begun.stage(next).get(20, TimeUnit.SECONDS)).getCause();
+        is(cause instanceof TimeoutException && begun.stage(given).exceptionNow() == cause, true);
+        CompletionStage<Integer> minimal = begun.stage(given).minimalCompletionStage();
+        is(thrown(CompletionException.class, () -> minimal.toCompletableFuture().join()).getCause() == cause, true);
+    }
+
+    private static String end(Stage<?> stage) {
+        return stage.request().history().end(stage.number());
+    }
+
+    /** A relay of a stage that timed out ends so, too, where nobody is told another exception for it. */
+    private static void timedOutElsewhere() throws Exception {
+        for (int round = 0; round < 4; round++) {
+            boolean wrapped = round % 2 == 1, before = round / 2 == 1;
+            Request other = SERVICE.request();
+            Stage<Integer> slow = other.promise(), of = wrapped ? slow.thenApply(x -> x) : slow;
+            if (before) {
+                other.timeOut(slow.number());
+            }
+            Request three = SERVICE.request();
+            List<Stage<?>> behind = Arrays.asList(SERVICE.request().<Integer>promise().applyToEither(of, x -> x),
+                    SERVICE.request().completedFuture(1).thenCombine(of, Integer::sum),
+                    SERVICE.request().completedFuture(1).thenCompose(x -> of),
+                    SERVICE.request().<Integer>failedFuture(new IllegalStateException()).exceptionallyCompose(error -> of),
+                    three.anyOf(three.promise(), of, three.promise()));
+            Stage<Integer> adopted = SERVICE.request().adopt(of);
+            if (!before) {
+                other.timeOut(slow.number());
+            }
+            for (Stage<?> each : behind) {
+                is(thrown(CompletionException.class, each::join).getCause().getClass(), TimeoutException.class);
+                is(end(each), "fault timeout wrapped");
+                is(each.request().history().toString().contains("a relay times out "), true);
+            }
+            Throwable told = ((Faults.Fault) of.told).error;
+            is(adopted.handle((x, error) -> wrapped ? error == told : error.getClass() == TimeoutException.class).join(), true);
+            is(end(adopted), wrapped ? "fault thrown 0 raw" : "fault timeout raw");
+            furtherTimedOut(wrapped);
+            linkedTimedOut(wrapped);
+        }
+        // What is somebody's own exception stays that.
+        Request request = SERVICE.request();
+        TimeoutException why = new TimeoutException("why");
+        CompletableFuture<Integer> foreign = new CompletableFuture<>();
+        Stage<Integer> other = SERVICE.request().failedFuture(why);
+        List<Stage<Integer>> made = Arrays.asList(request.adopt(foreign), request.adopt(other), request.failedFuture(why));
+        foreign.completeExceptionally(why);
+        for (Stage<Integer> each : made) {
+            is(each.exceptionNow() == why, true);
+            is(end(each), "fault thrown 0 raw");
+        }
+        is(request.history().script().startsWith("{\"cf\":2,"), true);
+    }
+
+    /** Functions in a further request are called with what they would be called with in the first one. */
+    private static void furtherTimedOut(boolean wrapped) {
+        Request request = SERVICE.request().goesOn();
+        Stage<Integer> slow = request.promise(), of = wrapped ? slow.thenApply(x -> x) : slow;
+        while (request.next() == null) {
+            request.promise();
+        }
+        List<Throwable> seen = new ArrayList<>();
+        List<Stage<?>> behind = Arrays.asList(of.handle((x, error) -> seen.add(error)),
+                of.whenComplete((x, error) -> seen.add(error)), of.exceptionally(error -> seen.add(error) ? 1 : 0),
+                of.exceptionallyCompose(error -> seen.add(error) ? of : null));
+        Stage<Integer> passed = of.thenApply(x -> x);
+        request.timeOut(slow.number());
+        is(seen.size(), behind.size());
+        for (Throwable each : seen) {
+            is(each.getClass(), wrapped ? CompletionException.class : TimeoutException.class);
+        }
+        is(end(passed), "fault timeout wrapped");
+        is(request.next().history().toString().split("a relay times out ", -1).length - 1, wrapped ? 2 : 6);
+    }
+
+    /** What a function gave stands behind its stage in the request, and is settled later, or by then. */
+    private static void linkedTimedOut(boolean wrapped) {
+        Request request = SERVICE.request();
+        Stage<Integer> first = request.promise(), second = request.promise();
+        List<Stage<Integer>> given = new ArrayList<>();
+        Stage<Integer> later = first.thenCompose(x -> given.get(0)), then = second.thenCompose(x -> given.get(0));
+        Stage<Integer> slow = request.promise();
+        given.add(wrapped ? slow.thenApply(x -> x) : slow);
+        first.complete(1);
+        request.timeOut(slow.number());
+        second.complete(2);
+        for (Stage<Integer> each : Arrays.asList(later, then)) {
+            is(each.exceptionNow() == slow.exceptionNow(), true);
+            is(end(each), "fault timeout wrapped");
+        }
+        is(request.history().toString().split("a relay times out ", -1).length - 1, 2);
     }
 
     /** Without Async each function is called once, the lowest stage's first, also those that a function makes ready meanwhile. */
