@@ -7,4 +7,7 @@ pub mod CalledOnce
 pub mod EachOnce
 pub mod Pools
 pub mod Runs
+pub mod ClaimedStages
+pub mod Quiet
 pub mod Racing
+pub mod PlainRuns
