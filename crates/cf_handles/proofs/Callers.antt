@@ -1,9 +1,10 @@
 -- A caller is asked behind its handle.
 use Rattle.std.proofs.Common.{◌≡◌, refl}
-use Rattle.std.specs.Prelude.{Option, Result}
+use Rattle.std.specs.Prelude.{false, Option, Some, None, Result, Ok}
 use Rattle.cf_handles.specs.Desks.{ByCaller, IsSameCaller}
 use Rattle.cf_handles.specs.Meetings.{MeetsCaller, MeetsHeld}
-use Rattle.cf_handles.specs.Notices.{HeedsBehind, HeedsFrom, IsUnchanged, NotesBehind, NotesTo}
+use Rattle.cf_handles.specs.Notices.{HeedsBehind, HeedsFrom, IsNoted, IsUnchanged, NotesBehind, NotesTo}
+use Rattle.cf_handles.specs.Seals.{is_full}
 use Rattle.cf_handles.specs.declared.handle.object.Caller.{Caller as Caller'}
 use Rattle.cf_handles.specs.declared.code.Code.{Code}
 use Rattle.cf_handles.specs.declared.handle.object.Object.{Object}
@@ -16,6 +17,10 @@ at_caller Asks h c d r is same asked = rw is (record { now = d; is = refl; same 
 pub are_met : (h g : Object) (c d newer other : Caller') (r : Result (Unit {0}) Code)
     → h ≡ Caller c → g ≡ Caller d → MeetsCaller c d r newer other → MeetsHeld h g r (Caller newer) (Caller other)
 are_met h g c d newer other r is given_is meets = rw (is, given_is) (record { newer = newer; other = other; is = refl; left_is = refl; meets = meets })
+
+pub notes_to : (c : Caller') (had back : Option Object) → is_full had ≡ false → IsNoted c back → NotesTo c had (Ok tt) back
+notes_to c None back free noted = noted
+notes_to c (Some there) back free noted = cc
 
 pub at_notes : (h : Object) (c d : Caller') (had back : Option Object) (r : Result (Unit {0}) Code)
     → h ≡ Caller c → IsUnchanged c d → NotesTo c had r back → NotesBehind had back h r (Caller d)

@@ -17,7 +17,7 @@ pub record IsUnchanged (c d : Caller') : Type 0 where
 
 -- it tells of all that the caller has seen, on the caller's desk
 pub record IsNoticeOf (c : Caller') (n : Noted') : Type 0 where
-  pub desk : n.desk ≡ c.desk
+  pub desk : arc_value n.desk ≡ arc_value c.desk
   pub seen : n.notice.seen ≡ c.pass.known.seen
 
 pub record IsNoted (c : Caller') (back : Option Object) : Type 0 where
