@@ -7,6 +7,7 @@ mod desks;
 mod ends;
 mod example;
 mod growing;
+mod heeding;
 mod late;
 mod listing;
 mod room;

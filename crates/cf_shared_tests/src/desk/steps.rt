@@ -5,6 +5,7 @@ use crate::checks::holds;
 use crate::desk::beside::{Work, join_beside};
 use crate::desk::desks::{Opening, act_all, act_on_threads, close_two, open_two};
 use crate::desk::ends::{End, check_ends};
+use crate::desk::heeding::heed_beside;
 use cf_desk::{Ask, Call, Closed, Desk, DeskFault, Joined, Pass, Told};
 use cf_model::Reply;
 use std::alloc::Global;
@@ -45,6 +46,10 @@ pub(crate) enum Turn {
     /// The second caller works, while the first one joins.
     FirstJoins(Work),
     Meet,
+    /// The second caller heeds what the first one has seen, on a thread of its own, while the first one makes these calls.
+    SecondHeeds(&'static [Call]),
+    /// The first caller heeds what the second one has seen.
+    FirstHeeds(&'static [Call]),
     /// The desk is for so many words, callers and functions.
     DeskIsFor(u16, u8, u32),
     /// The desk was opened with a stage, or wasn't.
@@ -97,6 +102,14 @@ fn is_taken<R: Threads + Sync>(rt: &R, desk: &Desk, a: &mut Pass, b: &mut Pass, 
         }
         Turn::Meet => {
             desk.meet(a, b);
+            true
+        }
+        Turn::SecondHeeds(calls) => {
+            heed_beside(rt, desk, a, b, calls);
+            true
+        }
+        Turn::FirstHeeds(calls) => {
+            heed_beside(rt, desk, b, a, calls);
             true
         }
         Turn::DeskIsFor(words, callers, functions) => {

@@ -131,6 +131,26 @@ fn meet_levels(rt: HostRuntime) {
     play(&rt, rt.alloc(), small(4, 4), &MEETING, &[End::Events(2)]);
 }
 
+const HEEDING: [Turn; 12] = [
+    Turn::First(Step::Acts(COMPLETES, Ok(Reply::Flag(true)))),
+    Turn::Second(Step::Has(0, 4)),
+    Turn::SecondHeeds(&[Call::Tick(0)]),
+    Turn::First(Step::Has(2, 2)),
+    Turn::Second(Step::Has(1, 4)),
+    Turn::Second(Step::Acts(Call::Cancel(0), Ok(Reply::Flag(false)))),
+    Turn::First(Step::Has(2, 2)),
+    Turn::Second(Step::Has(3, 3)),
+    Turn::SecondHeeds(&[]),
+    Turn::Second(Step::Has(3, 3)),
+    Turn::FirstHeeds(&[]),
+    Turn::First(Step::Has(3, 2)),
+];
+
+#[test]
+fn a_notice_is_heeded_on_another_thread(rt: HostRuntime) {
+    play(&rt, rt.alloc(), small(4, 4), &HEEDING, &[End::Events(3)]);
+}
+
 const WORKING: [Turn; 5] = [
     Turn::First(Step::FindsReady(Some(1))),
     Turn::First(Step::Acts(Call::Claim(1), Ok(CLAIMED))),
