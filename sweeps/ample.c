@@ -16,6 +16,7 @@ static const uint32_t SIZES[] = {0, 1, 2, 3, 4, 5, 7, 8, 9, 15, 16, 17, 31, 32, 
     1000, 1001, 1023, 1024, 1025, 2047, 2048, 2049, 4094, 4095, 4096, 4097, 8191, 8192, 8193, 16383, 16384, 16385, 20000, 20001, 32767, 32768, 32769,
     65534, 65535};
 enum { COUNT = sizeof SIZES / sizeof *SIZES, STAGES = 4096, EDGES = 16384, LIMITS = 4096, CALLERS = 64, STEPS = 20000, TEXT = 1048576 };
+enum { WORDS = 131073 }; /* of a ledger, which has no bound */
 
 static long made, wrong;
 static int is_short;
@@ -155,6 +156,41 @@ static void desks(void) {
   cf_free(&plan);
 }
 
+/* Ledgers of each number of words, done one by one, in a row and read back, and past 65,535 of them; with each room, filled and grown. */
+static void ledgers(void) {
+  static uint64_t words[WORDS];
+  cf_handle plan = {0}, ledger = {0}, again = {0};
+  cf_event complete = {.call = CF_CALL_COMPLETE, .value = {CF_INT, 1}};
+  cf_event attach = {.call = CF_CALL_ATTACH, .form = CF_COMBINE, .sources = 2, .function = 7};
+  cf_reply reply;
+  uint64_t attached;
+  size_t n = 0;
+  plan_of(&plan, 1, 0, 0, 0);
+  wants(cf_build(&plan), CF_OK, "build", 1, 0);
+  for (size_t k = 0; k < WORDS; ++k) wants(cf_word_of_event(&complete, &words[k]), CF_OK, "word_of_event", (uint32_t)k, 0);
+  wants(cf_ledger_new(&plan, 0, &ledger), CF_OK, "ledger_new", 0, 0);
+  for (size_t k = 0; k < WORDS; ++k) wants(cf_ledger_apply(&ledger, words[k], &reply, NULL, 0, &n), CF_OK, "ledger_apply", (uint32_t)k, 0);
+  for (size_t i = 0; i <= COUNT; ++i) {
+    size_t of = i == COUNT ? WORDS : SIZES[i], done = 0;
+    wants(cf_ledger_restart(&ledger), CF_OK, "ledger_restart", (uint32_t)of, 0);
+    wants(cf_ledger_apply_all(&ledger, words, of, &done), CF_OK, "ledger_apply_all", (uint32_t)of, 0);
+    wants((uint32_t)done, (uint32_t)of, "what ledger_apply_all did", (uint32_t)of, 0);
+    wants(cf_ledger_of(&plan, 0, words, of, &again, &done), CF_OK, "ledger_of", (uint32_t)of, 0);
+    cf_free(&again);
+  }
+  cf_free(&ledger);
+  wants(cf_word_of_event(&attach, &attached), CF_OK, "word_of_event", 7, 0);
+  for (size_t i = 0; i < COUNT && SIZES[i] < STAGES; i += is_short ? 4 : 1) {
+    uint32_t room = SIZES[i];
+    wants(cf_ledger_new(&plan, (uint16_t)room, &ledger), CF_OK, "ledger_new", room, 0);
+    for (uint32_t k = 0; k <= room; ++k)
+      wants(cf_ledger_apply(&ledger, attached, &reply, NULL, 0, &n), k < room ? CF_OK : CF_NO_ROOM, "ledger_apply", room, k);
+    wants(cf_ledger_grow(&ledger, 1), room + 2 <= STAGES ? CF_OK : CF_ROOM, "ledger_grow", room, 1);
+    cf_free(&ledger);
+  }
+  cf_free(&plan);
+}
+
 static uint8_t text[TEXT + 2], report[TEXT];
 
 static void run(size_t n, size_t room, uint32_t wanted, uint32_t number) {
@@ -188,6 +224,7 @@ int main(int n, char **words) {
   plans();
   graphs();
   desks();
+  ledgers();
   scripts();
   printf("%ld of %ld calls answered otherwise\n", wrong, made);
   return wrong != 0;
