@@ -126,6 +126,8 @@ static void caller_calls(cf_handle *h, uint32_t wanted) {
   ROW(cf_desk_caller(h, &out.small), wanted);
   ROW(cf_close_begin(h), wanted);
   ROW(cf_desk_meet(h, &empty), wanted == CF_WRONG_KIND ? CF_EMPTY : wanted);
+  ROW(cf_desk_notice(h, &empty), wanted);
+  ROW(cf_desk_heed(h, &empty), wanted);
 }
 
 static void closing_calls(cf_handle *h, uint32_t wanted) {

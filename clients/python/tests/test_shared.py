@@ -1055,18 +1055,19 @@ class Services(Case):
 
     def test_a_promise_that_timed_out_before_it_was_linked_to(self):
         for service, name in self.each():
-            r, begun = service.request(name), threading.Event()
+            r, begun, goes_on = service.request(name), threading.Event(), threading.Event()
             number = r.promise("number")
 
             def composing(request, number):
                 begun.set()
-                time.sleep(0.3)
+                goes_on.wait(20)
                 return request.promise("late")
             service.function(f"composing {name}")(composing)
             composed = number.compose(composing)
             number.complete(1)
             self.assertTrue(begun.wait(20))
             error = r[composed.number - 1].or_timeout(0.01).exception(20)
+            goes_on.set()
             self.assertEqual(str(composed.exception(20)), str(error))
 
     def test_rows_and_timers_of_before(self):

@@ -11,7 +11,8 @@
  * What C owes, and nothing can check (docs/C.md has more):
  *   - a handle isn't copied and then used twice; it may be moved, by memcpy too, if the old one isn't used again;
  *   - one call at a time has a handle, and the handles of one call are different ones; no handle is another thread's meanwhile;
- *   - the callers of cf_desk_meet, and those given to one closing, are of one desk; where they are seen not to be, CF_OTHER_DESK is told;
+ *   - the callers of cf_desk_meet, the caller and the notice of cf_desk_heed, and the callers given to one closing, are of one desk; where they
+ *     are seen not to be, CF_OTHER_DESK is told;
  *   - each pointer is aligned, and to as many elements as said, in memory that no other call uses meanwhile.
  * A null pointer is answered CF_NULL, unless a count or a room follows it that is 0; cf_free of one does nothing.
  *
@@ -314,6 +315,13 @@ uint32_t cf_desk_ready(cf_handle *caller, uint16_t *stage);
 /* Lets two callers of one desk, both in this thread's hands, see the longer of what either has seen. CF_OTHER_DESK leaves
  * both as they were. */
 uint32_t cf_desk_meet(cf_handle *caller, cf_handle *other);
+
+/* Puts what the caller has seen behind an empty handle: a notice, which may go to another thread by any way. CF_FULL, CF_NO_MEMORY, in this
+ * order. Then another caller of the desk heeds it: it sees all of that, so that each later call of it stands behind that in the history. The
+ * notice is used up, and its handle empty; CF_OTHER_DESK leaves both as they were. A notice holds its desk, so heed or free it before the
+ * desk is closed. */
+uint32_t cf_desk_notice(cf_handle *caller, cf_handle *notice);
+uint32_t cf_desk_heed(cf_handle *caller, cf_handle *notice);
 
 /* Without a look: how many events the caller has seen; how many records it still takes; the number of a stage's function, or CF_NOTHING,
  * or CF_NO_STAGE where it hasn't seen that stage; the caller's number. */

@@ -20,7 +20,7 @@ LATER: Dict[str, str] = {
     **dict.fromkeys(["cf_restart_with", "cf_plan_of", "cf_ledger_step", "cf_ledger_apply_all", "cf_ledger_restart"], "1.1"),
     **dict.fromkeys(["cf_round", "cf_desk_next", "cf_desk_complete_many"], "1.2"),
     **dict.fromkeys(["cf_sweep_begin", "cf_sweep_next", "cf_sweep_end"], "1.3"),
-    **dict.fromkeys(["cf_fail_as", "cf_desk_fail_as"], "1.4"),
+    **dict.fromkeys(["cf_fail_as", "cf_desk_fail_as", "cf_desk_notice", "cf_desk_heed"], "1.4"),
 }
 TEXT = """#include "cf.h"
 #include <string.h>

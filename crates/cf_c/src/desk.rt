@@ -8,13 +8,14 @@ ghost use Rattle.cf_handles.specs.Desks.{Acts, ByCaller, FindsReady, IsLeft, Joi
 ghost use Rattle.cf_handles.specs.EventWords.{failing_call, failure_of};
 ghost use Rattle.cf_handles.specs.Ledgers.{Writes};
 ghost use Rattle.cf_handles.specs.Meetings.{AreOfOne, MeetsBehind};
+ghost use Rattle.cf_handles.specs.Notices.{HeedsBehind, IsOfItsDesk, NotesBehind};
 ghost use Rattle.cf_handles.specs.Plans.{parts_of};
 ghost use Rattle.cf_handles.specs.Tasks.{Nexts};
 ghost use Rattle.cf_handles.specs.Values.{answer_of, value_of};
 
 use crate::handle::{ask, tell};
 use cf_desk::Call;
-use cf_handles::desk::{caller, completing, stepping};
+use cf_handles::desk::{caller, completing, noticing, stepping};
 use cf_handles::handle::CfHandle;
 use cf_handles::values::attaching::attach_call;
 use cf_handles::values::event::failing_call;
@@ -257,4 +258,21 @@ pub extern "C" fn cf_desk_meet(alloc: Global, h: &mut CfHandle, other: &mut CfHa
     ensures { Does (MeetsBehind other.old.inner.held other.new.inner.held) h.old.inner.held h.new.inner.held result }
 {
     ask!(alloc, h, held => caller::meet_behind(alloc, &mut held, other))
+}
+
+/// Puts what the caller has seen behind an empty handle: a notice.
+#[unsafe(no_mangle)]
+pub extern "C" fn cf_desk_notice(alloc: Global, h: &mut CfHandle, notice: &mut CfHandle) -> u32
+    ensures { Does (NotesBehind notice.old.inner.held notice.new.inner.held) h.old.inner.held h.new.inner.held result }
+{
+    ask!(alloc, h, held => noticing::note_behind(alloc, &mut held, notice))
+}
+
+/// Lets the caller see all that a notice tells of, which is used up by it. They are of one desk, which C owes.
+#[unsafe(no_mangle)]
+pub extern "C" fn cf_desk_heed(alloc: Global, h: &mut CfHandle, notice: &mut CfHandle) -> u32
+    requires { IsOfItsDesk h.old.inner.held notice.old.inner.held }
+    ensures { Does (HeedsBehind notice.old.inner.held notice.new.inner.held) h.old.inner.held h.new.inner.held result }
+{
+    ask!(alloc, h, held => noticing::heed_behind(alloc, &mut held, notice))
 }

@@ -28,7 +28,7 @@ use Rattle.cf_event.proofs.Events.{events_after, events_each}
 use Rattle.cf_desk.specs.Records.{Fits}
 use Rattle.cf_desk.specs.Rule.{AllStand, IsLookOf, weight, count_in, IsRow, RowKept, holds, longer_if, longest, with_seen, level, AllCatch, AllShort, blank, fresh, first, head_of, rest_of}
 use Rattle.cf_desk.specs.Views.{Pass, Desk, knowns, Closes, IsOneOf, IsLatest, IsOf, new_pass, opened, known_of}
-use Rattle.cf_desk.specs.Keepings.{IsFit, IsKeptFit, AllFit, pass_did}
+use Rattle.cf_desk.specs.Keepings.{IsCallers, IsFit, IsKeptFit, AllFit, pass_did}
 use Rattle.std.specs.List.{Contains}
 use Rattle.cf_desk.specs.Desks.{Agrees}
 use Rattle.cf_desk.proofs.Recs.{fits_more, fits_new}
@@ -66,22 +66,26 @@ unfolding below hits
 below_cons zero k ks = refl
 below_cons (suc n) k ks = let r = below_cons n k ks in omega arith
 
-below_all : (t : DeskConfig) (log : List Event) (v : List CallerView) → AllStand t log v → below t.callers v ≡ length v
-below_all t log [] h = below_none t.callers
-below_all t log (k ∷ ks) h = let a = below_cons t.callers k ks in let o = hits_one t.callers k.caller h.0.caller in let r = below_all t log ks h.1 in omega arith
+-- the pass is of one of so many callers
+abbrev pub IsOneOfMany : ℕ → CallerView → Type 0
+IsOneOfMany n k = k.caller < n
 
-below_le : (n : ℕ) (v : List CallerView) → ((c : ℕ) → count_in c v ≤ 1) → below n v ≤ n
+below_all : (n : ℕ) (v : List CallerView) → All (IsOneOfMany n) v → below n v ≡ length v
+below_all n [] h = below_none n
+below_all n (k ∷ ks) h = let a = below_cons n k ks in let o = hits_one n k.caller (All-head (IsOneOfMany n) k ks h) in let r = below_all n ks (All-tail (IsOneOfMany n) k ks h) in omega arith
+
+below_le : (n : ℕ) (v : List CallerView) → ((c : ℕ) → c < n → count_in c v ≤ 1) → below n v ≤ n
 unfolding below
 below_le zero v once = omega arith
-below_le (suc n) v once = let o = once n in let r = below_le n v once in omega arith
+below_le (suc n) v once = let o = once n (omega arith) in let r = below_le n v (λ c lt. once c (omega arith)) in omega arith
 
 -- n passes of callers below n, no two of one caller: each has one
-all_there : (n : ℕ) (v : List CallerView) → ((c : ℕ) → count_in c v ≤ 1) → below n v ≡ n → (c : ℕ) → c < n → count_in c v ≡ 1
+all_there : (n : ℕ) (v : List CallerView) → ((c : ℕ) → c < n → count_in c v ≤ 1) → below n v ≡ n → (c : ℕ) → c < n → count_in c v ≡ 1
 unfolding below
 all_there zero v once full c h = absurd (omega arith)
-all_there (suc n) v once full c h = let o = once n in let le = below_le n v once in dite (ℕ_discrete c n)
+all_there (suc n) v once full c h = let o = once n (omega arith) in let fewer : ((x : ℕ) → x < n → count_in x v ≤ 1) = λ x lt. once x (omega arith) in let le = below_le n v fewer in dite (ℕ_discrete c n)
     (λ (same : c ≡ n). let one : count_in n v ≡ 1 = omega arith in subst (λ x. count_in x v ≡ 1) (sym same) one)
-    (λ (ne : c ≢ n). all_there n v once (omega arith) c (let m : c ≢ n = ne in omega arith))
+    (λ (ne : c ≢ n). all_there n v fewer (omega arith) c (let m : c ≢ n = ne in omega arith))
 
 none_of : (callers : DeskConfig) (now rest : List Event) (v : List CallerView) → AllStand callers (now ++ rest) (map (with_seen now) v) → (c : ℕ) → count_in c v ≡ 1 → own c rest ≡ []
 none_of callers now rest [] h c one = absurd (omega arith)
@@ -97,23 +101,23 @@ nobodys callers s (w ∷ ws) events none =
     cc
 
 -- a seat that stands for as many passes as there are callers has seen the whole log
-pub whole : (t : LogConfig) (words : List ℕ) (views : List (List CallerView)) (h : RowKept t words views) (id : ℕ) (v : List CallerView) → get_elem? views id ≡ some v → length v ≡ t.setting.callers
+pub whole : (t : LogConfig) (words : List ℕ) (views : List (List CallerView)) (h : RowKept t words views) (id : ℕ) (v : List CallerView) → get_elem? views id ≡ some v → All (IsOneOfMany t.setting.callers) v → length v ≡ t.setting.callers
     → IsRow t (longest v) words × AllCatch (longest v) v
-whole t words views h id v at all =
+whole t words views h id v at callers all =
     let stand = h.known id v at in
     let begins = longest_begins t.setting h.log v stand in
     let p = stand_levelled t.setting h.log v stand in
-    let once : (c : ℕ) → count_in c v ≤ 1 = λ c. let a = h.apart c in let b = count_at c views id v at in omega arith in
-    let full : below t.setting.callers v ≡ t.setting.callers = below_all t.setting h.log v stand ∙ all in
+    let once : (c : ℕ) → c < t.setting.callers → count_in c v ≤ 1 = λ c lt. let a = h.apart c lt in let b = count_at c views id v at in omega arith in
+    let full : below t.setting.callers v ≡ t.setting.callers = below_all t.setting.callers v callers ∙ all in
     let none : begins.0 ≡ [] = nobodys t.setting (state_from t.setting.plan (longest v)) begins.0 (events_after t.setting.callers t.setting.functions (start t.setting.plan) (longest v) begins.0 (subst (AreLogged t.setting) begins.1 h.row.events))
     (λ c lt. none_of t.setting (longest v) begins.0 v (subst (λ l. AllStand t.setting l (level v)) begins.1 p.1) c (all_there t.setting.callers v once full c lt)) in
     let is : h.log ≡ longest v = begins.1 ∙ ap (λ l. longest v ++ l) none ∙ append-nil (longest v) in
     (subst (λ l. IsRow t l words) is h.row, p.0)
 
-pub each_there : (t : LogConfig) (words : List ℕ) (views : List (List CallerView)) (h : RowKept t words views) (id : ℕ) (v : List CallerView) → get_elem? views id ≡ some v → length v ≡ t.setting.callers → (c : ℕ) → c < t.setting.callers → count_in c v ≡ 1
-each_there t words views h id v at all c lt =
-    let once : (c : ℕ) → count_in c v ≤ 1 = λ c. let a = h.apart c in let b = count_at c views id v at in omega arith in
-    all_there t.setting.callers v once (below_all t.setting h.log v (h.known id v at) ∙ all) c lt
+pub each_there : (t : LogConfig) (words : List ℕ) (views : List (List CallerView)) (h : RowKept t words views) (id : ℕ) (v : List CallerView) → get_elem? views id ≡ some v → All (IsOneOfMany t.setting.callers) v → length v ≡ t.setting.callers → (c : ℕ) → c < t.setting.callers → count_in c v ≡ 1
+each_there t words views h id v at callers all c lt =
+    let once : (c : ℕ) → c < t.setting.callers → count_in c v ≤ 1 = λ c lt. let a = h.apart c lt in let b = count_at c views id v at in omega arith in
+    all_there t.setting.callers v once (below_all t.setting.callers v callers ∙ all) c lt
 
 -- a new row keeps the rule
 fresh_none : (n : DeskConfig) (c m x : ℕ) → x < c → count_in x (fresh n c m) ≡ 0
@@ -135,7 +139,7 @@ begins t words zeros = record {
   log = [];
   row = record { free = t.words; words_are = zeros; room = ap length zeros ∙ length-replicate {A = ℕ} t.words 0; events = tt };
   known = λ id v at. only id v at;
-  apart = λ c. let o = fresh_once t.setting 0 t.setting.callers c in omega arith;
+  apart = λ c below. let o = fresh_once t.setting 0 t.setting.callers c in omega arith;
 }
   where
     only : (id : ℕ) (v : List CallerView) → get_elem? (first t ∷ []) id ≡ some v → AllStand t.setting [] v
@@ -210,6 +214,12 @@ latest_whole t log most s v stand catch l =
     let is : l.seen ≡ longest v = sym (b.1.1 ∙ ap (λ x. l.seen ++ x) none ∙ append-nil l.seen) in
     l.state ∙ (λ i. state_from (b.0 i) (is i))
 
+-- a seat of passes stands for none but callers of their desk
+of_callers : (t : DeskConfig) (log : List Event) (ps : List Pass) → AllStand t log (knowns ps) → All IsCallers ps → All (IsOneOfMany t.callers) (knowns ps)
+of_callers t log [] stand h = All-nil (IsOneOfMany t.callers)
+of_callers t log (p ∷ ps) stand h =
+    All-cons (IsOneOfMany t.callers) p.known (knowns ps) (subst (λ (x : DeskConfig). p.known.caller < x.callers) stand.0.terms (All-head IsCallers p ps h)) (of_callers t log ps stand.1 (All-tail IsCallers p ps h))
+
 -- what the last seat shows
 pub record Shown (d : Desk) (ps : List Pass) (most : ℕ) (replica : State) (history : List Event) : Type 0 where
   pub closes : Closes d ps history
@@ -223,17 +233,18 @@ row_room t log words r = let l = r.room in let w = ap length r.words_are in omeg
 abbrev pub desk_of : TableId → LogConfig → Desk
 desk_of z t = record { table = z; setting = t.setting; words = t.words }
 
-pub shows : {S : Type 0} (z : TableId) (t : LogConfig) (words : List ℕ) (slots : List S) (id : ℕ) (ps : List Pass) (most : ℕ) (replica : State) → length ps ≡ t.setting.callers → All IsFit ps → IsLatest most replica (knowns ps)
+pub shows : {S : Type 0} (z : TableId) (t : LogConfig) (words : List ℕ) (slots : List S) (id : ℕ) (ps : List Pass) (most : ℕ) (replica : State) → length ps ≡ t.setting.callers → All IsCallers ps → All IsFit ps → IsLatest most replica (knowns ps)
     → Final (Seen (holds {S = S} t) id (knowns ps)) words slots → Shown (desk_of z t) ps most replica (decoded words)
-shows z t words slots id ps most replica all fit latest f =
+shows z t words slots id ps most replica all owned fit latest f =
     let s = f.0 in
     let h = f.1.0 in
     let at = f.1.1 in
     let v = knowns ps in
     let stand = h.known id v at in
     let len : length v ≡ t.setting.callers = length-map ps (λ (p : Pass). p.known) ∙ all in
-    let w = whole t s.words s.views h id v at len in
-    let each = each_there t s.words s.views h id v at len in
+    let callers = of_callers t.setting h.log ps stand owned in
+    let w = whole t s.words s.views h id v at callers len in
+    let each = each_there t s.words s.views h id v at callers len in
     let is : decoded words ≡ longest v = ap decoded (sym f.2) ∙ decoded_log t (longest v) s.words w.0 in
     subst (Shown (desk_of z t) ps most replica) (sym is) (record {
       closes = record { longest = refl; begins = begins_all (longest v) ps w.1; events = w.0.events; each = each; room = row_room t (longest v) s.words w.0 };
@@ -241,11 +252,11 @@ shows z t words slots id ps most replica all fit latest f =
       latest = latest_whole t.setting h.log most replica v stand w.1 latest;
     })
 
-pub shown_as : (z : TableId) (t : LogConfig) (words : List ℕ) (slots : List ℕ) (id : ℕ) (v : List CallerView) (ps : List Pass) (d : Desk) (most : ℕ) (replica : State) (history : List Event) → desk_of z t ≡ d → v ≡ knowns ps → length ps ≡ d.setting.callers → All IsFit ps
+pub shown_as : (z : TableId) (t : LogConfig) (words : List ℕ) (slots : List ℕ) (id : ℕ) (v : List CallerView) (ps : List Pass) (d : Desk) (most : ℕ) (replica : State) (history : List Event) → desk_of z t ≡ d → v ≡ knowns ps → length ps ≡ d.setting.callers → All IsCallers ps → All IsFit ps
     → IsLatest most replica (knowns ps) → history ≡ decoded words → Final (Seen (holds {S = ℕ} t) id v) words slots → Shown d ps most replica history
-shown_as z t words slots id v ps d most replica history desk is all fit latest read f =
+shown_as z t words slots id v ps d most replica history desk is all owned fit latest read f =
     subst (Shown d ps most replica) (sym read) (subst (λ (x : Desk). Shown x ps most replica (decoded words)) desk
-    (shows {S = ℕ} z t words slots id ps most replica (all ∙ ap (λ (x : Desk). x.setting.callers) (sym desk)) fit
+    (shows {S = ℕ} z t words slots id ps most replica (all ∙ ap (λ (x : Desk). x.setting.callers) (sym desk)) owned fit
     latest
     (subst (λ (u : List CallerView). Final (Seen (holds {S = ℕ} t) id u) words slots) is f)))
 

@@ -70,7 +70,7 @@ keeps_view t words views h id v w at stand less = record {
   log = h.log;
   row = h.row;
   known = λ j u e. ⊎_elim (λ (p : (j ≡ id) × (w ≡ u)). subst (AllStand t.setting h.log) p.1 stand) (λ (p : (j ≢ id) × (get_elem? views j ≡ some u)). h.known j u p.1) (at_set views id j w u e);
-  apart = λ c. let a = h.apart c in let l = less c in let s = count_set c views id v w at in omega arith;
+  apart = λ c below. let a = h.apart c below in let l = less c in let s = count_set c views id v w at in omega arith;
 }
 
 -- the words of others, behind a new one
@@ -150,12 +150,12 @@ adds_kept t words views h id k at st end room e event mine =
       known = λ j u at'. ⊎_elim
           (λ (p : (j ≡ id) × (saw k e ∷ [] ≡ u)). subst (AllStand t.setting (h.log ++ e ∷ [])) p.1 (record { terms = st.terms; caller = st.caller; rest = []; split = ap (λ l. l ++ e ∷ []) all ∙ sym (append-nil (k.seen ++ e ∷ [])); none = refl; looks = looks_stay h.log (h.log ++ e ∷ []) (k.seen ++ e ∷ []) k (omega (arith, length-append h.log (e ∷ []))) (omega (arith, length-append k.seen (e ∷ []))) st.looks }, tt))
           (λ (p : (j ≢ id) × (get_elem? views j ≡ some u)). others_stand t.setting h.log e u
-          (let two = count_two k.caller views id j (k ∷ []) u (λ e. p.0 (sym e)) at p.1 in let once = h.apart k.caller in
+          (let two = count_two k.caller views id j (k ∷ []) u (λ e. p.0 (sym e)) at p.1 in let once = h.apart k.caller (subst (λ (c : ℕ). c < t.setting.callers) mine event.caller) in
           let me : weight (eqb k.caller k.caller) ≡ 1 = ap weight (eq-eqb k.caller k.caller refl) in
           let none : count_in k.caller u ≡ 0 = omega arith in subst (λ c. count_in c u ≡ 0) (sym mine) none)
           (h.known j u p.1))
           (at_set views id j (saw k e ∷ []) u at');
-      apart = λ c. let a = h.apart c in let s = count_set c views id (k ∷ []) (saw k e ∷ []) at in omega arith;
+      apart = λ c below. let a = h.apart c below in let s = count_set c views id (k ∷ []) (saw k e ∷ []) at in omega arith;
     }
   where
     some_free : (r : IsRow t h.log words) → h.log ≡ k.seen → 0 < r.free

@@ -14,3 +14,4 @@ pub mod Histories
 pub mod RowLemmas
 pub mod OpenClaims
 pub mod TimeLemmas
+pub mod WaitFree

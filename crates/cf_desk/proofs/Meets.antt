@@ -1,12 +1,12 @@
 -- Seats that are joined, levelled and split keep the rule.
-use Rattle.std.proofs.Common.{◌≡◌, ℕ, zero, suc, ◌+◌, ◌<◌, ◌≤◌, ◌≢◌, Bool, true, false, eqb, leb, leb-true, leb-false, Some, List, [], ◌∷◌, ◌++◌, map, length, replicate, get_or, set, slice_get, slice_index, sym, refl, ap, ◌∙◌, subst, ⊎_elim, arith}
+use Rattle.std.proofs.Common.{◌≡◌, ℕ, zero, suc, ◌+◌, ◌<◌, ◌≤◌, ◌≢◌, Bool, true, false, cond, eqb, ne_eqb, leb, leb-true, leb-false, Some, List, [], ◌∷◌, ◌++◌, map, length, replicate, get_or, set, slice_get, slice_index, sym, refl, ap, ◌∙◌, subst, ⊎_elim, arith}
 use Rattle.std.proofs.lemmas.List.{set-get_or}
-use Rattle.std.proofs.lemmas.List.Elements.{filter-append}
+use Rattle.std.proofs.lemmas.List.Elements.{All-nil, filter-append}
 use Rattle.std.proofs.lemmas.Option.{none-some}
 use mathlib.Core.Option.{some, none}
 use lib.ListN.{get_elem?}
 use Rattle.atomic_table.specs.Table.{Me, step, keeps, Allows, Splits, Joins, Enters}
-use Rattle.atomic_table.proofs.Lists.{at_set, at_snoc}
+use Rattle.atomic_table.proofs.Lists.{at_set, at_snoc, set_again}
 use Rattle.cf_model.specs.declared.events.Event.{Event}
 use Rattle.cf_desk.proofs.Lists.{none_of_both, one_of}
 use Rattle.cf_desk.specs.declared.row.DeskConfig.{DeskConfig}
@@ -16,11 +16,12 @@ use Rattle.cf_model.specs.Calls.{who_of}
 use Rattle.cf_event.specs.Words.{word_of}
 use Rattle.cf_event.specs.Decoding.{event_of}
 use Rattle.cf_event.proofs.WordLemmas.{event_of_own_word}
-use Rattle.cf_model.specs.States.{start}
-use Rattle.cf_event.specs.Events.{own}
+use Rattle.cf_model.specs.States.{State, start}
+use Rattle.cf_model.specs.Events.{answered}
+use Rattle.cf_event.specs.Events.{AreEventsOf, own}
 use Rattle.cf_desk.specs.Log.{AreLogged}
 use Rattle.cf_event.proofs.Events.{event_at, events_front}
-use Rattle.cf_desk.specs.Rule.{AllStand, count_in, count_all, RowKept, holds, longer_if, longest, with_seen, level, AllCatch, AllLogged, AllShort, levels, finds, FindsSeen, head_of, rest_of}
+use Rattle.cf_desk.specs.Rule.{Stands, AllStand, IsLookOf, weight, count_in, count_all, RowKept, holds, longer_if, longest, with_seen, level, AllCatch, AllLogged, AllShort, levels, finds, FindsSeen, head_of, rest_of, noted, note_of}
 use Rattle.cf_desk.proofs.Keeps.{count_set, keeps_view, looks_stay, same_some}
 
 count_snoc : (c : ℕ) (views : List (List CallerView)) (v : List CallerView) → count_all c (views ++ v ∷ []) ≡ count_all c views + count_in c v
@@ -45,7 +46,7 @@ splits t id v left right stand counts s h at =
           (λ was. ⊎_elim (λ (p : (j ≡ id) × (left ≡ u)). subst (AllStand t.setting h.log) p.1 both.0) (λ (p : (j ≢ id) × (get_elem? s.views j ≡ some u)). h.known j u p.1) (at_set s.views id j left u was))
           (λ (same : right ≡ u). subst (AllStand t.setting h.log) same both.1)
           (at_snoc (set s.views id left) right u j e);
-      apart = λ c. let a = h.apart c in let n = counts c in let s1 = count_set c s.views id v left at in let s2 = count_snoc c (set s.views id left) right in omega arith;
+      apart = λ c below. let a = h.apart c below in let n = counts c in let s1 = count_set c s.views id v left at in let s2 = count_snoc c (set s.views id left) right in omega arith;
     }
 
 head_stands : (setting : DeskConfig) (log : List Event) (v : List CallerView) → AllStand setting log v → AllStand setting log (head_of v) × AllStand setting log (rest_of v)
@@ -75,20 +76,56 @@ joins t id v other w s h at apart there =
           (λ (q : (j ≢ id) × (get_elem? s.views j ≡ some u)). h.known j u q.1)
           (at_set s.views id j (v ++ w) u p.1))
           (at_set (set s.views id (v ++ w)) other j [] u e);
-      apart = λ c. let a = h.apart c in let s1 = count_set c s.views id v (v ++ w) at in let s2 = count_set c (set s.views id (v ++ w)) other w [] there in let n = count_append c v w in omega arith;
+      apart = λ c below. let a = h.apart c below in let s1 = count_set c s.views id v (v ++ w) at in let s2 = count_set c (set s.views id (v ++ w)) other w [] there in let n = count_append c v w in omega arith;
     }
 
+-- a view that stands for no caller
+one_more : (t : LogConfig) (words : List ℕ) (views : List (List CallerView)) (h : RowKept t words views) (w : List CallerView) → AllStand t.setting h.log w → ((c : ℕ) → c < t.setting.callers → count_in c w ≡ 0) → RowKept t words (views ++ w ∷ [])
+one_more t words views h w stand nobodys_view = record {
+  log = h.log;
+  row = h.row;
+  known = λ j u e. ⊎_elim (h.known j u) (λ (same : w ≡ u). subst (AllStand t.setting h.log) same stand) (at_snoc views w u j e);
+  apart = λ c below. let a = h.apart c below in let z = nobodys_view c below in let n = count_snoc c views w in omega arith;
+}
+
 pub sits_down : {S : Type 0} (t : LogConfig) (slots word : ℕ) → Enters (holds {S = S} t) slots word (λ n w. ◌≡◌ {A = Me S (List CallerView)} (w, []) ([], []))
-sits_down t slots word s h len lt = (
-  [],
-  record {
-    log = h.log;
-    row = h.row;
-    known = λ j u e. ⊎_elim (h.known j u) (λ (same : [] ≡ u). subst (AllStand t.setting h.log) same tt) (at_snoc s.views [] u j e);
-    apart = λ c. let a = h.apart c in let n = count_snoc c s.views [] in omega arith;
-  },
-  refl,
-)
+sits_down t slots word s h len lt = ([], one_more t s.words s.views h [] tt (λ c below. refl), refl)
+
+-- no event of a log is one of somebody who is no caller of the desk
+nobodys : (callers functions c : ℕ) (s : State) (xs : List Event) → callers ≤ c → AreEventsOf callers functions s xs → own c xs ≡ []
+nobodys callers functions c s [] le h = refl
+nobodys callers functions c s (x ∷ xs) le h =
+    let below : who_of x < callers = h.0.caller in
+    let other : who_of x ≢ c = omega arith in
+    ap (λ b. cond b (x ∷ own c xs) (own c xs)) (ne_eqb (who_of x) c other) ∙ nobodys callers functions c ((answered s x).1) xs le h.1
+
+noted_stands : (setting : DeskConfig) (log : List Event) (k : CallerView) → AreLogged setting log → Stands setting log k → Stands setting log (noted k)
+noted_stands setting log k events st =
+    let n : ℕ = setting.callers in
+    let none = nobodys n setting.functions n (start setting.plan) log (omega arith) events in
+    let parts = none_of_both (own n k.seen) (own n st.rest) (sym (filter-append (λ x. eqb (who_of x) n) k.seen st.rest) ∙ ap (own n) (sym st.split) ∙ none) in record {
+      terms = st.terms;
+      caller = (let same = ap (λ (x : DeskConfig). x.callers) st.terms in omega arith);
+      rest = st.rest;
+      split = st.split;
+      none = ap (λ (x : DeskConfig). own x.callers st.rest) st.terms ∙ parts.1;
+      looks = record { filled = (omega arith); since = []; are = refl; looks = All-nil (IsLookOf 0 k.seen) };
+    }
+
+notes : {S : Type 0} (t : LogConfig) (id : ℕ) (k : CallerView) → Splits (holds {S = S} t) id (k ∷ []) (k ∷ []) (noted k ∷ [])
+notes t id k s h at =
+    let v = h.known id (k ∷ []) at in
+    subst (λ (views : List (List CallerView)). RowKept t s.words (views ++ (noted k ∷ []) ∷ [])) (sym (set_again s.views id (k ∷ []) at))
+    (one_more t s.words s.views h (noted k ∷ []) (noted_stands t.setting h.log k h.row.events v.0, tt)
+    (λ c below.
+    let same = ap (λ (x : DeskConfig). x.callers) v.0.terms in
+    let other : k.setting.callers ≢ c = omega arith in
+    let w : weight (eqb k.setting.callers c) ≡ 0 = ap weight (ne_eqb k.setting.callers c other) in
+    omega arith))
+
+-- a seat that stands for one pass, of which a notice is split off
+pub notes_at : (t : LogConfig) (id : ℕ) (me : Me ℕ (List CallerView)) (k : CallerView) → me ≡ (k ∷ [], []) → Splits (holds {S = ℕ} t) id me.0 me.0 (note_of me.0)
+notes_at t id me k one = subst (λ (m : Me ℕ (List CallerView)). Splits (holds {S = ℕ} t) id m.0 m.0 (note_of m.0)) (sym one) (notes {S = ℕ} t id k)
 
 -- of two beginnings of one list the shorter begins the longer
 pub between : (a r b q : List Event) → a ++ r ≡ b ++ q → length a ≤ length b → (m : List Event) × (b ≡ a ++ m) × (r ≡ m ++ q)

@@ -106,9 +106,9 @@ rows_hold t words views h = record {
   log = h.log;
   filled = h.row;
   seen = λ id v at. longest_begins t.setting h.log v (h.known id v at);
-  apart = λ i j v w c other at_i at_j in_v in_w.
+  apart = λ i j v w c below other at_i at_j in_v in_w.
       let two = count_two c views i j v w other at_i at_j in
-      let once = h.apart c in
+      let once = h.apart c below in
       let a = counted v c in_v in
       let b = counted w c in_w in
       omega arith;

@@ -1,12 +1,14 @@
 -- The log only grows, and a call comes at its end.
-use Rattle.std.proofs.Common.{◌≡◌, ◌≢◌, ℕ, zero, suc, ◌<◌, Bool, cond, eqb, eq-eqb, List, [], ◌∷◌, ◌++◌, map, length, replicate, get_or, set, slice_index, All, sym, refl, ap, ◌∙◌, subst, append_assoc, append-nil, arith}
+use Rattle.std.proofs.Common.{◌≡◌, ◌≢◌, inl, inr, ℕ, zero, suc, ◌+◌, ◌<◌, Bool, cond, eq-eqb, List, [], ◌∷◌, ◌++◌, map, length, replicate, get_or, set, slice_index, sym, refl, ap, ◌∙◌, subst, append_assoc, append-nil, length-append, arith}
 use Rattle.std.proofs.lemmas.List.{get_or-set_other}
 use mathlib.Core.Option.{some, some-ne-none}
 use mathlib.Core.List.{map-append}
 use lib.ListN.{get_elem?}
 use Rattle.atomic_table.proofs.Lists.{set_here}
 use Rattle.cf_model.specs.declared.events.Event.{Event}
-use Rattle.cf_model.specs.Calls.{who_of}
+use Rattle.cf_model.specs.declared.events.Reply.{Reply}
+use Rattle.cf_model.specs.declared.calls.Call.{Call}
+use Rattle.cf_model.specs.Calls.{event_by, who_of}
 use Rattle.cf_model.specs.States.{State, start}
 use Rattle.cf_model.specs.Events.{answered}
 use Rattle.cf_event.specs.Words.{IsEvent, word_of}
@@ -16,9 +18,12 @@ use Rattle.cf_event.proofs.Events.{event_behind}
 use Rattle.cf_desk.specs.declared.row.LogConfig.{LogConfig}
 use Rattle.cf_desk.specs.declared.row.CallerView.{CallerView}
 use Rattle.cf_desk.specs.Log.{AreLogged}
-use Rattle.cf_desk.specs.Rule.{IsRow, RowKept, saw}
+use Rattle.cf_desk.specs.Rule.{IsRow, saw}
 use Rattle.cf_desk.specs.Rows.{Begins}
-use Rattle.cf_desk.specs.Time.{CallsComeLast, LogsOnlyGrow}
+use Rattle.cf_desk.specs.declared.calls.Rec.TheVariants.{Did}
+use Rattle.cf_desk.specs.Results.{CaughtUp}
+use Rattle.cf_desk.specs.Views.{Acts, Desk, Pass}
+use Rattle.cf_desk.specs.Time.{CallsComeAfterWhatWasSeen, CallsComeLast, LogsOnlyGrow, StandsBehind}
 
 at_seam : (seen : List Event) (ys : List ℕ) → get_or (map word_of seen ++ ys) (length seen) 0 ≡ get_or ys 0 0
 at_seam [] ys = refl
@@ -85,3 +90,30 @@ pub logs_only_grow : LogsOnlyGrow
 logs_only_grow t words before now i n h g z =
     front h.log g.log h.row.free g.row.free i n (are_words t.setting.callers t.setting.functions (start t.setting.plan) h.log h.row.events) (are_words t.setting.callers t.setting.functions (start t.setting.plan) g.log g.row.events)
     (ap (λ (l : List ℕ). set l i n) (sym h.row.words_are) ∙ g.row.words_are) (ap (λ (l : List ℕ). get_or l i 0) (sym h.row.words_are) ∙ z)
+
+-- a pass that has caught up is the same, and has seen more
+pub record GoesOn (p q : Pass) : Type 0 where
+  pub more : List Event
+  pub seen : q.known.seen ≡ p.known.seen ++ more
+  pub caller : q.known.caller ≡ p.known.caller
+  pub records : q.records ≡ p.records
+
+caught_on : (d : Desk) (p q : Pass) (knows : Type 0) → CaughtUp d knows p q → GoesOn p q
+caught_on d p q knows (inl h) = record { more = []; seen = ap (λ (x : Pass). x.known.seen) h.1 ∙ sym (append-nil p.known.seen); caller = ap (λ (x : Pass). x.known.caller) h.1; records = ap (λ (x : Pass). x.records) h.1 }
+caught_on d p q knows (inr h) =
+    let f = h.1 in
+    record { more = f.caught.others; seen = ap (λ (x : Pass). x.known.seen) f.is ∙ f.caught.joined; caller = ap (λ (x : Pass). x.known.caller) f.is; records = ap (λ (x : Pass). x.records) f.is }
+
+behind : (seen : List Event) (p f q : Pass) (call : Call) (reply : Reply) → Begins seen p.known.seen → GoesOn p f → Acts f call reply q → StandsBehind seen p call reply q
+behind seen p f q call reply b g a =
+    let between : List Event = (b.0 ++ g.more) ++ a.caught.others in
+    let before : a.before ≡ seen ++ between =
+    a.caught.joined ∙ ap (λ (l : List Event). l ++ a.caught.others) (g.seen ∙ ap (λ (l : List Event). l ++ g.more) b.1 ∙ append_assoc seen b.0 g.more) ∙ append_assoc seen (b.0 ++ g.more) a.caught.others in
+    let place : length a.before + 1 ≡ length seen + length between + 1 = (let same = ap length before in omega (arith, length-append seen between)) in record {
+      between = between;
+      events = ap (λ (x : Pass). x.known.seen) a.is ∙ (λ i. before i ++ event_by (g.caller i) call ∷ []);
+      records = ap (λ (x : Pass). x.records) a.is ∙ (λ i. g.records i ++ Did (place i) call reply ∷ []);
+    }
+
+pub calls_come_after_what_was_seen : CallsComeAfterWhatWasSeen
+calls_come_after_what_was_seen d p q call reply seen b a = behind seen p a.found q call reply b (caught_on d p a.found _ a.caught) a.acts

@@ -1,6 +1,7 @@
--- What every pass and every desk keeps.
+-- What every pass, every notice and every desk keeps.
 use Rattle.std.specs.Prelude.{◌≡◌, ℕ, ◌<◌, ◌≤◌, List, [], ◌∷◌, length, vec_capacity}
 use Rattle.cf_desk.specs.declared.pass.Pass.TheInside.{Inside as InPass}
+use Rattle.cf_desk.specs.declared.notice.Notice.TheInside.{Inside as InNotice}
 use Rattle.cf_desk.specs.declared.desk.Desk.TheInside.{Inside as InDesk}
 use Rattle.cf_desk.specs.declared.calls.Rec.{Rec}
 use Rattle.cf_desk.specs.declared.row.CallerView.{CallerView}
@@ -26,6 +27,11 @@ pub record PassKept (p : InPass) : Type 0 where
   pub room : p.calls ≤ vec_capacity p.records
   pub within : length p.records.items ≤ p.calls
   pub short : p.count ≤ p.seat.table_id.words
+
+pub record NoticeKept (n : InNotice) : Type 0 where
+  pub one : n.seat.me ≡ (known_of n.seat.me.0 ∷ [], [])
+  pub count : n.count ≡ length (known_of n.seat.me.0).seen
+  pub short : n.count ≤ n.seat.table_id.words
 
 pub record DeskKept (d : InDesk) : Type 0 where
   pub key : d.table.shared.key ≡ d.terms

@@ -1,6 +1,6 @@
 -- What a closed desk keeps of its passes, and what it tells of all of them.
 use Rattle.cf_forms.specs.Plans.{Planned}
-use Rattle.std.specs.Prelude.{◌≡◌, ℕ, List, map}
+use Rattle.std.specs.Prelude.{◌≡◌, ◌<◌, ℕ, List, map}
 use Rattle.std.specs.List.{All, Contains}
 use Rattle.cf_desk.specs.declared.calls.Kept.{Kept as KeptPass}
 use Rattle.cf_desk.specs.declared.calls.Rec.{Rec}
@@ -27,6 +27,10 @@ AreKept kept passes = map pass_kept kept ≡ map pass_did passes
 -- the records of a pass fit what it has seen
 abbrev pub IsFit : Pass → Type 0
 IsFit p = Fits p.known.setting.plan p.known.caller p.known.seen p.records
+
+-- a pass is of one of its desk's callers
+abbrev pub IsCallers : Pass → Type 0
+IsCallers p = p.known.caller < p.known.setting.callers
 
 abbrev pub IsKeptFit : Planned → List Event → ℕ × List Rec → Type 0
 IsKeptFit plan history k = Fits plan k.0 history k.1

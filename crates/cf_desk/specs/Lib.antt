@@ -2,6 +2,7 @@ pub mod Calls
 pub mod Log
 pub mod Records
 pub mod Rule
+pub mod Rows
 pub mod Views
 pub mod Desks
 pub mod Functions
@@ -9,5 +10,5 @@ pub mod Faults
 pub mod Results
 pub mod Keepings
 pub mod Laws
-pub mod Rows
 pub mod Time
+pub mod WaitFree

@@ -33,14 +33,14 @@ pub record LooksAtEnd (t : LogConfig) (words : List ℕ) (views : List (List Cal
   pub end : (id : ℕ) (k : CallerView) (n : ℕ) (now : List ℕ) → get_elem? views id ≡ some (k ∷ []) → RowKept t now (slice_set views id (record (older (length log) k) { looks = k.looks ++ n ∷ [] } ∷ [])) → (log ≡ k.seen) × (n ≡ length log)
 
 -- The filled words are a front of the row, each the word of an event of one of the callers, on stages of the plan as the words
--- before it leave it. What a seat has seen begins them. No two seats share a caller. A filled place with an event of a seat's
+-- before it leave it. What a seat has seen begins them. No two seats share a caller of the desk. A filled place with an event of a seat's
 -- caller is one that this seat has seen. Of two parts of one seat the list of the one that has seen less begins the other's, which
 -- goes on with events of others. A look is added only while the log ends behind what the pass has seen.
 pub record RowHolds (t : LogConfig) (words : List ℕ) (views : List (List CallerView)) : Type 0 where
   pub log : List Event
   pub filled : IsRow t log words
   pub seen : (id : ℕ) (v : List CallerView) → get_elem? views id ≡ some v → Begins (longest v) log
-  pub apart : (i j : ℕ) (v w : List CallerView) (c : ℕ) → i ≢ j → get_elem? views i ≡ some v → get_elem? views j ≡ some w → Contains (callers_of v) c → ¬ Contains (callers_of w) c
+  pub apart : (i j : ℕ) (v w : List CallerView) (c : ℕ) → c < t.setting.callers → i ≢ j → get_elem? views i ≡ some v → get_elem? views j ≡ some w → Contains (callers_of v) c → ¬ Contains (callers_of w) c
   pub own_seen : (id : ℕ) (v : List CallerView) (p : ℕ) (e : Event) → get_elem? views id ≡ some v → slice_get log p ≡ Some e → Contains (callers_of v) (who_of e) → p < length (longest v)
   pub parts : (id : ℕ) (v w : List CallerView) → get_elem? views id ≡ some (v ++ w) → (length (longest v) ≤ length (longest w) → RowGoesOn v w) × (length (longest w) ≤ length (longest v) → RowGoesOn w v)
   pub looks : LooksAtEnd t words views log

@@ -25,10 +25,11 @@ pub record LooksKept (log : List Event) (k : CallerView) : Type 0 where
   pub are : k.looks ≡ k.before ++ since
   pub looks : All (IsLookOf k.filled k.seen) since
 
--- the log begins with what was seen, and after it has no event of the caller, whose looks are kept
+-- The log begins with what was seen, and after it has no event of the caller, whose looks are kept. A notice is no caller's: its
+-- number is one past the last.
 pub record Stands (setting : DeskConfig) (log : List Event) (k : CallerView) : Type 0 where
   pub terms : k.setting ≡ setting
-  pub caller : k.caller < setting.callers
+  pub caller : k.caller ≤ setting.callers
   pub rest : List Event
   pub split : log ≡ k.seen ++ rest
   pub none : own k.caller rest ≡ []
@@ -64,7 +65,7 @@ pub record RowKept (t : LogConfig) (words : List ℕ) (views : List (List Caller
   pub log : List Event
   pub row : IsRow t log words
   pub known : (id : ℕ) (v : List CallerView) → get_elem? views id ≡ some v → AllStand t.setting log v
-  pub apart : (c : ℕ) → count_all c views ≤ 1
+  pub apart : (c : ℕ) → c < t.setting.callers → count_all c views ≤ 1
 
 abbrev pub holds : {S : Type 0} → LogConfig → State S (List CallerView) → Type 0
 holds t s = RowKept t s.words s.views
@@ -166,3 +167,11 @@ head_of (k ∷ ks) = k ∷ []
 abbrev pub rest_of : List CallerView → List CallerView
 rest_of [] = []
 rest_of (k ∷ ks) = ks
+
+-- what a pass has seen, as no caller's
+abbrev pub noted : CallerView → CallerView
+noted k = record { setting = k.setting; caller = k.setting.callers; seen = k.seen; looks = []; filled = 0; before = [] }
+
+abbrev pub note_of : List CallerView → List CallerView
+note_of [] = []
+note_of (k ∷ ks) = noted k ∷ []

@@ -22,6 +22,7 @@ use Rattle.cf_desk.specs.Calls.{joined}
 use Rattle.cf_event.specs.Events.{own}
 use Rattle.cf_desk.specs.Log.{IsDeskEvent, AreLogged, Catches, state_from}
 use Rattle.cf_desk.specs.Records.{Fits}
+use Rattle.cf_desk.specs.Rows.{Begins}
 use Rattle.cf_desk.specs.Rule.{saw, longest, with_seen, fresh, count_in, AllShort}
 use Rattle.std.specs.List.{All}
 use Rattle.atomic_table.specs.Table.{Me}
@@ -43,6 +44,12 @@ pub record Desk : Type 0 where
   pub setting : DeskConfig
   -- how many words the row has, filled or empty
   pub words : ℕ
+
+pub record Notice : Type 0 where
+  -- the row of its desk
+  pub table : TableId
+  -- the events that the pass which gave it had seen
+  pub seen : List Event
 
 abbrev pub no_one : CallerView
 no_one = record { setting = record { plan = plan_of [] []; callers = 0; functions = 0 }; caller = 0; seen = []; looks = []; filled = 0; before = [] }
@@ -135,6 +142,14 @@ pub record Meets (p q p' q' : Pass) : Type 0 where
   pub begins_right : Catches q.known.caller q.known.seen all
   pub fits_left : Fits p.known.setting.plan p.known.caller all p.records
   pub fits_right : Fits q.known.setting.plan q.known.caller all q.records
+
+-- the pass has seen its own list or the notice's, which both begin what it has seen now
+pub record Heeds (p : Pass) (notice : Notice) (q : Pass) : Type 0 where
+  pub all : List Event
+  pub either : (all ≡ p.known.seen) ⊎ (all ≡ notice.seen)
+  pub is : q ≡ record p { known = with_seen all p.known }
+  pub caught : Catches p.known.caller p.known.seen all
+  pub begins : Begins notice.seen q.known.seen
 
 -- passes that have seen and recorded nothing
 abbrev pub new_pass : TableId → ℕ → CallerView → Pass

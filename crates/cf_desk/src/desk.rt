@@ -1,6 +1,7 @@
 //! The desk, and how it is opened.
 mod acting;
 mod closing;
+mod noticing;
 mod reading;
 mod steps;
 

@@ -3,7 +3,8 @@
 ghost use Rattle.cf_desk.specs.Keepings.{IsFit};
 ghost use Rattle.cf_desk.specs.Laws.{ClaimsStayOpen, OneHistoryShows};
 ghost use Rattle.cf_desk.specs.Rows.{RowsHold};
-ghost use Rattle.cf_desk.specs.Time.{CallsComeLast, LogsOnlyGrow};
+ghost use Rattle.cf_desk.specs.Time.{CallsComeAfterWhatWasSeen, CallsComeLast, LogsOnlyGrow};
+ghost use Rattle.cf_desk.specs.WaitFree.{CallsTakeFewSteps, EachIsOneStep, PassesAreWaitFree};
 
 use crate::pass::Pass;
 
@@ -36,8 +37,36 @@ pub fn logs_only_grow()
     ensures { LogsOnlyGrow }
 {}
 
-/// A call stands at the end of the log at an instant within the call: where a pass adds its event by an exchange that finds
-/// the word empty, it has seen all of the log by then. So a call that had returned before another began stands before it.
+/// Each event is added at the end of the log as it stands at that exchange: where a pass adds its event by an exchange that
+/// finds the word empty, it has seen all of the log by then. The exchange lies within the call. That a call which had returned
+/// before another began stands before it isn't proved: it is an argument from this and `logs_only_grow`, since no clause
+/// speaks of instants.
 pub fn calls_come_last()
     ensures { CallsComeLast }
+{}
+
+/// A call stands behind all that its pass had seen, and so behind what another had, once it has heeded its notice
+/// (`Desk::heed`).
+pub fn calls_come_after_what_was_seen()
+    ensures { CallsComeAfterWhatWasSeen }
+{}
+
+/// A step is a load or an exchange of the next word. Each shows the pass one event more, or is a look that meets an empty
+/// word.
+pub fn each_is_one_step()
+    ensures { EachIsOneStep }
+{}
+
+/// A call takes a step for each event that its pass sees more, and some that are looks: `act` none, `read` and `ready` one,
+/// `join` as many as it may, and each but `ready` one more where its pass doesn't know the stage. `meet` and `heed` load the
+/// words of the events that they show, and the first word four times more.
+pub fn calls_take_few_steps()
+    ensures { CallsTakeFewSteps }
+{}
+
+/// Calls are wait-free: whatever other callers do, those of one pass take together at most a step for each word of the log
+/// that it hadn't seen, and one for each look. It is no bound of time: a step takes as long as the machine lets it, and how
+/// long the graph takes to do an event is another count, of turns.
+pub fn passes_are_wait_free()
+    ensures { PassesAreWaitFree }
 {}

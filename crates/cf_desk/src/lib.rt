@@ -18,6 +18,7 @@
 //! | pass (`Pass`) | what one caller holds: a seat, a graph of its own, and records |
 //! | seat | a pass's hold on the row, which carries its view from step to step |
 //! | view | for each pass that a seat stands for, what that pass knows (`CallerView`): no code holds it, proofs do |
+//! | notice (`Notice`) | what a pass had seen, which another pass on another thread heeds |
 //! | record (`Rec`) | what a pass keeps of one call: the call, its place and its answer; with its caller it is a `Record` of `cf_event` |
 //! | closed desk (`Closed`) | the history, each pass's caller and records (`Kept`), and the graph |
 #![tactic(auto)]
@@ -27,6 +28,7 @@ mod desk;
 mod faults;
 mod functions;
 pub mod laws;
+mod notice;
 mod pass;
 mod row;
 
@@ -34,4 +36,5 @@ pub use calls::{Closed, Joined, Kept, Rec};
 pub use cf_model::{Ask, Call, Told, event_by};
 pub use desk::Desk;
 pub use faults::{CloseFault, DeskFault, OpenFault};
+pub use notice::Notice;
 pub use pass::Pass;

@@ -116,6 +116,17 @@ impl Split<SeatView> for KeepsFirst {
     ghost right = { rest_of };
 }
 
+/// The new seat knows what the pass has seen, and stands for none.
+pub struct Notes;
+
+impl Split<SeatView> for Notes {
+    ghost use Rattle.cf_desk.specs.Rule.{note_of};
+
+    ghost left = { λ v. v };
+
+    ghost right = { note_of };
+}
+
 /// The seat stands for the passes of both.
 pub struct StandsForBoth;
 

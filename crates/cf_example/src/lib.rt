@@ -3,11 +3,14 @@
 //! `take_turns` opens a desk for two callers with room for one stage more, lets one caller complete a stage, and the other
 //! cancel it and attach a stage to it, lets both look at what came of it, closes the desk, and promises that there was one
 //! history. That promise is `IsOneHistory`, the product's own statement, with what it shows; its proof is the contracts of
-//! the calls that are made, and nothing beside them.
+//! the calls that are made, and nothing beside them. `running` promises what a run of plain work ends as,
+//! and `racing` what a race leaves.
 #![tactic(auto)]
 
 mod fault;
 pub mod headline;
+pub mod racing;
+pub mod running;
 
 ghost use Rattle.std.specs.Prelude.{◌≡◌, All, IfOk, map};
 ghost use Rattle.cf_event.specs.Histories.{IsOneHistory};

@@ -3,6 +3,7 @@ use Rattle.std.proofs.Common.{◌≡◌, ℕ, ◌+◌, ◌-◌, ◌^◌, ◌<◌
 use Rattle.std.specs.Prelude.{sum_by, flat_map, ◌⊎◌, if◌then◌else◌}
 use Rattle.std.specs.List.{filter}
 use Rattle.std.proofs.Math.Nat.{eq-or-lt_of_le}
+use Rattle.std.proofs.lemmas.Bool.{false≢true}
 use Rattle.std.proofs.lemmas.Option.{get_or_from_slice_get, slice_get-get_or, slice_get_within}
 use Rattle.std.proofs.lemmas.List.Sums.{sum_by-append, sum_by-cons}
 use Rattle.cf_forms.specs.Meanings.{Meanings}
@@ -16,13 +17,13 @@ use Rattle.cf_explore.specs.Programs.{Programmed, Situated}
 use Rattle.cf_explore.specs.Moves.{is_end}
 use Rattle.cf_explore.specs.Orders.{after, ends_before, next}
 use Rattle.cf_explore.specs.Conditions.{decides}
-use Rattle.cf_explore.specs.Layers.{IsLayer, IsLed, IsNext, LeadsTo, StandFor, counted, over_next, weigh, weight}
+use Rattle.cf_explore.specs.Layers.{HasMore, IsLayer, IsLed, IsNext, LeadsPast, LeadsTo, StandFor, counted, over_next, weigh, weight}
 use Rattle.cf_explore.specs.Situations.{outcomes_of}
-use Rattle.cf_explore.specs.Found.{AreDecisions, AreMoreEnds, AreUpdates, EndsStandFor, IsAdvance, IsDecision, IsFound, IsLook, IsSearch, IsShown, IsUndecided, IsUpdate, over_end, weigh_ends}
+use Rattle.cf_explore.specs.Found.{AreDecisions, AreMoreEnds, AreUpdates, EndsStandFor, IsAdvance, IsAsked, IsDecision, IsFound, IsLook, IsOver, IsSearch, IsShown, IsUndecided, IsUpdate, IsWithin, over_end, weigh_ends}
 use Rattle.cf_explore.proofs.Counting.{counted-both, counted-none}
 use Rattle.cf_explore.proofs.Sums.{sum_by-filtered, sum_by-joined}
-use Rattle.cf_explore.proofs.Spreading.{all-cons, rest-all}
-use Rattle.cf_explore.proofs.Trails.{leads-longer}
+use Rattle.cf_explore.proofs.Spreading.{all-cons, rest-all, seen-more}
+use Rattle.cf_explore.proofs.Trails.{leads-below, leads-longer, leads-within}
 
 -- the next layer stands for the situations after one more move
 pub next-stands : (m : Meanings) (p : Programmed) (k : ℕ) (entries new : List Entry) → StandFor entries (after m p k) → IsNext m p entries new → StandFor new (after m p (suc k))
@@ -151,6 +152,11 @@ ended m p k entries stand old_whole before (inl is) n le = before is n le
 ended m p k entries stand old_whole before (inr h) n le =
     none-later m p (suc k) n le (stand-for-none (after m p (suc k)) (next-stands m p k entries [] stand h))
 
+over-by : (m : Meanings) (p : Programmed) (trail longer : List Trace) (k : ℕ) (entries : List Entry) (whole : Bool) → IsLayer m p trail k entries →
+    (whole ≡ true) ⊎ LeadsPast m p trail longer entries → (whole ≡ true) ⊎ HasMore m p longer
+over-by m p trail longer k entries whole layer (inl all) = inl all
+over-by m p trail longer k entries whole layer (inr past) = inr (past k layer.led layer.seen)
+
 pub advance-keeps : (m : Meanings) (p : Programmed) (conditions : List Condition) (k : ℕ) (old new : Search) → IsFound m p conditions old.found →
     old.found.moves ≡ suc k → IsLayer m p old.found.trail.items k old.layer.entries.items → IsAdvance m p old new → IsSearch m p conditions new
 advance-keeps m p conditions k old new found at layer h =
@@ -174,8 +180,11 @@ advance-keeps m p conditions k old new found at layer h =
           subst (λ (n : ℕ). IsLayer m p new.found.trail.items n new.layer.entries.items) (sym moves) (record {
             stand = next-stands m p k old.layer.entries.items new.layer.entries.items layer.stand (h.next on);
             led = h.led on k layer.led;
+            seen = seen-more m p trail new.found.trail.items k new.layer.entries.items h.longer layer.seen (h.numbered on) (h.led on k layer.led);
           });
+      some = h.some;
       on = h.on;
+      over = λ off. over-by m p trail new.found.trail.items k old.layer.entries.items new.found.whole layer (h.over off);
     }
 
 pub go-on-keeps : (m : Meanings) (p : Programmed) (conditions : List Condition) (old mid new : Search) → old.is_on ≡ true → IsSearch m p conditions old →
@@ -190,3 +199,34 @@ go-on-keeps m p conditions old mid new on h look advance =
     let one : IsLayer m p mid.found.trail.items k old.layer.entries.items = subst (λ (t : List Trace). IsLayer m p t k old.layer.entries.items) (sym trails) layer in
     let both : IsLayer m p mid.found.trail.items k mid.layer.entries.items = subst (λ (es : List Entry). IsLayer m p mid.found.trail.items k es) (sym layers) one in
     advance-keeps m p conditions k mid new found at both advance
+
+within-by : (m : Meanings) (p : Programmed) (trail : List Trace) (k : ℕ) (entries : List Entry) → All (IsLed m p trail k) entries → 0 < length entries → k < length trail
+within-by m p trail k [] led some = absurd (omega arith)
+within-by m p trail k (e ∷ entries) led some =
+    let one : IsLed m p trail k e = led 0 e (omega arith) in
+    omega (arith, leads-below m p trail k e.number e.situation one, leads-within m p trail k e.number e.situation one)
+
+not-whole : (whole : Bool) (P : Type 0) → whole ≡ false → (whole ≡ true) ⊎ P → P
+not-whole whole P part (inl all) = absurd (false≢true (sym part ∙ all))
+not-whole whole P part (inr h) = h
+
+-- a search that is on has given numbers to more situations than it made moves: its layer has an entry, with a number as high as its moves
+pub on-within : (m : Meanings) (p : Programmed) (conditions : List Condition) (search : Search) → IsSearch m p conditions search → search.is_on ≡ true →
+    search.found.moves < length search.found.trail.items
+on-within m p conditions search h on = within-by m p search.found.trail.items search.found.moves search.layer.entries.items (h.layer on).led (h.some on)
+
+-- where a bound is given, a search that isn't whole at the end has met one situation more
+full-by : (m : Meanings) (p : Programmed) (conditions : List Condition) (bound : ℕ) (search : Search) (on : Bool) → search.is_on ≡ on → IsSearch m p conditions search → IsOver bound search → IsWithin bound search →
+    (search.is_on ≡ true → bound ≤ search.found.moves) → 0 < bound → search.found.whole ≡ false → (bound ≤ length search.found.trail.items) × HasMore m p search.found.trail.items
+full-by m p conditions bound search true is h over within goes some part =
+    absurd (let more = on-within m p conditions search h is in omega (arith, more, goes is, within some))
+full-by m p conditions bound search false is h over within goes some part =
+    (not-whole search.found.whole _ part (over is), not-whole search.found.whole _ part (h.over is))
+
+pub asked : (m : Meanings) (p : Programmed) (conditions : List Condition) (bound : ℕ) (search : Search) → IsSearch m p conditions search → IsOver bound search → IsWithin bound search →
+    (search.is_on ≡ true → bound ≤ search.found.moves) → IsAsked m p bound search.found
+asked m p conditions bound search h over within goes = record {
+  within = within;
+  full = λ some part. (full-by m p conditions bound search search.is_on refl h over within goes some part).0;
+  more = λ some part. (full-by m p conditions bound search search.is_on refl h over within goes some part).1;
+}

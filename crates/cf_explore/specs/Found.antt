@@ -14,7 +14,7 @@ use Rattle.cf_explore.specs.Situations.{outcomes_of}
 use Rattle.cf_explore.specs.Moves.{is_end}
 use Rattle.cf_explore.specs.Orders.{after, ends_before}
 use Rattle.cf_explore.specs.Conditions.{decides}
-use Rattle.cf_explore.specs.Layers.{IsLayer, IsLed, IsLonger, IsNext, LeadsOn, LeadsTo, counted, weigh}
+use Rattle.cf_explore.specs.Layers.{AreNumbered, HasMore, IsLayer, IsLed, IsLonger, IsNext, LeadsOn, LeadsPast, LeadsTo, counted, weigh}
 
 -- Ends stand for these situations, each as often as its outcomes are there, as far as it is counted.
 abbrev pub end_weight : (List (Option Outcome) → ℕ) → End → ℕ
@@ -58,11 +58,14 @@ pub record IsFound (m : Meanings) (p : Programmed) (conditions : List Condition)
   pub decisions : AreDecisions m p found.trail.items found.moves conditions found.decisions.items
   pub whole : found.whole ≡ true → (k : ℕ) → found.moves ≤ k → after m p k ≡ []
 
--- a search has found what it says, and while it is on, its layer is the next one, and not all orders were seen
+-- A search has found what it says. While it is on, its layer is the next one, has an entry, and not all orders were seen; it is over
+-- where they were, or where there are more situations.
 pub record IsSearch (m : Meanings) (p : Programmed) (conditions : List Condition) (search : Search) : Type 0 where
   pub found : IsFound m p conditions search.found
   pub layer : search.is_on ≡ true → IsLayer m p search.found.trail.items search.found.moves search.layer.entries.items
+  pub some : search.is_on ≡ true → 0 < length search.layer.entries.items
   pub on : search.is_on ≡ true → search.found.whole ≡ false
+  pub over : search.is_on ≡ false → (search.found.whole ≡ true) ⊎ HasMore m p search.found.trail.items
 
 -- a search that is over has seen all orders, or as many situations as the bound
 abbrev pub IsOver : ℕ → Search → Type 0
@@ -76,10 +79,11 @@ IsWithin bound search = 0 < bound → length search.found.trail.items ≤ bound
 abbrev pub SearchGoesOn : Search → Search → Type 0
 SearchGoesOn old new = old.is_on ≡ true → old.found.moves < 4294967295 → new.found.moves ≡ old.found.moves + 1
 
--- what is found where a bound is given: all orders, or as many situations as the bound, or all orders of fewer moves than it; never more situations
-pub record IsAsked (bound : ℕ) (found : Found) : Type 0 where
-  pub over : found.whole ≡ false → length found.trail.items < bound → bound ≤ found.moves
+-- What is found where a bound is given: never more situations, and all orders, unless there are more situations than the bound.
+pub record IsAsked (m : Meanings) (p : Programmed) (bound : ℕ) (found : Found) : Type 0 where
   pub within : 0 < bound → length found.trail.items ≤ bound
+  pub full : 0 < bound → found.whole ≡ false → bound ≤ length found.trail.items
+  pub more : 0 < bound → found.whole ≡ false → HasMore m p found.trail.items
 
 -- What one layer brings. Of these situations the first that decides a condition, if one does.
 abbrev pub IsFirst : Programmed → List Entry → ℕ → Condition → Option Witness → Type 0
@@ -144,4 +148,7 @@ pub record IsAdvance (m : Meanings) (p : Programmed) (old new : Search) : Type 0
   pub next : new.is_on ≡ true → IsNext m p old.layer.entries.items new.layer.entries.items
   pub led : new.is_on ≡ true → LeadsOn m p old.found.trail.items new.found.trail.items old.layer.entries.items new.layer.entries.items
   pub whole : new.found.whole ≡ true → (old.found.whole ≡ true) ⊎ IsNext m p old.layer.entries.items []
+  pub numbered : new.is_on ≡ true → AreNumbered (length old.found.trail.items) new.found.trail.items new.layer.entries.items
+  pub some : new.is_on ≡ true → 0 < length new.layer.entries.items
   pub on : new.is_on ≡ true → new.found.whole ≡ false
+  pub over : new.is_on ≡ false → (new.found.whole ≡ true) ⊎ LeadsPast m p old.found.trail.items new.found.trail.items old.layer.entries.items

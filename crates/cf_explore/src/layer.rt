@@ -1,6 +1,6 @@
 //! The situations after so many moves.
-ghost use Rattle.std.specs.Prelude.{◌≡◌, ◌<◌, [], IfOk, IfSome, Some, length, slice_get, slice_set, true};
-ghost use Rattle.cf_explore.specs.Layers.{IsAdded, IsAt, more};
+ghost use Rattle.std.specs.Prelude.{◌≡◌, ◌<◌, [], IfNone, IfOk, IfSome, None, Some, length, slice_get, slice_set, true};
+ghost use Rattle.cf_explore.specs.Layers.{IsAdded, IsAt, IsNowhere, more};
 
 use crate::hash::hash_of;
 use crate::situation::Situation;
@@ -13,6 +13,14 @@ pub struct Entry {
     pub(crate) orders: u128,
     pub(crate) number: u32,
     pub(crate) hash: u64,
+}
+
+/// What became of a situation to which more orders lead: it is new, it stands there already, or it would be new and no new one may come.
+#[derive(Clone, Copy, Drop)]
+pub(crate) enum Added {
+    New,
+    There,
+    NoRoom,
 }
 
 /// The situations after so many moves. The table has the places of entries, each behind 1, from the place of its hash on; 0 is
@@ -34,33 +42,36 @@ impl Layer {
         }
     }
 
-    /// So many orders more lead to this situation, which gets this number where it is new. It says whether it is.
+    /// So many orders more lead to this situation, which gets the number where it is new: without one no new situation may come.
     pub(crate) fn add(
         &mut self,
         situation: Situation,
         orders: u128,
-        number: u32,
-    ) -> Result<bool, AllocError>
-        ensures { IfOk result (λ new. IsAdded self.old.entries.items self.new.entries.items situation orders number new) }
+        number: Option<u32>,
+    ) -> Result<Added, AllocError>
+        ensures { IfOk result (λ added. IsAdded self.old.entries.items self.new.entries.items situation orders number added) }
     {
         let hash = hash_of(&situation);
-        match find(&self.entries, &self.table, &situation, hash) {
+        match place_of(&self.entries, &self.table, &situation, hash, number) {
             Some(i) => {
                 // It stands there already.
                 drop(situation);
                 self.more_orders(i, orders);
-                Ok(false)
+                Ok(Added::There)
             }
-            None => {
-                self.entries.push(Entry {
-                    situation,
-                    orders,
-                    number,
-                    hash,
-                })?;
-                self.note(hash)?;
-                Ok(true)
-            }
+            None => match number {
+                None => Ok(Added::NoRoom),
+                Some(number) => {
+                    self.entries.push(Entry {
+                        situation,
+                        orders,
+                        number,
+                        hash,
+                    })?;
+                    self.note(hash)?;
+                    Ok(Added::New)
+                }
+            },
         }
     }
 
@@ -88,6 +99,50 @@ impl Layer {
     }
 }
 
+/// The place of an equal situation. Without a number for a new one, all entries are looked at before it says that there is none.
+fn place_of(
+    entries: &[Entry],
+    table: &[u32],
+    situation: &Situation,
+    hash: u64,
+    number: Option<u32>,
+) -> Option<usize>
+    ensures there { IfSome result (λ i. IsAt entries.now i situation.now) }
+    ensures nowhere { number ≡ None → IfNone result (IsNowhere entries.now situation.now) }
+{
+    match find(entries, table, situation, hash) {
+        Some(i) => Some(i),
+        None => match number {
+            None => search(entries, situation),
+            Some(_) => None,
+        },
+    }
+}
+
+/// The place of an equal situation among all entries.
+fn search(entries: &[Entry], situation: &Situation) -> Option<usize>
+    ensures there { IfSome result (λ i. IsAt entries.now i situation.now) }
+    ensures nowhere { IfNone result (IsNowhere entries.now situation.now) }
+{
+    for i in 0..entries.len() {
+        if stands_at(entries, i, situation) {
+            return Some(i);
+        }
+    }
+    None
+}
+
+/// Whether this situation stands at a place.
+fn stands_at(entries: &[Entry], i: usize, situation: &Situation) -> bool
+    ensures there { result ≡ true → IsAt entries.now i situation.now }
+    ensures other { IsAt entries.now i situation.now → result ≡ true }
+{
+    match entries.get(i) {
+        None => false,
+        Some(entry) => entry.situation.is_same(situation),
+    }
+}
+
 /// The place of an equal situation, if the table leads to one.
 fn find(entries: &[Entry], table: &[u32], situation: &Situation, hash: u64) -> Option<usize>
     ensures { IfSome result (λ i. IsAt entries.now i situation.now) }
@@ -109,7 +164,7 @@ fn find(entries: &[Entry], table: &[u32], situation: &Situation, hash: u64) -> O
     None
 }
 
-/// Whether this situation stands at a place.
+/// Whether this situation, of this hash, stands at a place.
 fn is_there(entries: &[Entry], i: usize, situation: &Situation, hash: u64) -> bool
     ensures { result ≡ true → IsAt entries.now i situation.now }
 {

@@ -1,14 +1,14 @@
 //! The search, layer by layer.
-ghost use Rattle.std.specs.Prelude.{◌≡◌, ◌+◌, ◌*◌, ◌<◌, ◌≤◌, ℕ, Contains, IfNone, IfOk, IfSome, None, false, length, replicate, true, vec_len};
+ghost use Rattle.std.specs.Prelude.{◌≡◌, ◌+◌, ◌*◌, ◌<◌, ◌≤◌, ℕ, Contains, IfNone, IfOk, IfSome, None, false, length, replicate, true};
 ghost use Rattle.cf_forms.specs.Meanings.{Meanings, meanings_of};
 ghost use Rattle.cf_explore.specs.Programs.{Situated};
 ghost use Rattle.cf_explore.specs.Moves.{moved, moves};
-ghost use Rattle.cf_explore.specs.Layers.{IsLonger, IsNext, IsSpread, KeepsLed, LeadsOn, counted, weigh};
+ghost use Rattle.cf_explore.specs.Layers.{AreNumbered, IsLonger, IsNext, IsNowhere, IsSpread, KeepsLed, LeadsOn, LeadsPast, MissesOne, counted, weigh};
 ghost use Rattle.cf_explore.specs.Found.{AreUpdates, SearchGoesOn, IsAdvance, IsAsked, IsFirst, IsFound, IsLook, IsOver, IsSearch, IsUpdate, IsWithin};
 
 use crate::condition::Condition;
 use crate::found::{Found, Witness};
-use crate::layer::{Entry, Layer};
+use crate::layer::{Added, Entry, Layer};
 use crate::program::Program;
 use crate::step::Move;
 use crate::trail::Trace;
@@ -34,7 +34,7 @@ impl Program {
         bound: u32,
     ) -> Result<Found, AllocError>
         ensures found { IfOk result (λ found. IsFound (meanings_of F.meaning functions.now) self.now conditions.now found) }
-        ensures asked { IfOk result (IsAsked bound) }
+        ensures asked { IfOk result (IsAsked (meanings_of F.meaning functions.now) self.now bound) }
     {
         let mut search = self.begin(alloc, conditions)?;
         for turn in 0..bound {
@@ -55,7 +55,7 @@ impl Program {
     {
         let mut layer = Layer::new(alloc);
         let start = self.start(alloc)?;
-        let _new = layer.add(start, 1, 0)?;
+        let _new = layer.add(start, 1, Some(0))?;
         let mut trail = Vec::new(alloc);
         trail.push(Trace {
             before: 0,
@@ -171,7 +171,9 @@ impl Program {
         ensures next { IfOk result (λ made. IfSome made (λ layer. IsNext (meanings_of F.meaning functions.now) self.now entries.now layer.entries.items)) }
         ensures led { IfOk result (λ made. IfSome made (λ layer. LeadsOn (meanings_of F.meaning functions.now) self.now trail.old.items trail.new.items entries.now layer.entries.items)) }
         ensures longer { IfOk result (λ _. IsLonger trail.old.items trail.new.items) }
+        ensures numbered { IfOk result (λ made. IfSome made (λ layer. AreNumbered (length trail.old.items) trail.new.items layer.entries.items)) }
         ensures full { IfOk result (λ made. IfNone made (bound ≤ length trail.new.items)) }
+        ensures past { IfOk result (λ made. IfNone made (LeadsPast (meanings_of F.meaning functions.now) self.now trail.old.items trail.new.items entries.now)) }
         ensures within { length trail.old.items ≤ bound → IfOk result (λ _. length trail.new.items ≤ bound) }
     {
         let mut next = Layer::new(alloc);
@@ -197,20 +199,23 @@ impl Program {
         ensures spread { IfOk result (λ whole. whole ≡ true → IsSpread (meanings_of F.meaning functions.now) self.now entry.now next.old.entries.items next.new.entries.items) }
         ensures led { IfOk result (λ whole. KeepsLed (meanings_of F.meaning functions.now) self.now trail.old.items trail.new.items next.old.entries.items next.new.entries.items entry.now) }
         ensures longer { IfOk result (λ _. IsLonger trail.old.items trail.new.items) }
+        ensures numbered { IfOk result (λ _. (base : ℕ) → AreNumbered base trail.old.items next.old.entries.items → AreNumbered base trail.new.items next.new.entries.items) }
         ensures full { IfOk result (λ whole. whole ≡ false → bound ≤ length trail.new.items) }
+        ensures past { IfOk result (λ whole. whole ≡ false → MissesOne (meanings_of F.meaning functions.now) self.now entry.now next.new.entries.items) }
         ensures within { length trail.old.items ≤ bound → IfOk result (λ _. length trail.new.items ≤ bound) }
     {
         let moves = self.moves(alloc, &entry.situation)?;
         for by in &moves {
-            if trail.len() >= bound as usize {
+            let all = self.add_move(alloc, functions, entry, *by, bound, trail, next)?;
+            if !all {
                 return Ok(false);
             }
-            self.add_move(alloc, functions, entry, *by, trail, next)?;
         }
         Ok(true)
     }
 
-    /// Adds the situation to which a move leads.
+    /// Adds the situation to which a move leads. It says whether there were no more than the bound: where it would be one more, all
+    /// is left as it is.
     #[tactic(none)]
     fn add_move<F: StageFn>(
         &self,
@@ -218,26 +223,31 @@ impl Program {
         functions: &[F],
         entry: &Entry,
         by: Move,
+        bound: u32,
         trail: &mut Vec<Trace>,
         next: &mut Layer,
-    ) -> Result<(), AllocError>
-        requires { vec_len trail.old < 4294967296 }
-        ensures weighs { IfOk result (λ _. (f : Situated → ℕ) → counted (weigh f next.new.entries.items) ≡ counted (weigh f next.old.entries.items + entry.now.orders * f (moved (meanings_of F.meaning functions.now) self.now entry.now.situation by))) }
+    ) -> Result<bool, AllocError>
+        ensures weighs { IfOk result (λ whole. whole ≡ true → (f : Situated → ℕ) → counted (weigh f next.new.entries.items) ≡ counted (weigh f next.old.entries.items + entry.now.orders * f (moved (meanings_of F.meaning functions.now) self.now entry.now.situation by))) }
         ensures led { IfOk result (λ _. Contains (moves self.now entry.now.situation) by → KeepsLed (meanings_of F.meaning functions.now) self.now trail.old.items trail.new.items next.old.entries.items next.new.entries.items entry.now) }
         ensures longer { IfOk result (λ _. IsLonger trail.old.items trail.new.items) }
-        ensures one { IfOk result (λ _. length trail.new.items ≤ length trail.old.items + 1) }
+        ensures numbered { IfOk result (λ _. (base : ℕ) → AreNumbered base trail.old.items next.old.entries.items → AreNumbered base trail.new.items next.new.entries.items) }
+        ensures full { IfOk result (λ whole. whole ≡ false → bound ≤ length trail.new.items) }
+        ensures past { IfOk result (λ whole. whole ≡ false → IsNowhere next.new.entries.items (moved (meanings_of F.meaning functions.now) self.now entry.now.situation by)) }
+        ensures within { length trail.old.items ≤ bound → IfOk result (λ _. length trail.new.items ≤ bound) }
     {
         let situation = self.moved(alloc, functions, &entry.situation, by)?;
-        let number = trail.len() as u32;
-        let new = next.add(situation, entry.orders, number)?;
-        if new {
-            trail.push(Trace {
-                before: entry.number,
-                by,
-            })?;
-            Ok(())
-        } else {
-            Ok(())
+        let number = new_number(trail.len(), bound);
+        let added = next.add(situation, entry.orders, number)?;
+        match added {
+            Added::New => {
+                trail.push(Trace {
+                    before: entry.number,
+                    by,
+                })?;
+                Ok(true)
+            }
+            Added::There => Ok(true),
+            Added::NoRoom => Ok(false),
         }
     }
 
@@ -294,6 +304,19 @@ impl Program {
             }
         }
         Ok(None)
+    }
+}
+
+/// The number of the next new situation, unless so many as the bound have one.
+fn new_number(taken: usize, bound: u32) -> Option<u32>
+    ensures number { IfSome result (λ number. number ≡ taken) }
+    ensures room { IfSome result (λ _. taken < bound) }
+    ensures full { IfNone result (bound ≤ taken) }
+{
+    if taken < bound as usize {
+        Some(taken as u32)
+    } else {
+        None
     }
 }
 

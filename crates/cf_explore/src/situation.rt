@@ -48,7 +48,8 @@ impl Situation {
 
     /// Whether it is the same situation.
     pub(crate) fn is_same(&self, other: &Situation) -> bool
-        ensures { result ≡ true → self.now ≡ other.now }
+        ensures same { result ≡ true → self.now ≡ other.now }
+        ensures other { self.now ≡ other.now → result ≡ true }
     {
         if !same_places(&self.places, &other.places) {
             return false;
@@ -89,7 +90,8 @@ impl Situation {
 
 /// Whether they are the same places.
 fn same_places(a: &[Place], b: &[Place]) -> bool
-    ensures { result ≡ true → a.now ≡ b.now }
+    ensures same { result ≡ true → a.now ≡ b.now }
+    ensures other { a.now ≡ b.now → result ≡ true }
 {
     if a.len() != b.len() {
         return false;
@@ -104,7 +106,8 @@ fn same_places(a: &[Place], b: &[Place]) -> bool
 
 /// Whether they are the same hands.
 fn same_hands(a: &[Hand], b: &[Hand]) -> bool
-    ensures { result ≡ true → a.now ≡ b.now }
+    ensures same { result ≡ true → a.now ≡ b.now }
+    ensures other { a.now ≡ b.now → result ≡ true }
 {
     if a.len() != b.len() {
         return false;
@@ -119,14 +122,16 @@ fn same_hands(a: &[Hand], b: &[Hand]) -> bool
 
 /// Whether it is the same hand.
 fn same_hand(a: Hand, b: Hand) -> bool
-    ensures { result ≡ true → a ≡ b }
+    ensures same { result ≡ true → a ≡ b }
+    ensures other { a ≡ b → result ≡ true }
 {
     a == b
 }
 
 /// Whether the same functions were called.
 fn same_marks(a: &[bool], b: &[bool]) -> bool
-    ensures { result ≡ true → a.now ≡ b.now }
+    ensures same { result ≡ true → a.now ≡ b.now }
+    ensures other { a.now ≡ b.now → result ≡ true }
 {
     if a.len() != b.len() {
         return false;

@@ -10,6 +10,7 @@ pub mod Graphs
 pub mod LedgerSteps
 pub mod Ledgers
 pub mod Meetings
+pub mod Notices
 pub mod Opening
 pub mod Plans
 pub mod Records

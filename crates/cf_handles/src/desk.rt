@@ -2,5 +2,6 @@
 
 pub mod caller;
 pub mod completing;
+pub mod noticing;
 pub mod opening;
 pub mod stepping;

@@ -72,7 +72,9 @@ impl Named {
         let steps = self.json.get("steps")?;
         let step = steps.get(k)?;
         match step.get(0usize)?.as_str()? {
-            "complete" | "fail" | "failAs" | "cancel" | "now" | "outcome" => number(step.get(1usize)),
+            "complete" | "fail" | "failAs" | "cancel" | "now" | "outcome" => number(step.get(
+                1usize,
+            )),
             "claim" | "finish" => number(step.get(2usize)),
             "attach" => self.stages_before(k),
             _ => None,

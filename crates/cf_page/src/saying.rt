@@ -25,7 +25,7 @@ pub(crate) fn write_event(
             write_failed(out, people, code, reply)
         }
         Event::FailAs { stage, failure, .. } => {
-            write_call(out, notes, people, failing(failure), stage);
+            write_failing(out, notes, people, failure, stage);
             write_flag(out, reply)
         }
         Event::Cancel { stage, .. } => {
@@ -69,7 +69,7 @@ pub(crate) fn write_event_alone(out: &mut Text, notes: &Notes, people: &People, 
         Event::Complete { stage, .. } => write_call(out, notes, people, "completes", stage),
         Event::Fail { stage, .. } => write_call(out, notes, people, "fails", stage),
         Event::FailAs { stage, failure, .. } => {
-            write_call(out, notes, people, failing(failure), stage)
+            write_failing(out, notes, people, failure, stage)
         }
         Event::Cancel { stage, .. } => write_call(out, notes, people, "cancels", stage),
         Event::Claim { stage, .. } => write_call(out, notes, people, "claims", stage),
@@ -79,11 +79,14 @@ pub(crate) fn write_event_alone(out: &mut Text, notes: &Notes, people: &People, 
     }
 }
 
-/// What a caller does who fails a stage so.
-fn failing(failure: Failure) -> &'static str {
+/// Adds that a caller fails a stage so.
+fn write_failing(out: &mut Text, notes: &Notes, people: &People, failure: Failure, stage: u16) {
     match failure {
-        Failure::TimedOut => "times out",
-        Failure::BadAnswer => "fails as a bad answer",
+        Failure::TimedOut => write_call(out, notes, people, "times out", stage),
+        Failure::BadAnswer => {
+            write_call(out, notes, people, "fails", stage);
+            out.add(" with a bad answer")
+        }
     }
 }
 

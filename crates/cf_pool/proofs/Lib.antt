@@ -4,6 +4,10 @@ pub mod Jobs
 pub mod Calling
 pub mod OpenClaims
 pub mod CalledOnce
+pub mod EachOnce
 pub mod Pools
 pub mod Runs
+pub mod ClaimedStages
+pub mod Quiet
 pub mod Racing
+pub mod PlainRuns

@@ -2,7 +2,6 @@ pub mod Recorded
 pub mod Owing
 pub mod Totals
 pub mod Counts
-pub mod Quiet
 pub mod Expressed
 pub mod Joining
 pub mod Ending

@@ -1,5 +1,5 @@
 -- What a run of workers leaves, and what it tells.
-use Rattle.std.specs.Prelude.{◌≡◌, ◌≤◌, ℕ, Bool, true, false, Option, Some, None, Result, Ok, Err, List, drop, length, map}
+use Rattle.std.specs.Prelude.{◌≡◌, ◌+◌, ◌<◌, ◌≤◌, ℕ, Bool, true, false, eqb, Option, Some, None, Result, Ok, Err, List, [], ◌∷◌, drop, length, map}
 use Rattle.std.specs.List.{AllZip, Contains}
 use Rattle.cf_model.specs.declared.events.Event.{Event}
 use Rattle.cf_model.specs.States.{State, lowest_ready_of}
@@ -7,10 +7,12 @@ use Rattle.cf_forms.specs.Meanings.{Meanings}
 use Rattle.cf_forms.specs.Plans.{Planned}
 use Rattle.cf_desk.specs.declared.calls.Closed.{Closed}
 use Rattle.cf_desk.specs.declared.calls.Kept.{Kept}
+use Rattle.cf_desk.specs.declared.calls.Rec.{Rec}
 use Rattle.cf_desk.specs.declared.faults.DeskFault.{DeskFault}
 use Rattle.cf_desk.specs.declared.faults.DeskFault.TheVariants.{BadAttach, LogFull, NoStage, PassFull}
 use Rattle.cf_desk.specs.Keepings.{AllFit, AreKept, caller_kept, pass_kept}
 use Rattle.cf_desk.specs.Log.{state_from}
+use Rattle.cf_desk.specs.Rule.{weight}
 use Rattle.cf_desk.specs.Views.{Closes, Desk, Pass}
 use Rattle.cf_event.specs.Histories.{IsOneHistory}
 use Rattle.cf_pool.specs.declared.faults.PoolFault.{PoolFault}
@@ -28,6 +30,15 @@ use Rattle.cf_pool.specs.Works.{Works}
 -- the function of each stage is called at most once for the records of all these passes
 abbrev pub AreCalledOnce : List Kept → Type 0
 AreCalledOnce kept = (i : ℕ) → calls_of_all i (map pass_kept kept) ≤ 1
+
+-- how often this caller stands among these
+abbrev pub times_kept : ℕ → List (ℕ × List Rec) → ℕ
+times_kept c [] = 0
+times_kept c (k ∷ ks) = weight (eqb k.0 c) + times_kept c ks
+
+-- each of so many callers stands once among these passes
+abbrev pub IsEachOnce : ℕ → List Kept → Type 0
+IsEachOnce callers kept = (c : ℕ) → c < callers → times_kept c (map pass_kept kept) ≡ 1
 
 -- what a run leaves: the closed desk with the passes as they are then, whose records are one history, and the graph as it leaves it
 pub record Ran (meanings : Meanings) (d : Desk) (ps : List Pass) (history : List Event) (kept : List Kept) (graph : State) : Type 0 where

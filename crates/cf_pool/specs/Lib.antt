@@ -7,6 +7,7 @@ pub mod Counting
 pub mod Claims
 pub mod Runs
 pub mod Closings
+pub mod PlainRuns
 pub mod Records
 pub mod Races
 pub mod Beginnings

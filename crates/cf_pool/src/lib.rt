@@ -23,7 +23,7 @@ mod workers;
 
 pub use faults::PoolFault;
 pub use gate::{Gate, NoGate};
-pub use pool::{Left, Unbegun, run};
+pub use pool::{Left, Unbegun, run, runs_end_plainly};
 pub use races::{RaceFault, race, races_end_alike, races_end_as_expressions};
 pub use worker::{Done, work};
 pub use workers::{Shared, Worker, share};

@@ -6,6 +6,7 @@ ghost use Rattle.cf_desk.specs.Rule.{AllShort};
 ghost use Rattle.cf_desk.specs.Views.{IsOf, knowns};
 ghost use Rattle.cf_pool.specs.Calling.{MeanAlike, first_meanings};
 ghost use Rattle.cf_pool.specs.Closings.{HadThreads, HaveCalled, RunRefuses, RanOut, told};
+ghost use Rattle.cf_pool.specs.PlainRuns.{RunsEndPlainly};
 ghost use Rattle.cf_pool.specs.Runs.{IsFirst, IsWorkedBy, SeesMore, SeesOn, first_with, is_any_alone, lower_of, stop_of};
 
 use crate::faults::PoolFault;
@@ -462,3 +463,9 @@ pub fn run<R: Threads + Wait + Sync, W: Worker + Send + Drop>(
         })),
     }
 }
+
+/// Where all that a desk's passes had done before were plain steps, and no work, a run that answers Ok leaves the graph quiet
+/// and its history plain. So each stage of a plain plan holds its expression's outcome.
+pub fn runs_end_plainly()
+    ensures { RunsEndPlainly }
+{}

@@ -7,7 +7,7 @@ ghost use Rattle.std.specs.Prelude.{◌≡◌, ◌+◌, ◌<◌, ◌≤◌, IfEr
 ghost use Rattle.cf_forms.specs.Plans.{has_place, with_room};
 ghost use Rattle.cf_pool.specs.Calling.{MeanAlike, first_meanings};
 ghost use Rattle.cf_pool.specs.Beginnings.{HaveCalledInRace};
-ghost use Rattle.cf_pool.specs.Closings.{AreCalledOnce, IsForRoom, IsHistoryOf};
+ghost use Rattle.cf_pool.specs.Closings.{AreCalledOnce, IsEachOnce, IsForRoom, IsHistoryOf};
 ghost use Rattle.cf_pool.specs.Races.{AreSteps, IsDueToRefuse, IsRaced, RacedIsExpression, RacesEndAlike, log_words, race_functions};
 
 use crate::faults::PoolFault;
@@ -62,6 +62,7 @@ pub fn race<R: Threads + Wait + Sync, W: Worker + Send + Drop>(
     requires steps { AreSteps (with_room plan room) steps.now }
     ensures raced { IfOk result (λ left. IsRaced (first_meanings W.meanings hands.items) (with_room plan room) steps.now workers left.closed.graph.state) }
     ensures history { IfOk result (λ left. IsHistoryOf (with_room plan room) race_functions left.closed) }
+    ensures each { IfOk result (λ left. IsEachOnce (workers + 1) left.closed.passes.items) }
     ensures once { IfOk result (λ left. AreCalledOnce left.closed.passes.items) }
     ensures called { IfOk result (HaveCalledInRace W.tells W.calls (first_meanings W.meanings hands.items) steps.now hands.items) }
     ensures size { IfOk result (λ left. log_words (length steps.now) (length plan.stages + room) workers ≤ 65535) }

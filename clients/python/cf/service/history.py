@@ -258,7 +258,8 @@ class History:
         return done.stdout
 
     def script(self, most: Optional[int] = None) -> str:
-        """What `cf run` does again and `cf_look dot` draws, a line of JSON: the first events, or all."""
+        """What `cf run` does again and `cf_look dot` draws, a line of JSON: the first events, or all. It is of version 3 where one of them
+        lets a stage time out or have a bad answer, else of version 2."""
         events = [entry.event for entry in self.entries()[:most]]
         version = 3 if any(isinstance(event, FailAs) for event in events) else 2
         return json.dumps({"cf": version, "room": len(self.names) - len(self.planned), "stages": self._stages(),

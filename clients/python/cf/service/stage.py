@@ -99,8 +99,8 @@ class Stage(_Future[T]):
         return self.request._change(CANCEL, THIS_THREAD, self, False)
 
     def or_timeout(self, seconds: float) -> "Stage[T]":
-        """Lets it fail with a `TimeoutError`, unless it is settled by then: at once where the time is over already, and never where it is
-        endless; `ValueError` of NaN. This stage itself is given back."""
+        """Lets it time out, with a `TimeoutError`, unless it is settled by then: at once where the time is over already, and never where it
+        is endless; `ValueError` of NaN. This stage itself is given back."""
         error = f"{escaped(self.name)} took longer than {seconds} s"
         return self.request._later(self, seconds, lambda: self.request._change(FAIL_AS, CLOCK, self, TimeoutError(error)))
 

@@ -111,8 +111,8 @@ class Stage(_Future[T]):
         return self.request._settle(CANCEL, self.number, None)
 
     def or_timeout(self, seconds: float) -> "Stage[T]":
-        """Lets it fail with a `TimeoutError`, unless it is settled by then: any process that works on the request does it. A stage has one
-        timer, and this replaces one that it had. This stage itself is given back."""
+        """Lets it time out, with a `TimeoutError`, unless it is settled by then: any process that works on the request does it. A stage has
+        one timer, and this replaces one that it had. This stage itself is given back."""
         error = TimeoutError(f"{escaped(self.name)} took longer than {seconds} s")
         return self.request._later(self, seconds, b"E" + self.request._service.codec.write_error(error))
 

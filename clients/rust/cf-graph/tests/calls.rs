@@ -1,7 +1,5 @@
 //! What each call answers, row by row.
-use cf_graph::{
-    Answer, Args, Cause, Claimed, Failure, Finished, Form, Graph, Limit, Now, Outcome, Plan, PlanBuilder, Refused, Step, Taken, Ticked, Value,
-};
+use cf_graph::*;
 use std::thread;
 
 const THROWN: Outcome = fault(Cause::Thrown(4_000_000_000), false);
@@ -78,6 +76,11 @@ fn a_failure_has_its_cause() {
         assert_eq!(graph.finish(0, 4, Answer::Give(Value::Nil)), Ok(Finished::Late));
         assert_eq!(graph.now(4, Value::Nil), Ok(Now::Completion(cause)));
         assert_eq!(graph.fail_as(9, failure), Err(Refused::NO_STAGE));
+        // The same by its word.
+        let event = Event { who: 63, call: Call::FailAs(2, failure) };
+        let mut ledger = Ledger::new(&mut plan(), 0).unwrap();
+        assert_eq!((graph.apply(event.word().unwrap()), ledger.act(event)), (Ok(Reply::Flag(true)), Ok(Reply::Flag(true))));
+        assert_eq!(ledger.stage(2).unwrap().state, State::Settled(fault(cause, false)));
     }
 }
 

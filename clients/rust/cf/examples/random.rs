@@ -58,6 +58,7 @@ fn step(dice: &mut Dice, request: &Request, stages: &[Stage<i64>], others: &[Sta
     let b = if dice.roll(6) == 0 { dice.pick(others) } else { dice.pick(stages) }.clone();
     let (f, by, rest) = (function(dice), request.clone(), function(dice));
     let all = [a.clone(), b.clone(), dice.pick(stages).clone()];
+    let late = Duration::from_micros(*dice.pick(&[1, 100, 400_000]));
     Some(match dice.roll(24) {
         0 => request.promise(),
         1 | 2 => request.try_supply(move || f(1)),
@@ -69,7 +70,10 @@ fn step(dice: &mut Dice, request: &Request, stages: &[Stage<i64>], others: &[Sta
         9 | 10 => a.combine(&b, move |a, b| must(f(a + b))),
         11 => a.either(&b, move |n| must(f(*n))),
         12 => a.compose(move |_| b),
-        13 => a.compose(move |n| by.supply(|| 5).combine(&by.try_supply(move || rest(4)), |a, b| a * b).named(format!("of {n}"))),
+        13 => a.compose(move |n| {
+            let both = by.supply(|| 5).combine(&by.try_supply(move || rest(4)), |a, b| a * b);
+            both.named(format!("of {n}")).or_timeout(late)
+        }),
         14 => a.recover_compose(move |_| b),
         15 => request.all_of(all[..dice.roll(4)].iter().map(|it| it as &dyn cf::AnyStage)).then(|()| 0),
         16 => request.first_of(&all),

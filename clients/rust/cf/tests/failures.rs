@@ -1,5 +1,5 @@
 //! Time-outs and bad answers: events of their own in all that is told, and errors that are kept for all that hangs on them.
-use cf::{Error, HandClock, Inline, Job, Request, Spawn, Stage};
+use cf::{Describe, Error, HandClock, Inline, Job, Request, Spawn, Stage};
 use std::collections::VecDeque;
 use std::fmt::Debug;
 use std::sync::{Arc, Mutex};
@@ -56,6 +56,9 @@ fn a_time_out_is_told_as_one() {
     assert!(account.contains(r#"["did",3,"576742227280134144","true"],["outcome",3,0,"fault timeout raw"]"#), "{account}");
     assert!(account.contains(r#""errors":["timed out after 5s",""]"#), "{account}");
     is_done_again(&request);
+    let request = request.described(Describe::Nothing);
+    assert_eq!(told(&request)[3], "0 price ends: timeout");
+    assert!(request.history().account().contains(r#""errors":["-",""]"#));
 }
 
 /// A caller may say so, too.
@@ -73,10 +76,10 @@ fn a_bad_answer_is_told_as_one() {
     assert_eq!(
         told(&request)[2..],
         [
-            "caller fails 0 price with a bad answer",
+            "caller fails 0 price as a bad answer",
             "0 price ends: a bad answer",
             "1 behind ends: a bad answer, passed on",
-            "caller fails 0 price with a bad answer, too late",
+            "caller fails 0 price as a bad answer, too late",
             "caller times out 0 price, too late",
             "caller attaches 2 slow, source",
             "caller times out 2 slow",

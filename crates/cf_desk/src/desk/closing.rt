@@ -3,7 +3,7 @@ ghost use Rattle.std.specs.Prelude.{◌≡◌, ◌<◌, ◌≤◌, ℕ, [], All,
 ghost use Rattle.std.specs.Mem.Slots.{IsFull, slots_items, slots_len};
 ghost use Rattle.cf_event.specs.Decoding.{decoded};
 ghost use Rattle.cf_event.specs.Histories.{IsOneHistory};
-ghost use Rattle.cf_desk.specs.Keepings.{AllFit, AreKept, IsFit, caller_kept, pass_kept};
+ghost use Rattle.cf_desk.specs.Keepings.{AllFit, AreKept, IsCallers, IsFit, caller_kept, pass_kept};
 ghost use Rattle.cf_desk.specs.Laws.{Shows};
 ghost use Rattle.cf_desk.specs.Log.{state_from};
 ghost use Rattle.cf_desk.specs.Views.{Closes, IsLatest, knowns};
@@ -66,6 +66,7 @@ fn gather(
     ensures seat { (result.0.table_id ≡ row.now.shared.table_id) × (result.0.me ≡ (knowns passes.items, [])) }
     ensures replica { MatchOption result.1 (passes.items ≡ []) (λ replica. (most : ℕ) × IsLatest most replica.state (knowns passes.items)) }
     ensures kept { AreKept result.2.items passes.items }
+    ensures callers { All IsCallers passes.items }
     ensures fit { All IsFit passes.items }
 {
     let mut seat = row.shared.load_new_seat::<Sits>(0).1;

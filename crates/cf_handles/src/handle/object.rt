@@ -4,7 +4,7 @@ ghost use Rattle.std.specs.Arc.{arc_value};
 ghost use Rattle.cf_handles.specs.Records.{CallsHaveWords, HasWord};
 
 use cf_core::{Graph, Sweep};
-use cf_desk::{Closed, Desk, Pass};
+use cf_desk::{Closed, Desk, Notice, Pass};
 use cf_ledger::Ledger;
 use cf_plan::{Plan, PlanBuilder};
 use std::alloc::Global;
@@ -26,6 +26,8 @@ pub enum Object {
     Ledger(Ledger),
     /// A caller of a graph that several share.
     Caller(Caller),
+    /// What a caller had seen, for another one to heed.
+    Notice(Noted),
     /// Callers that were given back, of a desk that is being closed.
     Closing(Closing),
     /// A closed desk.
@@ -38,6 +40,14 @@ pub struct Caller {
     pub(crate) desk: Arc<Desk, Global>,
     pub(crate) pass: Pass,
     pub ghost own: { pass.table ≡ (arc_value desk).table },
+}
+
+/// A notice and its desk.
+#[derive(Drop)]
+pub struct Noted {
+    pub(crate) desk: Arc<Desk, Global>,
+    pub(crate) notice: Notice,
+    pub ghost own: { notice.table ≡ (arc_value desk).table },
 }
 
 /// Passes that were given back, and their desk. There is room for those of all callers.

@@ -2,7 +2,7 @@
 use Rattle.std.proofs.Common.{◌≡◌, ◌≢◌, ℕ, ◌+◌, ◌<◌, ◌≤◌, ◌⊎◌, inl, inr, Bool, true, false, cond, eqb, eq-eqb, List, [], ◌∷◌, ◌++◌, length, map, take, sym, refl, ap, ◌∙◌, subst, arith}
 use Rattle.std.specs.List.{All, AllZip}
 use Rattle.std.proofs.lemmas.Bool.{eqb-false, cases_lt}
-use Rattle.std.proofs.lemmas.List.Elements.{All-head, All-tail, All-weaker}
+use Rattle.std.proofs.lemmas.List.Elements.{All-cons, All-head, All-tail, All-weaker}
 use Rattle.cf_forms.specs.Plans.{Planned}
 use Rattle.cf_model.specs.declared.events.Event.{Event}
 use Rattle.cf_model.specs.Calls.{who_of}
@@ -29,23 +29,32 @@ own_split : (b : Bool) (w : Event) (ws : List Event) → cond b (w ∷ ws) ws �
 own_split true w ws e = absurd (let l = ap length e in omega arith)
 own_split false w ws e = (refl, e)
 
--- where no other caller has an event, all are caller 0's
-all_own : (callers : ℕ) (ws : List Event) → All (λ e. who_of e < callers) ws → ((c : ℕ) → 0 < c → c < callers → own c ws ≡ []) → own 0 ws ≡ ws
-all_own callers [] h none = refl
-all_own callers (w ∷ ws) h none =
-    (λ i. cond (zeroth i) (w ∷ own 0 ws) (own 0 ws))
-    ∙ ap (λ l. w ∷ l) (all_own callers ws (All-tail (λ e. who_of e < callers) w ws h) (λ c more less. (own_split (eqb (who_of w) c) w (own c ws) (none c more less)).1))
+-- where no other caller has an event, all are this one's
+pub all_own : (callers c : ℕ) (ws : List Event) → All (λ e. who_of e < callers) ws → ((k : ℕ) → k ≢ c → k < callers → own k ws ≡ []) → own c ws ≡ ws
+all_own callers c [] h none = refl
+all_own callers c (w ∷ ws) h none =
+    (λ i. cond (mine i) (w ∷ own c ws) (own c ws))
+    ∙ ap (λ l. w ∷ l) (all_own callers c ws (All-tail (λ e. who_of e < callers) w ws h) (λ k ne less. (own_split (eqb (who_of w) k) w (own k ws) (none k ne less)).1))
   where
-    zeroth : eqb (who_of w) 0 ≡ true
-    zeroth = split (eqb (who_of w) 0) refl
+    mine : eqb (who_of w) c ≡ true
+    mine = split (eqb (who_of w) c) refl
       where
-        split : (b : Bool) → eqb (who_of w) 0 ≡ b → b ≡ true
+        split : (b : Bool) → eqb (who_of w) c ≡ b → b ≡ true
         split true t = refl
         split false t =
-            let other : who_of w ≢ 0 = eqb-false (who_of w) 0 t in
-            let f = (own_split (eqb (who_of w) (who_of w)) w (own (who_of w) ws) (none (who_of w) (omega arith) (All-head (λ e. who_of e < callers) w ws h))).0 in
+            let other : who_of w ≢ c = eqb-false (who_of w) c t in
+            let f = (own_split (eqb (who_of w) (who_of w)) w (own (who_of w) ws) (none (who_of w) other (All-head (λ e. who_of e < callers) w ws h))).0 in
             let same = eq-eqb (who_of w) (who_of w) refl in
             let nothing : ⊥ = cc in absurd nothing
+
+own_kept : (b : Bool) (P : Event → Type 0) (w : Event) (ws : List Event) → P w → All P ws → All P (cond b (w ∷ ws) ws)
+own_kept true P w ws h all = All-cons P w ws h all
+own_kept false P w ws h all = all
+
+-- what holds of all events holds of one caller's
+pub own_all : (P : Event → Type 0) (c : ℕ) (ws : List Event) → All P ws → All P (own c ws)
+own_all P c [] h = h
+own_all P c (w ∷ ws) h = own_kept (eqb (who_of w) c) P w (own c ws) (All-head P w ws h) (own_all P c ws (All-tail P w ws h))
 
 pub back_all : (P : Event → Type 0) (xs ys : List Event) → All P (xs ++ ys) → All P ys
 back_all P [] ys h = h
@@ -85,7 +94,7 @@ weigh_zero false n e l = omega arith
 pub seen_is : (d : Desk) (steps : List Event) (p : Pass) (callers : ℕ) → (t : HasDoneSteps d steps p) → All (λ e. who_of e < callers) p.known.seen → ((c : ℕ) → 0 < c → c < callers → own c p.known.seen ≡ []) → p.known.seen ≡ take t.taken steps
 seen_is d steps p callers t h none =
     let did : dids 0 p.records ≡ events_of 0 p.known.seen = subst (λ (c : ℕ). dids c p.records ≡ events_of c p.known.seen) t.done.caller t.done.fit.did in
-    sym (all_own callers p.known.seen h none) ∙ sym (calls_of 0 0 p.known.seen) ∙ sym (ap (map call_of) did) ∙ t.done.did
+    sym (all_own callers 0 p.known.seen h (λ c ne less. none c (omega (arith, ne)) less)) ∙ sym (calls_of 0 0 p.known.seen) ∙ sym (ap (map call_of) did) ∙ t.done.did
 
 -- ---- the history of a run
 

@@ -20,7 +20,7 @@ use Rattle.cf_desk.specs.Log.{Catches, state_from}
 use Rattle.cf_desk.specs.Records.{Fits}
 use Rattle.cf_desk.specs.Rule.{count_in, weight}
 use Rattle.cf_desk.specs.Views.{Pass, knowns, state_of}
-use Rattle.cf_pool.specs.Works.{Works, WorksOut, AreWork, claims_of, owed_after}
+use Rattle.cf_pool.specs.Works.{Works, AreWork, claims_of}
 use Rattle.cf_pool.specs.Records.{recorded}
 use Rattle.cf_pool.proofs.Racing.Recorded.{only_dids, only_append, only_work, fits_recorded, recorded_append}
 use Rattle.cf_pool.proofs.Working.{work_grown}
@@ -91,7 +91,7 @@ abbrev pub WorksIn : Meanings → List Event → Pass → Pass → Type 0
 WorksIn meanings history p q = Works meanings p q × Catches q.known.caller q.known.seen history
 
 -- so the plan that the pass saw last grows to the one that the history leaves
-grows_in : (meanings : Meanings) (setting : DeskConfig) (history : List Event) (p q : Pass) → WorksIn meanings history p q → p.known.setting ≡ setting → Grows (state_of q.known) (state_from setting.plan history)
+pub grows_in : (meanings : Meanings) (setting : DeskConfig) (history : List Event) (p q : Pass) → WorksIn meanings history p q → p.known.setting ≡ setting → Grows (state_of q.known) (state_from setting.plan history)
 grows_in meanings setting history p q w is =
     let was : state_of q.known ≡ state_from setting.plan q.known.seen = ap (λ (s : DeskConfig). state_from s.plan q.known.seen) (w.0.same.1 ∙ is) in
     let now : state_from setting.plan history ≡ state_after (state_from setting.plan q.known.seen) w.1.others = ap (state_from setting.plan) w.1.joined ∙ state_after-append (start setting.plan) q.known.seen w.1.others in
@@ -108,11 +108,6 @@ shares meanings setting seen work most calls p q both begun fit =
           (work_grown meanings (state_of q.known) (state_from setting.plan (seen ++ work)) w.more (grows_in meanings setting (seen ++ work) p q both begun.setting_is) w.work);
       once = λ i. subst (λ (l : List Rec). claims_of i l ≤ 1) is (w.once i);
     }
-
-pub owes_none : (meanings : Meanings) (setting : DeskConfig) (seen work : List Event) (most calls : ℕ) (p q : Pass) → WorksOut meanings p q → HadBegun setting seen most calls p → Fits setting.plan q.known.caller (seen ++ work) q.records
-    → owed_after None (recorded p.known.caller (length seen) (state_from setting.plan seen) work) ≡ None
-owes_none meanings setting seen work most calls p q w begun fit =
-    ap (owed_after None) (sym (more_is meanings setting.plan seen work p q w.works begun.fits fit)) ∙ w.owes
 
 -- a caller without a pass records nothing
 absent_split : (b : Bool) (r : Rec) (rs : List Rec) → b ≡ false → rs ≡ [] → cond b (r ∷ rs) rs ≡ []

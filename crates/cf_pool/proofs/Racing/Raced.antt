@@ -1,8 +1,8 @@
 -- A run that begins as a race ends as one, and its log and its passes are never full.
-use Rattle.std.proofs.Common.{◌≡◌, true, ℕ, suc, ◌+◌, ◌*◌, ◌<◌, ◌≤◌, ◌⊎◌, inl, inr, eqb, None, List, [], ◌∷◌, ◌++◌, length, map, take, replicate, refl, sym, ap, ◌∙◌, subst, arith, length-append, append_assoc}
+use Rattle.std.proofs.Common.{◌≡◌, true, false, ℕ, suc, ◌+◌, ◌*◌, ◌<◌, ◌≤◌, ◌⊎◌, inl, inr, eqb, None, List, [], ◌∷◌, ◌++◌, length, map, take, replicate, refl, sym, ap, ◌∙◌, subst, arith, length-append, append_assoc}
 use Rattle.std.specs.List.{All, AllZip}
 use native.Mathlib.Nat.{mul-suc}
-use Rattle.std.proofs.lemmas.Bool.{eqb-true, false_from_ne_true, cases_lt}
+use Rattle.std.proofs.lemmas.Bool.{eqb-true, false_from_ne_true}
 use Rattle.std.proofs.lemmas.List.{length-take-le, length-replicate}
 use Rattle.std.proofs.lemmas.List.Sums.{count_by-le-length}
 use Rattle.std.proofs.Math.Seq.{take-length}
@@ -10,26 +10,28 @@ use Rattle.std.proofs.lemmas.List.Elements.{All-cons, All-head, All-tail, All-we
 use Rattle.cf_forms.specs.Plans.{Planned, PlannedStage, IsBuilt, IsGrowing, edges_of, plan_of, with_room}
 use Rattle.cf_forms.proofs.PlanLemmas.{IsBuilt-as}
 use Rattle.cf_model.specs.declared.events.Event.{Event}
+use Rattle.cf_model.specs.declared.events.Event.TheVariants.{Complete as Completes, Fail as Fails, FailAs as FailsAs, Cancel as Cancels, Claim as Claims, Finish as Finishes, Tick as Ticks, Attach as Attaches}
 use Rattle.cf_model.specs.declared.stage.Stage.TheVariants.{Pending}
-use Rattle.cf_model.specs.States.{State, start, stage_at}
+use Rattle.cf_model.specs.States.{State, start}
 use Rattle.cf_model.specs.Claims.{is_claimable}
 use Rattle.cf_model.specs.Events.{state_after}
 use Rattle.cf_model.specs.Calls.{is_from_outside}
 use Rattle.cf_model.proofs.Histories.{state_after-append}
-use Rattle.cf_model.proofs.LowestReady.{lowest_ready-none}
 use Rattle.cf_model.proofs.Growing.{grown_growing}
 use Rattle.cf_model.proofs.Shape.{length-new_states, state_after-grows}
 use Rattle.cf_forms.specs.Meanings.{Meanings}
-use Rattle.cf_expr.specs.Histories.{grants_after, nothing_granted}
+use Rattle.cf_expr.specs.Histories.{grants_after, is_work, nothing_granted}
 use Rattle.cf_desk.specs.declared.calls.Kept.{Kept}
 use Rattle.cf_desk.specs.declared.faults.DeskFault.{DeskFault}
 use Rattle.cf_desk.specs.declared.faults.DeskFault.TheVariants.{BadAttach, LogFull, NoStage, PassFull}
 use Rattle.cf_desk.specs.declared.row.DeskConfig.{DeskConfig}
 use Rattle.cf_desk.specs.Keepings.{IsKeptFit, pass_did}
+use Rattle.cf_desk.specs.Laws.{call_of}
 use Rattle.cf_event.specs.Events.{own}
 use Rattle.cf_desk.specs.Log.{Catches, state_from}
 use Rattle.cf_desk.specs.Rule.{count_in}
 use Rattle.cf_desk.specs.Views.{Closes, Pass, Desk, knowns}
+use Rattle.cf_desk.proofs.Histories.{calls_of}
 use Rattle.cf_desk.proofs.Lists.{all_front}
 use Rattle.cf_event.proofs.Events.{events_each}
 use Rattle.cf_model.specs.Calling.{CallsOf}
@@ -37,19 +39,16 @@ use Rattle.cf_pool.specs.Calling.{TellsOf}
 use Rattle.cf_pool.specs.declared.faults.PoolFault.{PoolFault}
 use Rattle.cf_pool.specs.declared.faults.PoolFault.TheVariants.{Desk as ToldDesk, NoMemory, NoThread}
 use Rattle.cf_pool.specs.Closings.{IsDueToTell, IsForRoom, RunRefuses, Ran, RanOut}
-use Rattle.cf_pool.specs.Works.{Owed, Works, WorksOut, owed_after}
+use Rattle.cf_pool.specs.Works.{Owed, Works}
 use Rattle.cf_pool.specs.Records.{recorded}
 use Rattle.cf_pool.specs.Races.{AreSteps, IsByWorker, IsRaced, IsStep, IsWorkHistory, log_words, plan_after, race_functions}
 use Rattle.cf_pool.specs.Beginnings.{HaveBegun, IsApart, IsHeldUp, HasDoneSteps}
-use Rattle.cf_model.proofs.ClaimedStages.{is_claimed, outside_leaves_unclaimed}
-use Rattle.cf_expr.proofs.Quiet.{is_quiet}
-use Rattle.cf_pool.proofs.Runs.{each_out}
+use Rattle.cf_pool.proofs.Quiet.{MadeNoWork, quiet}
 use Rattle.cf_pool.proofs.Racing.Counts.{ByCaller, claims_left, grants_leave, history_at_most}
 use Rattle.cf_pool.proofs.Racing.Begun.{held_up_by_log}
-use Rattle.cf_pool.proofs.Racing.Ending.{Whole, all_share, back_all, first_begun, others_begun, own_none, seen_is, weigh_zero}
-use Rattle.cf_pool.proofs.Racing.Joining.{HadBegun, Shares, WorksIn, absent_records, all_room, each_pass, has_room, last_plan, owes_none, shares, shares_few, zip_both}
+use Rattle.cf_pool.proofs.Racing.Ending.{Whole, all_share, back_all, own_all, first_begun, others_begun, own_none, seen_is, weigh_zero}
+use Rattle.cf_pool.proofs.Racing.Joining.{HadBegun, Shares, WorksIn, all_room, each_pass, has_room, last_plan, shares, shares_few, zip_both}
 use Rattle.cf_pool.proofs.Racing.Owing.{AllWork, is_work_then, work_leaves_plan}
-use Rattle.cf_pool.proofs.Racing.Quiet.{work_leaves_unclaimed}
 
 -- a run that began with the steps
 pub record Ended (meanings : Meanings) (d : Desk) (steps : List Event) (calls : ℕ) (ps qs : List Pass) (history : List Event) : Type 0 where
@@ -178,14 +177,21 @@ run_ended meanings d steps calls workers ps history kept graph b r callers words
 abbrev nobody : ℕ → Owed
 nobody c = None
 
-none_owed : (meanings : Meanings) (setting : DeskConfig) (history seen work : List Event) (most calls : ℕ) (ps qs : List Pass) → Whole meanings setting history seen work → All (HadBegun setting seen most calls) ps → AllZip (WorksOut meanings) ps qs → ((c : ℕ) → c < setting.callers → count_in c (knowns qs) ≡ 1)
-    → All (IsKeptFit setting.plan (seen ++ work)) (map pass_did qs) → (c : ℕ) → owed_after None (recorded c (length seen) (state_from setting.plan seen) work) ≡ None
-none_owed meanings setting history seen work most calls ps qs w begun zip each fits c = split (cases_lt c setting.callers)
-  where
-    split : (c < setting.callers) ⊎ (setting.callers ≤ c) → owed_after None (recorded c (length seen) (state_from setting.plan seen) work) ≡ None
-    split (inl l) = each_pass setting.plan (seen ++ work) (WorksOut meanings) (HadBegun setting seen most calls) (λ k. owed_after None (recorded k (length seen) (state_from setting.plan seen) work) ≡ None)
-        (λ a b v. v.works.same.2) (owes_none meanings setting seen work most calls) c ps qs zip begun fits (let one = each c l in omega (arith, one))
-    split (inr l) = ap (owed_after None) (absent_records setting.callers c (length seen) (state_from setting.plan seen) work l (back_all (ByCaller setting.callers) seen work w.by))
+outside_no_work : (e : Event) → is_from_outside e ≡ true → is_work e ≡ false
+outside_no_work (Completes who i v) h = refl
+outside_no_work (Fails who i code) h = refl
+outside_no_work (FailsAs who i failure) h = refl
+outside_no_work (Cancels who i) h = refl
+outside_no_work (Claims who i) h = cc
+outside_no_work (Finishes who i answer) h = cc
+outside_no_work (Ticks who now) h = refl
+outside_no_work (Attaches who form of function) h = refl
+
+-- what comes from outside alone is no work
+begun_no_work : (setting : DeskConfig) (seen : List Event) (most calls : ℕ) (p : Pass) → All (λ e. is_from_outside e ≡ true) seen → HadBegun setting seen most calls p → MadeNoWork p
+begun_no_work setting seen most calls p outside begun =
+    subst (All (λ e. is_work e ≡ false)) (sym (ap (map call_of) begun.fits.did ∙ calls_of p.known.caller 0 seen))
+    (own_all (λ e. is_work e ≡ false) p.known.caller seen (All-weaker (λ e. is_from_outside e ≡ true) (λ e. is_work e ≡ false) outside_no_work seen outside))
 
 pub race_ended : (meanings : Meanings) (d : Desk) (steps : List Event) (calls workers : ℕ) (ps : List Pass) (history : List Event) (kept : List Kept) (graph : State) → d.setting.callers ≡ workers + 1 → IsGrowing d.setting.plan → AreSteps d.setting.plan steps
     → (o : RanOut meanings d ps history kept graph) → Ended meanings d steps calls ps o.ran.qs history → IsRaced meanings d.setting.plan steps workers graph
@@ -193,14 +199,9 @@ race_ended meanings d steps calls workers ps history kept graph callers growing 
     let plan = d.setting.plan in
     let s = state_from plan e.seen in
     let is : history ≡ e.seen ++ e.work = e.whole.history_is in
-    let fits : All (IsKeptFit plan (e.seen ++ e.work)) (map pass_did o.ran.qs) = subst (λ (h : List Event). All (IsKeptFit plan h) (map pass_did o.ran.qs)) is (subst (All (IsKeptFit plan history)) o.ran.kept_are o.ran.fit.each) in
     let last = last_plan d.setting (e.seen ++ e.work) in
     let works : AllWork meanings last nobody (length e.seen) s e.work = λ c. (all_share meanings d.setting history e.seen e.work e.whole c).work in
     let outside : All (λ x. is_from_outside x ≡ true) e.seen = subst (All (λ x. is_from_outside x ≡ true)) (sym e.steps_are) (All-weaker IsStep (λ x. is_from_outside x ≡ true) (λ x h. h.0) steps are.0) in
-    let grown = state_after-grows (start plan) e.seen in
-    let begun : length (start plan).claims ≡ length (start plan).stages =
-    length-replicate (length plan.stages) None ∙ sym (length-new_states [] plan.stages (replicate (length plan.stages) Pending) ∙ length-replicate (length plan.stages) Pending) in
-    let lengths : length s.claims ≡ length s.stages = grown.all_claims ∙ ap (λ (n : ℕ). n + length grown.more) begun ∙ sym grown.all_stages in
     let state : graph ≡ state_after (start plan) (steps ++ e.work) = o.ran.graph_is ∙ ap (state_from plan) (is ∙ ap (λ l. l ++ e.work) e.steps_are) in
     let whole : state_from plan (e.seen ++ e.work) ≡ state_after s e.work = state_after-append (start plan) e.seen e.work in
     let joined : state_after s e.work ≡ graph = sym whole ∙ sym (ap (state_from plan) is) ∙ sym o.ran.graph_is in
@@ -214,10 +215,7 @@ race_ended meanings d steps calls workers ps history kept graph callers growing 
           (is_work_then meanings last nobody (grants_after nothing_granted (start plan) e.seen) (length e.seen) s e.work (sym stays ∙ ap (λ (t : State). t.plan) (sym whole)) (λ c i args owed. (let nothing : ⊥ = cc in absurd nothing)) works);
       by = All-weaker (ByCaller d.setting.callers) (IsByWorker workers) (λ x h. (omega arith)) e.work (back_all (ByCaller d.setting.callers) e.seen e.work e.whole.by);
       state = state;
-      quiet = is_quiet graph (lowest_ready-none graph o.none)
-          (λ i. ap (λ (t : State). is_claimed (stage_at t i)) (sym joined) ∙ work_leaves_unclaimed meanings last nobody (length e.seen) s e.work lengths
-          (λ j claimed. (let free = outside_leaves_unclaimed plan e.seen outside j in let nothing : ⊥ = cc in absurd nothing)) works
-          (none_owed meanings d.setting history e.seen e.work (length steps) calls ps o.ran.qs e.whole e.begun (each_out meanings d ps o.ran.qs o.ended) o.ran.closes.each fits) i);
+      quiet = quiet meanings d ps history kept graph (All-weaker (HadBegun d.setting e.seen (length steps) calls) MadeNoWork (λ p begun. begun_no_work d.setting e.seen (length steps) calls p outside begun) ps e.begun) o;
     }
 
 -- ---- as the code has it

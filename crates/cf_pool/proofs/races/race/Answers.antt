@@ -1,4 +1,4 @@
-use Rattle.std.proofs.Common.{◌+◌, ◌*◌, ◌∙◌, ap, length, map, subst, ℕ}
+use Rattle.std.proofs.Common.{◌+◌, ◌*◌, ◌<◌, ◌∙◌, ap, length, map, subst, sym, ℕ}
 use Rattle.cf_desk.specs.Keepings.{caller_kept}
 use Rattle.cf_desk.specs.Log.{state_from}
 use Rattle.cf_desk.specs.declared.row.DeskConfig.{DeskConfig}
@@ -6,6 +6,7 @@ use Rattle.cf_event.specs.Histories.{IsOneHistory}
 use Rattle.cf_forms.specs.Plans.{with_room}
 use Rattle.cf_forms.proofs.PlanLemmas.{place_is}
 use Rattle.cf_pool.specs.Races.{log_words}
+use Rattle.cf_pool.proofs.EachOnce.{each_once}
 use Rattle.cf_pool.proofs.Racing.Raced.{IsSized, growing-with_room, only_for_room, raced}
 use Rattle.cf_pool.proofs.races.race.Given.{Over}
 use Rattle.cf_pool.proofs.races.race.Goals as goal
@@ -46,3 +47,9 @@ returns-in-Ok-clause-history g c = (
 
 pub returns-in-Ok-clause-once : goal.returns-in-Ok-clause-once
 returns-in-Ok-clause-once g c = c.in-Ok.ensures.ran.ran.once
+
+pub returns-in-Ok-clause-each : goal.returns-in-Ok-clause-each
+returns-in-Ok-clause-each g c =
+    let ran = c.in-Ok.ensures.ran.ran in
+    each_once (c.args.workers + 1) c.in-Ok.left.closed.passes.items ran.qs ran.kept_are
+    (λ w l. ran.closes.each w (subst (λ (d : DeskConfig). w < d.callers) (sym c.in_ok-desk.ensures.desk.0) l))

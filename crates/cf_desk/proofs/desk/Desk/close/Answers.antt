@@ -22,7 +22,7 @@ shown c =
     let key = c.self.invariant.key in
     let is = (λ i. record { table = c.self.inside.table.shared.table_id; setting = (key i).setting; words = (key i).words }) ∙ c.self.view_is in
     shown_as c.self.inside.table.shared.table_id c.self.inside.table.shared.key _ _ c.gather-seat.result.0.id c.gather-seat.result.0.me.0 c.args.passes.items c.args.self _ _ _
-    is (ap (λ m. m.0) c.gather-seat.ensures.seat.1) len c.gather-seat.ensures.fit (latest c).1 c.decode_row-history.ensures c.close_with-closed.ensures.values.2
+    is (ap (λ m. m.0) c.gather-seat.ensures.seat.1) len c.gather-seat.ensures.callers c.gather-seat.ensures.fit (latest c).1 c.decode_row-history.ensures c.close_with-closed.ensures.values.2
 
 pub returns-clause-history : goal.returns-clause-history
 returns-clause-history c = (shown (goal.at.returns-clause-history c).In-Some).closes

@@ -1,10 +1,10 @@
-use Rattle.std.proofs.Common.{List, map, append-nil, ◌≡◌, ◌++◌, ◌∷◌, [], length, refl, sym, ap, ◌∙◌, subst, append_assoc, arith}
+use Rattle.std.proofs.Common.{map, append-nil, ◌≡◌, ◌++◌, ◌∷◌, [], length, refl, sym, ap, ◌∙◌, subst, append_assoc, arith}
 use Rattle.std.proofs.lemmas.List.{nil_from_length}
 use Rattle.std.proofs.lemmas.List.Elements.{All-nil, All-push}
 use Rattle.std.specs.List.{All}
 use Rattle.std.specs.Vec.Iter.{into_iter_items}
 use Rattle.cf_desk.specs.Views.{Pass, known_of, state_of}
-use Rattle.cf_desk.specs.Keepings.{IsFit, pass_kept}
+use Rattle.cf_desk.specs.Keepings.{IsCallers, IsFit, pass_kept}
 use Rattle.cf_desk.proofs.Meets.{sits_down, joins}
 use Rattle.cf_desk.proofs.Gathers.{all_at, joined_one, kept_one, latest_next, latest_of_all}
 use Rattle.cf_desk.proofs.desk.closing.gather.Goals as goal
@@ -38,6 +38,7 @@ next-preserved c =
       seat = joined_one i.done c.in-Some.pass (known_of c.pass.inside.seat.me.0) _ _ _ i.seat c.pass.invariant.one (ap (λ (h : Pass). h.known) v) c.join_seat.ensures.2;
       kept = kept_one _ _ _ _ _ i.kept items (λ j. ((a.caller ∙ ap (λ (h : Pass). h.known.caller) v) j, ap (λ (h : Pass). h.records) v j));
       replica = latest_next _ _ _ _ _ i.done c.in-Some.pass _ c.max-most.ensures c.later.ensures.newer c.later.ensures.older (a.count ∙ ap (λ (h : Pass). length h.known.seen) v) (a.state ∙ ap (λ (h : Pass). state_of h.known) v) i.replica;
+      callers = All-push IsCallers i.done c.in-Some.pass i.callers (subst IsCallers v a.one_of);
       fit = All-push IsFit i.done c.in-Some.pass i.fit (subst IsFit v a.fits);
     }
 
@@ -50,6 +51,7 @@ next-init c = record {
   seat = c.load_new_seat.ensures.2;
   kept = ap (map pass_kept) c.requires.kept.0;
   replica = (refl, refl);
+  callers = All-nil IsCallers;
   fit = All-nil IsFit;
 }
 
@@ -64,6 +66,9 @@ all_done c =
 
 pub returns-clause-replica : goal.returns-clause-replica
 returns-clause-replica c = latest_of_all _ _ _ _ (all_done (goal.at.returns-clause-replica c).After-drop-rest) c.next.invariant.replica
+
+pub returns-clause-callers : goal.returns-clause-callers
+returns-clause-callers c = subst (All IsCallers) (all_done (goal.at.returns-clause-callers c).After-drop-rest) c.next.invariant.callers
 
 pub returns-clause-fit : goal.returns-clause-fit
 returns-clause-fit c = subst (All IsFit) (all_done (goal.at.returns-clause-fit c).After-drop-rest) c.next.invariant.fit

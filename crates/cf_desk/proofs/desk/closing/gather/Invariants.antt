@@ -1,7 +1,7 @@
 use Rattle.std.proofs.Common.{◌≡◌, ◌≤◌, ◌+◌, ◌++◌, [], List, All, vec_len, vec_capacity}
 use Rattle.std.specs.Vec.Iter.{into_iter_items, into_iter_len}
 use Rattle.cf_desk.specs.Views.{Pass, knowns}
-use Rattle.cf_desk.specs.Keepings.{AreKept, IsFit}
+use Rattle.cf_desk.specs.Keepings.{AreKept, IsCallers, IsFit}
 use Rattle.cf_desk.proofs.Gathers.{LatestSoFar}
 use Rattle.cf_desk.proofs.desk.closing.gather.Given as goal
 
@@ -14,6 +14,7 @@ invariant-next l = record {
   seat : l.seat.me ≡ (knowns done, []);
   kept : AreKept l.kept.items done;
   replica : LatestSoFar l.replica l.most done;
+  callers : All IsCallers done;
   fit : All IsFit done;
 }
 

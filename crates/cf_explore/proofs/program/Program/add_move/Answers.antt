@@ -1,77 +1,87 @@
-use Rattle.std.proofs.Common.{◌∷◌, [], ap, arith, length, length-append, rules}
+use Rattle.std.proofs.Common.{List, All, ◌∷◌, [], ap, arith, length, length-append, rules, subst, suc, sym}
+use Rattle.std.proofs.lemmas.Bool.{false≢true}
 use Rattle.cf_forms.specs.Meanings.{meanings_of}
 use Rattle.cf_explore.specs.declared.trail.Trace.{Trace}
-use Rattle.cf_explore.proofs.Adding.{move-weighs, move-led-old, move-led-new}
-use Rattle.cf_explore.proofs.Spreading.{longer-none}
+use Rattle.cf_explore.specs.declared.layer.Entry.{Entry}
+use Rattle.cf_explore.specs.Programs.{Situated}
+use Rattle.cf_explore.specs.Moves.{moved}
+use Rattle.cf_explore.specs.Layers.{AreNumbered, IsLed, IsNowhere}
+use Rattle.cf_explore.proofs.Adding.{left, longer-none, made-new, made-there, new-within}
 use Rattle.cf_explore.proofs.program.Program.add_move.Goals as goal
 
-pub returns-in_err-situation-clause-weighs : goal.returns-in_err-situation-clause-weighs
-returns-in_err-situation-clause-weighs g c = search rules
+pub returns-in_err-situation : goal.returns-in_err-situation
+returns-in_err-situation g c = record {
+  weighs = search rules;
+  led = search rules;
+  longer = search rules;
+  numbered = search rules;
+  full = search rules;
+  past = search rules;
+  within = λ few. search rules;
+}
 
-pub returns-in_err-situation-clause-led : goal.returns-in_err-situation-clause-led
-returns-in_err-situation-clause-led g c = search rules
+pub returns-in_err-added : goal.returns-in_err-added
+returns-in_err-added g c = record {
+  weighs = search rules;
+  led = search rules;
+  longer = search rules;
+  numbered = search rules;
+  full = search rules;
+  past = search rules;
+  within = λ few. search rules;
+}
 
-pub returns-in_err-situation-clause-longer : goal.returns-in_err-situation-clause-longer
-returns-in_err-situation-clause-longer g c = search rules
+pub returns-in_err-push-in-New : goal.returns-in_err-push-in-New
+returns-in_err-push-in-New g c = record {
+  weighs = search rules;
+  led = search rules;
+  longer = search rules;
+  numbered = search rules;
+  full = search rules;
+  past = search rules;
+  within = λ few. search rules;
+}
 
-pub overflow_cast-number : goal.overflow_cast-number
-overflow_cast-number g c = omega arith
-
-pub returns-in_err-new-clause-weighs : goal.returns-in_err-new-clause-weighs
-returns-in_err-new-clause-weighs g c = search rules
-
-pub returns-in_err-new-clause-led : goal.returns-in_err-new-clause-led
-returns-in_err-new-clause-led g c = search rules
-
-pub returns-in_err-new-clause-longer : goal.returns-in_err-new-clause-longer
-returns-in_err-new-clause-longer g c = search rules
-
-pub returns-in_err-push-clause-weighs : goal.returns-in_err-push-clause-weighs
-returns-in_err-push-clause-weighs g c = search rules
-
-pub returns-in_err-push-clause-led : goal.returns-in_err-push-clause-led
-returns-in_err-push-clause-led g c = search rules
-
-pub returns-in_err-push-clause-longer : goal.returns-in_err-push-clause-longer
-returns-in_err-push-clause-longer g c = search rules
-
-pub returns-in_ok-push-clause-weighs : goal.returns-in_ok-push-clause-weighs
-returns-in_ok-push-clause-weighs g c = λ f.
-    move-weighs f c.args.next.now.entries.items c.add.new.self.entries.items c.in_ok-situation.situation _ c.args.entry.now.orders c.len-number.result c.in_ok-new.new c.in_ok-situation.ensures c.in_ok-new.ensures
-
-pub returns-in_ok-push-clause-led : goal.returns-in_ok-push-clause-led
-returns-in_ok-push-clause-led g c = λ can.
-    move-led-new (meanings_of g.F.StageFn.meaning c.args.functions.now) c.args.self.now c.args.trail.now.items c.push.new.self.items c.args.entry.now c.args.next.now.entries.items c.add.new.self.entries.items c.in_ok-situation.situation c.args.entry.now.orders c.len-number.result c.args.by c.in_ok-new.new c.if-new.true c.in_ok-situation.ensures (omega arith) c.in_ok-push.ensures.items c.in_ok-new.ensures can
-
-pub returns-in_ok-push-clause-longer : goal.returns-in_ok-push-clause-longer
-returns-in_ok-push-clause-longer g c =
+pub returns-in_ok-push-in-New : goal.returns-in_ok-push-in-New
+returns-in_ok-push-in-New g c =
     let one : Trace = record { before = c.args.entry.now.number; by = c.args.by } in
-    (one ∷ [], c.in_ok-push.ensures.items)
+    let made = made-new (meanings_of g.F.StageFn.meaning c.args.functions.now) c.args.self.now c.args.trail.now.items c.push.new.self.items c.args.next.now.entries.items c.add.new.self.entries.items c.args.entry.now c.args.by c.in_ok-situation.situation c.len.result c.new_number-number.result c.in_ok-added.added c.in-New.is c.in_ok-situation.ensures (omega arith) c.new_number-number.ensures.number c.in_ok-push-in-New.ensures.items c.in_ok-added.ensures in
+    record {
+      weighs = λ yes f. made.weighs f;
+      led = made.led;
+      longer = made.grows;
+      numbered = made.numbered;
+      full = λ wrong. absurd (false≢true (sym wrong));
+      past = λ wrong. absurd (false≢true (sym wrong));
+      within = λ few.
+          let room = new-within c.args.next.now.entries.items c.add.new.self.entries.items c.in_ok-situation.situation c.args.entry.now.orders c.len.result c.args.bound c.new_number-number.result c.in_ok-added.added c.in-New.is c.new_number-number.ensures.room c.in_ok-added.ensures in
+          omega (arith, room, ap length c.in_ok-push-in-New.ensures.items, length-append c.args.trail.now.items (one ∷ []));
+    }
 
-pub returns-else-new-clause-weighs : goal.returns-else-new-clause-weighs
-returns-else-new-clause-weighs g c = λ f.
-    move-weighs f c.args.next.now.entries.items c.add.new.self.entries.items c.in_ok-situation.situation _ c.args.entry.now.orders c.len-number.result c.in_ok-new.new c.in_ok-situation.ensures c.in_ok-new.ensures
+pub returns-in-There : goal.returns-in-There
+returns-in-There g c =
+    let made = made-there (meanings_of g.F.StageFn.meaning c.args.functions.now) c.args.self.now c.args.trail.now.items c.args.next.now.entries.items c.add.new.self.entries.items c.args.entry.now c.args.by c.in_ok-situation.situation c.new_number-number.result c.in_ok-added.added c.in-There.is c.in_ok-situation.ensures c.in_ok-added.ensures in
+    record {
+      weighs = λ yes f. made.weighs f;
+      led = made.led;
+      longer = made.grows;
+      numbered = made.numbered;
+      full = λ wrong. absurd (false≢true (sym wrong));
+      past = λ wrong. absurd (false≢true (sym wrong));
+      within = λ few. few;
+    }
 
-pub returns-else-new-clause-led : goal.returns-else-new-clause-led
-returns-else-new-clause-led g c = λ can.
-    move-led-old (meanings_of g.F.StageFn.meaning c.args.functions.now) c.args.self.now c.args.trail.now.items c.args.entry.now c.args.next.now.entries.items c.add.new.self.entries.items c.in_ok-situation.situation c.args.entry.now.orders c.len-number.result c.in_ok-new.new c.if-new.false c.in_ok-new.ensures
-
-pub returns-else-new-clause-longer : goal.returns-else-new-clause-longer
-returns-else-new-clause-longer g c = longer-none c.args.trail.now.items
-
-pub returns-in_err-situation-clause-one : goal.returns-in_err-situation-clause-one
-returns-in_err-situation-clause-one g c = search rules
-
-pub returns-in_err-new-clause-one : goal.returns-in_err-new-clause-one
-returns-in_err-new-clause-one g c = search rules
-
-pub returns-in_err-push-clause-one : goal.returns-in_err-push-clause-one
-returns-in_err-push-clause-one g c = search rules
-
-pub returns-in_ok-push-clause-one : goal.returns-in_ok-push-clause-one
-returns-in_ok-push-clause-one g c =
-    let one : Trace = record { before = c.args.entry.now.number; by = c.args.by } in
-    omega (arith, ap length c.in_ok-push.ensures.items, length-append c.args.trail.now.items (one ∷ []))
-
-pub returns-else-new-clause-one : goal.returns-else-new-clause-one
-returns-else-new-clause-one g c = omega arith
+pub returns-in-NoRoom : goal.returns-in-NoRoom
+returns-in-NoRoom g c =
+    let to : Situated = moved (meanings_of g.F.StageFn.meaning c.args.functions.now) c.args.self.now c.args.entry.now.situation c.args.by in
+    let here = left c.args.trail.now.items c.args.bound c.args.next.now.entries.items c.add.new.self.entries.items c.in_ok-situation.situation to c.args.entry.now.orders c.len.result c.new_number-number.result c.in_ok-added.added c.in-NoRoom.is c.in_ok-situation.ensures (omega arith) c.new_number-number.ensures.full c.in_ok-added.ensures in
+    let trail = c.args.trail.now.items in
+    record {
+      weighs = λ wrong. absurd (false≢true wrong);
+      led = λ can k one all. subst (λ (es : List Entry). All (IsLed (meanings_of g.F.StageFn.meaning c.args.functions.now) c.args.self.now trail (suc k)) es) (sym here.same) all;
+      longer = longer-none trail;
+      numbered = λ base all. subst (AreNumbered base trail) (sym here.same) all;
+      full = λ stopped. here.full;
+      past = λ stopped. subst (λ (es : List Entry). IsNowhere es to) (sym here.same) here.nowhere;
+      within = λ few. few;
+    }

@@ -6,9 +6,6 @@ use Rattle.cf_plain.proofs.graph.Plain.answer.Goals as goal
 pub returns-in_ok-done-in-Complete : goal.returns-in_ok-done-in-Complete
 returns-in_ok-done-in-Complete c = rw c.in-Complete.is (ap (told_as Flag) c.in_ok-done-in-Complete.ensures)
 
-pub returns-in_ok-done-in-Fail : goal.returns-in_ok-done-in-Fail
-returns-in_ok-done-in-Fail c = rw c.in-Fail.is (ap (told_as Flag) c.in_ok-done-in-Fail.ensures)
-
 pub returns-in_ok-done-in-Cancel : goal.returns-in_ok-done-in-Cancel
 returns-in_ok-done-in-Cancel c = rw c.in-Cancel.is (ap (told_as Flag) c.in_ok-done-in-Cancel.ensures)
 

@@ -1,0 +1,24 @@
+//! What a pass had seen, as a value that goes from thread to thread.
+use crate::row::SeatView;
+use atomic_table::Seat;
+use std::marker::Model;
+
+/// What a pass had seen when it gave this (`Desk::notice`): at run time a count, which a seat at the row vouches for. It may
+/// be sent by any way: through a channel, behind a lock, with a thread's result.
+#[derive(Drop)]
+pub struct Notice {
+    pub(crate) seat: Seat<u8, SeatView>,
+    pub(crate) count: u16,
+}
+
+impl Model for Notice {
+    ghost use Rattle.cf_desk.specs.Views.{Notice, known_of};
+
+    ghost Value = { Notice };
+
+    ghost use Rattle.cf_desk.specs.Desks.{NoticeKept};
+
+    ghost view = { λ n. record { table = n.seat.table_id; seen = (known_of n.seat.me.0).seen } };
+
+    ghost invariant = { NoticeKept };
+}
