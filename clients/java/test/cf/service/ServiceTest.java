@@ -1147,6 +1147,7 @@ public final class ServiceTest {
         Stage<Integer> first = request.<Integer>promise().named("first");
         first.thenApply(x -> 10 / x).named("divided");
         first.complete(0);
+        request.timeOut(request.promise().number());
         String program = System.getProperty("cf.look", "cf_look");
         if (program.contains("/") && !Files.isExecutable(Paths.get(program))) {
             thrown(IOException.class, () -> request.history().page());
@@ -1164,6 +1165,7 @@ public final class ServiceTest {
         }
         is(page.startsWith("<!doctype html>") && page.trim().endsWith("</html>"), true);
         is(page.contains("divided") && page.contains("/ by zero") && !page.contains("<b>"), true);
+        is(page.contains(" times out "), true);
     }
 
     /** As Java 19 has it, also before that; there the state, too. */
