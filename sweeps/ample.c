@@ -116,9 +116,19 @@ static void graphs(void) {
   }
 }
 
+/* The caller of another desk. */
+static cf_handle stranger;
+
+/* Closes a desk, whose callers met and were refused before, and which is refused as long as one is missing. */
 static void close_all(cf_handle *callers, uint32_t n) {
+  for (uint32_t k = 1; k < n; ++k) wants(cf_desk_meet(&callers[k], &callers[k - 1]), CF_OK, "desk_meet", n, k);
+  wants(cf_desk_meet(&callers[0], &stranger), CF_OTHER_DESK, "desk_meet with a stranger", n, 0);
   wants(cf_close_begin(&callers[0]), CF_OK, "close_begin", n, 0);
-  for (uint32_t k = 1; k < n; ++k) wants(cf_close_add(&callers[0], &callers[k]), CF_OK, "close_add", n, k);
+  for (uint32_t k = 1; k < n; ++k) {
+    wants(cf_close_end(&callers[0]), CF_NOT_ALL, "close_end", n, k);
+    wants(cf_close_add(&callers[0], &stranger), CF_OTHER_DESK, "close_add of a stranger", n, k);
+    wants(cf_close_add(&callers[0], &callers[k]), CF_OK, "close_add", n, k);
+  }
   wants(cf_close_end(&callers[0]), CF_OK, "close_end", n, 0);
 }
 
@@ -142,6 +152,7 @@ static void desks(void) {
   cf_handle plan = {0};
   plan_of(&plan, 1, 0, 0, 0);
   wants(cf_build(&plan), CF_OK, "build", 1, 0);
+  wants(cf_desk_open(&plan, &stranger, 1, 1, 1), CF_OK, "desk_open", 1, 1);
   for (uint32_t n = 0; n <= CALLERS + 1; ++n) {
     desk(&plan, n, 100, 10, 0);
     desk(&plan, n, 65535, 1, 3);
@@ -153,6 +164,7 @@ static void desks(void) {
       if (SIZES[j] <= 4097) desk(&plan, 9, SIZES[i], SIZES[j], 2);
     }
   for (size_t i = 0; i < COUNT; ++i) desk(&plan, 2, 9, 9, SIZES[i]);
+  cf_free(&stranger);
   cf_free(&plan);
 }
 
