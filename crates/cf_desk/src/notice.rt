@@ -4,7 +4,8 @@ use atomic_table::Seat;
 use std::marker::Model;
 
 /// What a pass had seen when it gave this (`Desk::notice`): at run time a count, which a seat at the row vouches for. It may
-/// be sent by any way: through a channel, behind a lock, with a thread's result.
+/// be sent to another thread, through a channel, say, or behind a lock, but written to no file. Whoever heeds it has to know
+/// that it is of the desk, which a lock or a channel by itself doesn't tell.
 #[derive(Drop)]
 pub struct Notice {
     pub(crate) seat: Seat<u8, SeatView>,
