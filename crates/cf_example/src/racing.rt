@@ -4,7 +4,7 @@ ghost use Rattle.cf_forms.specs.Plans.{with_room};
 ghost use Rattle.cf_event.specs.Histories.{IsOneHistory};
 ghost use Rattle.cf_desk.specs.Keepings.{caller_kept, pass_kept};
 ghost use Rattle.cf_desk.specs.Laws.{Shows};
-ghost use Rattle.cf_pool.specs.Calling.{MeanAlike, calls_of_all};
+ghost use Rattle.cf_pool.specs.Calling.{AnswerAlike, calls_of_all};
 ghost use Rattle.cf_pool.specs.Races.{race_functions};
 
 use cf_desk::laws::one_history_shows;
@@ -23,7 +23,7 @@ pub fn race_of_four<R: Threads + Wait + Sync, W: Worker + Send + Drop>(
     hands: Vec<W>,
 ) -> Result<Left<W>, RaceFault>
     requires hands { vec_len hands ≡ 5 }
-    requires alike { MeanAlike W.meanings hands.items }
+    requires alike { AnswerAlike W.answers hands.items }
     ensures one { IfOk result (λ left. IsOneHistory (with_room plan 0) race_functions left.closed.history.items (map caller_kept left.closed.passes.items)) }
     ensures shows { IfOk result (λ left. Shows (with_room plan 0) left.closed.history.items (map caller_kept left.closed.passes.items) left.closed.graph.state) }
     ensures once { IfOk result (λ left. (i : ℕ) → calls_of_all i (map pass_kept left.closed.passes.items) ≤ 1) }

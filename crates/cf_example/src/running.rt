@@ -2,7 +2,9 @@
 //! that stands beside it.
 ghost use Rattle.std.specs.Prelude.{◌≡◌, ◌<◌, ◌≤◌, All, IfOk, vec_len};
 ghost use Rattle.cf_desk.specs.Views.{IsOf};
-ghost use Rattle.cf_pool.specs.Calling.{MeanAlike, first_meanings};
+ghost use Rattle.cf_forms.specs.Meanings.{Meanings};
+ghost use Rattle.cf_pool.specs.Answering.{as_meant};
+ghost use Rattle.cf_pool.specs.Calling.{AnswerAlike, first_answers};
 ghost use Rattle.cf_pool.specs.PlainRuns.{EndsPlainly, MadePlainSteps};
 
 use cf_desk::{Desk, Pass};
@@ -17,11 +19,13 @@ pub fn run_plainly<R: Threads + Wait + Sync, W: Worker + Send + Drop>(
     passes: Vec<Pass>,
     workers: Vec<W>,
 ) -> Result<Left<W>, PoolFault<W>>
+    ghost meanings: { Meanings }
     requires workers { (1 < vec_len workers) × (vec_len workers ≤ 33) × (desk.setting.callers ≡ vec_len workers) }
-    requires alike { MeanAlike W.meanings workers.items }
+    requires alike { AnswerAlike W.answers workers.items }
+    requires means { first_answers W.answers workers.items ≡ as_meant meanings }
     requires passes { All (IsOf desk) passes.items × (vec_len passes ≡ vec_len workers) }
-    requires steps { All (MadePlainSteps (first_meanings W.meanings workers.items) desk.setting.plan) passes.items }
-    ensures plainly { IfOk result (λ left. EndsPlainly (first_meanings W.meanings workers.items) desk.setting.plan passes.items left.closed.history.items left.closed.graph.state) }
+    requires steps { All (MadePlainSteps meanings desk.setting.plan) passes.items }
+    ensures plainly { IfOk result (λ left. EndsPlainly meanings desk.setting.plan passes.items left.closed.history.items left.closed.graph.state) }
 {
     runs_end_plainly();
     run(rt, desk, passes, workers)

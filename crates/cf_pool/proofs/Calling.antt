@@ -4,7 +4,8 @@ use Rattle.std.specs.Prelude.{◌==◌}
 use Rattle.std.proofs.lemmas.List.{append_cancel_left}
 use Rattle.cf_forms.specs.declared.forms.Answer.{Answer}
 use Rattle.cf_forms.specs.declared.forms.Args.{Args}
-use Rattle.cf_forms.specs.Meanings.{Meanings, meanings_of}
+use Rattle.cf_forms.specs.Meanings.{meanings_of}
+use Rattle.cf_pool.specs.Answering.{Answers, as_meant}
 use Rattle.std.proofs.lemmas.List.Elements.{All-head, All-nil, All-weaker}
 use Rattle.std.specs.List.{All}
 use Rattle.cf_forms.specs.Plans.{Planned, PlannedStage}
@@ -17,7 +18,7 @@ use Rattle.cf_desk.specs.declared.calls.Rec.TheVariants.{Did}
 use Rattle.cf_desk.specs.Views.{Acts, Follows, Pass, state_of}
 use Rattle.cf_desk.proofs.Passes.{same_acts, same_follows}
 use Rattle.cf_model.specs.Calling.{CallsOf}
-use Rattle.cf_pool.specs.Calling.{AreCalled, Calls, CallsOnce, RunsGranted, MeanAlike, RunsStage, TellsOf, calls_by, calls_of, first_meanings}
+use Rattle.cf_pool.specs.Calling.{AreCalled, Calls, CallsOnce, RunsGranted, AnswerAlike, RunsStage, TellsOf, calls_by, calls_of, first_answers}
 use Rattle.cf_pool.specs.Jobs.{AddsWork, granted_by}
 use Rattle.cf_pool.specs.Works.{AreWork, Owed, Works, claims_by, claims_of, owed_after, owed_by}
 use Rattle.cf_pool.proofs.Jobs.{acts_grow}
@@ -80,9 +81,9 @@ calls_on tells calls p q r m n a f =
     }
 
 -- what comes after work that owes nothing
-pub calls_then : {M : Type 0} (tells : TellsOf M) (calls : CallsOf M) (meanings : Meanings) (p q r : Pass) (m k n : M) (owes : Owed) → AddsWork meanings None p q None → AddsWork meanings None q r owes
+pub calls_then : {M : Type 0} (tells : TellsOf M) (calls : CallsOf M) (answers : Answers) (p q r : Pass) (m k n : M) (owes : Owed) → AddsWork answers None p q None → AddsWork answers None q r owes
     → CallsIn tells calls p q m k → CallsIn tells calls q r k n → CallsIn tells calls p r m n
-calls_then tells calls meanings p q r m k n owes f g a b =
+calls_then tells calls answers p q r m k n owes f g a b =
     let is : f.more ≡ a.more = append_cancel_left p.records f.more a.more (sym f.records ∙ a.is) in
     let grows : Grows (state_of q.known) (state_of r.known) = pass_grows q r g.seen g.same.1 g.goes_on in
     record {
@@ -142,24 +143,24 @@ few_by : (i j : ℕ) (x : Option Args) → calls_by i (owed_as j x) ≤ cond (i 
 few_by i j None = omega arith
 few_by i j (Some args) = omega arith
 
-by_claims : (meanings : Meanings) (plan : Planned) (i : ℕ) (o : Owed) (r : Rec) → AreWork meanings plan o (r ∷ []) → calls_by i (owed_by r) ≤ claims_by i r
-by_claims meanings plan i o r h = by_record meanings plan (λ (owed : Owed) (x : Rec). calls_by i (owed_by x) ≤ claims_by i x)
+by_claims : (answers : Answers) (plan : Planned) (i : ℕ) (o : Owed) (r : Rec) → AreWork answers plan o (r ∷ []) → calls_by i (owed_by r) ≤ claims_by i r
+by_claims answers plan i o r h = by_record answers plan (λ (owed : Owed) (x : Rec). calls_by i (owed_by x) ≤ claims_by i x)
     (λ place j reply l. subst (λ (owed : Owed). calls_by i owed ≤ cond (i == j) 1 0) (sym (owed_claim place j reply)) (few_by i j (granted_by reply)))
     (λ place j args answer reply is. omega arith) o r h.0
 
-of_claims : (meanings : Meanings) (plan : Planned) (i : ℕ) (o : Owed) (rs : List Rec) → AreWork meanings plan o rs → calls_of i rs ≤ claims_of i rs
-of_claims meanings plan i o [] h = omega arith
-of_claims meanings plan i o (r ∷ rs) h =
-    let one = by_claims meanings plan i o r (h.0, tt) in
-    let rest = of_claims meanings plan i (owed_by r) rs h.1 in
+of_claims : (answers : Answers) (plan : Planned) (i : ℕ) (o : Owed) (rs : List Rec) → AreWork answers plan o rs → calls_of i rs ≤ claims_of i rs
+of_claims answers plan i o [] h = omega arith
+of_claims answers plan i o (r ∷ rs) h =
+    let one = by_claims answers plan i o r (h.0, tt) in
+    let rest = of_claims answers plan i (owed_by r) rs h.1 in
     omega (arith, one, rest)
 
-pub calls_once : {M : Type 0} (tells : TellsOf M) (calls : CallsOf M) (meanings : Meanings) (p q : Pass) (m n : M) → Works meanings p q → CallsIn tells calls p q m n → CallsOnce tells calls (state_of q.known).plan.stages p.known.caller p.records q.records m n
-calls_once tells calls meanings p q m n w c =
+pub calls_once : {M : Type 0} (tells : TellsOf M) (calls : CallsOf M) (answers : Answers) (p q : Pass) (m n : M) → Works answers p q → CallsIn tells calls p q m n → CallsOnce tells calls (state_of q.known).plan.stages p.known.caller p.records q.records m n
+calls_once tells calls answers p q m n w c =
     let is : w.more ≡ c.more = append_cancel_left p.records w.more c.more (sym w.records ∙ c.is) in
     record {
       each = c;
-      once = λ i. (let few = of_claims meanings (state_of q.known).plan i None w.more w.work in let one = w.once i in
+      once = λ i. (let few = of_claims answers (state_of q.known).plan i None w.more w.work in let one = w.once i in
           subst (λ l. calls_of i l ≤ 1) is (omega (arith, few, one)));
     }
 
@@ -173,11 +174,11 @@ once_grown tells calls s r who records now m n g h = record {
 
 -- ---- workers that share their functions
 
-pub first_shared : {W F : Type 0} (meaning : F → Args → Answer) (functions : W → List F) (fns : List F) (ws : List W) → 0 < length ws → All (λ w. functions w ≡ fns) ws → first_meanings (λ w. meanings_of meaning (functions w)) ws ≡ meanings_of meaning fns
+pub first_shared : {W F : Type 0} (meaning : F → Args → Answer) (functions : W → List F) (fns : List F) (ws : List W) → 0 < length ws → All (λ w. functions w ≡ fns) ws → first_answers (λ w. as_meant (meanings_of meaning (functions w))) ws ≡ as_meant (meanings_of meaning fns)
 first_shared meaning functions fns [] l h = absurd (omega arith)
-first_shared meaning functions fns (w ∷ ws) l h = ap (meanings_of meaning) (All-head (λ x. functions x ≡ fns) w ws h)
+first_shared meaning functions fns (w ∷ ws) l h = ap (λ l. as_meant (meanings_of meaning l)) (All-head (λ x. functions x ≡ fns) w ws h)
 
-pub alike_shared : {W F : Type 0} (meaning : F → Args → Answer) (functions : W → List F) (fns : List F) (ws : List W) → All (λ w. functions w ≡ fns) ws → MeanAlike (λ w. meanings_of meaning (functions w)) ws
-alike_shared meaning functions fns [] h = All-nil (λ w. meanings_of meaning (functions w) ≡ first_meanings (λ x. meanings_of meaning (functions x)) [])
+pub alike_shared : {W F : Type 0} (meaning : F → Args → Answer) (functions : W → List F) (fns : List F) (ws : List W) → All (λ w. functions w ≡ fns) ws → AnswerAlike (λ w. as_meant (meanings_of meaning (functions w))) ws
+alike_shared meaning functions fns [] h = All-nil (λ w. as_meant (meanings_of meaning (functions w)) ≡ first_answers (λ x. as_meant (meanings_of meaning (functions x))) [])
 alike_shared meaning functions fns (w ∷ ws) h =
-    All-weaker (λ x. functions x ≡ fns) (λ x. meanings_of meaning (functions x) ≡ meanings_of meaning (functions w)) (λ x e. ap (meanings_of meaning) (e ∙ sym (All-head (λ x. functions x ≡ fns) w ws h))) (w ∷ ws) h
+    All-weaker (λ x. functions x ≡ fns) (λ x. as_meant (meanings_of meaning (functions x)) ≡ as_meant (meanings_of meaning (functions w))) (λ x e. ap (λ l. as_meant (meanings_of meaning l)) (e ∙ sym (All-head (λ x. functions x ≡ fns) w ws h))) (w ∷ ws) h

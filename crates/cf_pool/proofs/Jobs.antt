@@ -2,6 +2,7 @@
 use Rattle.std.proofs.Common.{◌≡◌, ℕ, ◌+◌, ◌<◌, ◌≤◌, inl, inr, Bool, true, false, cond, Option, Some, None, List, [], ◌∷◌, ◌++◌, length, sym, refl, ap, ◌∙◌, subst, append-nil, append_assoc, length-append, arith}
 use Rattle.std.specs.Prelude.{◌==◌}
 use Rattle.std.proofs.lemmas.Bool.{cases_lt, eqb-true}
+use Rattle.cf_forms.specs.declared.forms.Answer.{Answer}
 use Rattle.cf_forms.specs.declared.forms.Args.{Args}
 use Rattle.cf_forms.specs.Plans.{Planned}
 use Rattle.cf_model.specs.declared.events.Event.{Event}
@@ -17,7 +18,7 @@ use Rattle.cf_model.specs.Growth.{Grows}
 use Rattle.cf_model.proofs.Claimable.{state_after-not_claimable}
 use Rattle.cf_model.proofs.Histories.{claiming-not_claimable, is_pending, ready-claimable, ready-not_pending, state_after-append, state_after-not_pending}
 use Rattle.cf_model.proofs.LowestReady.{lowest_ready-is_ready}
-use Rattle.cf_forms.specs.Meanings.{Meanings, stage_answer}
+use Rattle.cf_pool.specs.Answering.{Answers, MayAnswer}
 use Rattle.cf_model.specs.declared.calls.Call.{Call}
 use Rattle.cf_model.specs.declared.calls.Call.TheVariants.{Claim, Finish}
 use Rattle.cf_desk.specs.declared.calls.Rec.{Rec}
@@ -54,9 +55,9 @@ owed-append : (owed : Owed) (xs ys : List Rec) → owed_after owed (xs ++ ys) �
 owed-append owed [] ys = refl
 owed-append owed (x ∷ xs) ys = owed-append (owed_by x) xs ys
 
-work-append : (meanings : Meanings) (plan : Planned) (owed : Owed) (xs ys : List Rec) → AreWork meanings plan owed xs → AreWork meanings plan (owed_after owed xs) ys → AreWork meanings plan owed (xs ++ ys)
-work-append meanings plan owed [] ys f g = g
-work-append meanings plan owed (x ∷ xs) ys f g = (f.0, work-append meanings plan (owed_by x) xs ys f.1 g)
+work-append : (answers : Answers) (plan : Planned) (owed : Owed) (xs ys : List Rec) → AreWork answers plan owed xs → AreWork answers plan (owed_after owed xs) ys → AreWork answers plan owed (xs ++ ys)
+work-append answers plan owed [] ys f g = g
+work-append answers plan owed (x ∷ xs) ys f g = (f.0, work-append answers plan (owed_by x) xs ys f.1 g)
 
 claims-append : (i : ℕ) (xs ys : List Rec) → claims_of i (xs ++ ys) ≡ claims_of i xs + claims_of i ys
 claims-append i [] ys = omega arith
@@ -115,8 +116,8 @@ few_claims false = omega arith
 
 -- ---- what calls add
 
-pub adds_itself : (meanings : Meanings) (owed : Owed) (p : Pass) → AddsWork meanings owed p p owed
-adds_itself meanings owed p = record {
+pub adds_itself : (answers : Answers) (owed : Owed) (p : Pass) → AddsWork answers owed p p owed
+adds_itself answers owed p = record {
   same = (refl, refl, refl, refl);
   seen = [];
   goes_on = sym (append-nil p.known.seen);
@@ -130,8 +131,8 @@ adds_itself meanings owed p = record {
   spent = λ i h. absurd (omega arith);
 }
 
-pub adds_follows : (meanings : Meanings) (owed : Owed) (p q : Pass) → Follows p q → AddsWork meanings owed p q owed
-adds_follows meanings owed p q f = record {
+pub adds_follows : (answers : Answers) (owed : Owed) (p q : Pass) → Follows p q → AddsWork answers owed p q owed
+adds_follows answers owed p q f = record {
   same = same_follows p q f;
   seen = f.caught.others;
   goes_on = ap (λ (h : Pass). h.known.seen) f.is ∙ f.caught.joined;
@@ -167,15 +168,15 @@ acts_placed p q call reply a =
     let more = length-append a.before (e ∷ []) in
     (omega arith, omega arith)
 
-pub adds_finish : (meanings : Meanings) (p q : Pass) (i : ℕ) (args : Args) (reply : Reply) → i < length (state_of p.known).plan.stages → Acts p (Finish i (stage_answer meanings (state_of p.known).plan.stages i args)) reply q → AddsWork meanings (Some (i, args)) p q None
-adds_finish meanings p q i args reply there a =
-    let call = Finish i (stage_answer meanings (state_of p.known).plan.stages i args) in record {
+pub adds_finish : (answers : Answers) (p q : Pass) (i : ℕ) (args : Args) (answer : Answer) (reply : Reply) → i < length (state_of p.known).plan.stages → MayAnswer answers (state_of p.known).plan.stages i args answer → Acts p (Finish i answer) reply q → AddsWork answers (Some (i, args)) p q None
+adds_finish answers p q i args answer reply there may a =
+    let call = Finish i answer in record {
       same = same_acts p q call reply a;
       seen = a.caught.others ++ event_by p.known.caller call ∷ [];
       goes_on = acts_on p q call reply a;
       more = Did (length a.before + 1) call reply ∷ [];
       records = ap (λ (h : Pass). h.records) a.is;
-      work = ((refl, answer_stays meanings (state_of p.known) (state_of q.known) i args (acts_grow p q call reply a) there), tt);
+      work = ((refl, answer_stays answers (state_of p.known) (state_of q.known) i args answer (acts_grow p q call reply a) there may), tt);
       owes_then = refl;
       once = λ i. omega arith;
       fresh = λ i h. absurd (omega arith);
@@ -194,8 +195,8 @@ claim_spent p q i reply a ready =
     let waits : is_pending (stage_at then i) ≡ false = state_after-not_pending (state_of p.known) a.caught.others i (ready-not_pending (stage_at (state_of p.known) i) ready) in
     subst (λ s. is_claimable (stage_at s i) ≡ false) (sym is) (claiming-not_claimable then p.known.caller i waits)
 
-pub adds_claim : (meanings : Meanings) (p q : Pass) (i : ℕ) (reply : Reply) → Acts p (Claim i) reply q → i < length (state_of p.known).plan.stages → is_ready (stage_at (state_of p.known) i) ≡ true → AddsWork meanings None p q (owed_as i (granted_by reply))
-adds_claim meanings p q i reply a there ready = record {
+pub adds_claim : (answers : Answers) (p q : Pass) (i : ℕ) (reply : Reply) → Acts p (Claim i) reply q → i < length (state_of p.known).plan.stages → is_ready (stage_at (state_of p.known) i) ≡ true → AddsWork answers None p q (owed_as i (granted_by reply))
+adds_claim answers p q i reply a there ready = record {
   same = same_acts p q (Claim i) reply a;
   seen = a.caught.others ++ event_by p.known.caller (Claim i) ∷ [];
   goes_on = acts_on p q (Claim i) reply a;
@@ -209,8 +210,8 @@ adds_claim meanings p q i reply a there ready = record {
   spent = λ j h. subst (λ k. is_claimable (stage_at (state_of q.known) k) ≡ false) (sym (eqb-true j i (one_claim (j == i) h))) (claim_spent p q i reply a ready);
 }
 
-adds_owing : (meanings : Meanings) (owed owes then : Owed) (p q : Pass) → owes ≡ then → AddsWork meanings owed p q owes → AddsWork meanings owed p q then
-adds_owing meanings owed owes then p q e a = record {
+adds_owing : (answers : Answers) (owed owes then : Owed) (p q : Pass) → owes ≡ then → AddsWork answers owed p q owes → AddsWork answers owed p q then
+adds_owing answers owed owes then p q e a = record {
   same = a.same;
   seen = a.seen;
   goes_on = a.goes_on;
@@ -230,8 +231,8 @@ no_both : (x : Bool) → x ≡ false → x ≡ true → ⊥
 no_both true e f = cc
 no_both false e f = cc
 
-pub adds_then : (meanings : Meanings) (then owes : Owed) (p q r : Pass) → AddsWork meanings None p q then → AddsWork meanings then q r owes → AddsWork meanings None p r owes
-adds_then meanings then owes p q r a b =
+pub adds_then : (answers : Answers) (then owes : Owed) (p q r : Pass) → AddsWork answers None p q then → AddsWork answers then q r owes → AddsWork answers None p r owes
+adds_then answers then owes p q r a b =
     let last = (state_of r.known).plan in
     let grows : Grows (state_of q.known) (state_of r.known) = pass_grows q r b.seen b.same.1 b.goes_on in
     let counted = λ (i : ℕ). claims-append i a.more b.more in
@@ -242,8 +243,8 @@ adds_then meanings then owes p q r a b =
       goes_on = b.goes_on ∙ ap (λ l. l ++ b.seen) a.goes_on ∙ append_assoc p.known.seen a.seen b.seen;
       more = a.more ++ b.more;
       records = b.records ∙ ap (λ l. l ++ b.more) a.records ∙ append_assoc p.records a.more b.more;
-      work = work-append meanings last None a.more b.more (work_grown meanings (state_of q.known) (state_of r.known) a.more grows a.work)
-          (subst (λ o. AreWork meanings last o b.more) (sym a.owes_then) b.work);
+      work = work-append answers last None a.more b.more (work_grown answers (state_of q.known) (state_of r.known) a.more grows a.work)
+          (subst (λ o. AreWork answers last o b.more) (sym a.owes_then) b.work);
       owes_then = owed-append None a.more b.more ∙ ap (λ o. owed_after o b.more) a.owes_then ∙ b.owes_then;
       once = λ i. (let c = claims-append i a.more b.more in let x = a.once i in let y = b.once i in
           elim (cases_lt 0 (claims_of i a.more)) [
@@ -267,10 +268,10 @@ adds_then meanings then owes p q r a b =
 
 -- ---- what is counted
 
-pub does_itself : (meanings : Meanings) (p : Pass) → length p.records ≤ p.calls → AddsCounted meanings None p p (record { run = 0; won = 0; late = 0 })
+pub does_itself : (answers : Answers) (p : Pass) → length p.records ≤ p.calls → AddsCounted answers None p p (record { run = 0; won = 0; late = 0 })
 unfolding adds_itself
-does_itself meanings p room = record {
-  adds = adds_itself meanings None p;
+does_itself answers p room = record {
+  adds = adds_itself answers None p;
   counts = record { run = refl; won = refl; late = refl };
   run_few = omega arith;
   won_few = omega arith;
@@ -278,10 +279,10 @@ does_itself meanings p room = record {
   room = room;
 }
 
-pub does_then : (meanings : Meanings) (p q r : Pass) (a b : Done) → AddsCounted meanings None p q a → AddsCounted meanings None q r b → AddsCounted meanings None p r (sum_of a b)
+pub does_then : (answers : Answers) (p q r : Pass) (a b : Done) → AddsCounted answers None p q a → AddsCounted answers None q r b → AddsCounted answers None p r (sum_of a b)
 unfolding adds_then
-does_then meanings p q r a b f g = record {
-  adds = adds_then meanings None None p q r f.adds g.adds;
+does_then answers p q r a b f g = record {
+  adds = adds_then answers None None p q r f.adds g.adds;
   counts = counts_then a b f.adds.more g.adds.more f.counts g.counts;
   run_few = (let x = f.run_few in let y = g.run_few in omega arith);
   won_few = (let x = f.won_few in let y = g.won_few in omega arith);
@@ -290,15 +291,15 @@ does_then meanings p q r a b f g = record {
 }
 
 -- a pass that has only seen more
-pub does_follows : (meanings : Meanings) (p q r : Pass) (a : Done) → AddsCounted meanings None p q a → Follows q r → AddsCounted meanings None p r a
+pub does_follows : (answers : Answers) (p q r : Pass) (a : Done) → AddsCounted answers None p q a → Follows q r → AddsCounted answers None p r a
 unfolding adds_then adds_follows
-does_follows meanings p q r a f g =
-    let h = adds_follows meanings None q r g in
+does_follows answers p q r a f g =
+    let h = adds_follows answers None q r g in
     let same : r.records ≡ q.records = ap (λ (x : Pass). x.records) g.is in
     let calls : r.calls ≡ q.calls = h.same.3 in
     let len = ap length same in
     record {
-      adds = adds_then meanings None None p q r f.adds h;
+      adds = adds_then answers None None p q r f.adds h;
       counts = (let all : f.adds.more ++ [] ≡ f.adds.more = append-nil f.adds.more in subst (Counts a) (sym all) f.counts);
       run_few = (let x = f.run_few in omega arith);
       won_few = (let x = f.won_few in omega arith);
@@ -307,18 +308,18 @@ does_follows meanings p q r a f g =
     }
 
 -- a claim that wasn't granted
-pub does_claim : (meanings : Meanings) (p q : Pass) (i : ℕ) (reply : Reply) → Acts p (Claim i) reply q → HasRoom p → i < length (state_of p.known).plan.stages → is_ready (stage_at (state_of p.known) i) ≡ true → granted_by reply ≡ None
-    → DoesJob meanings p q (record { run = 0; won = 0; late = 0 }) × (length p.records < length q.records)
+pub does_claim : (answers : Answers) (p q : Pass) (i : ℕ) (reply : Reply) → Acts p (Claim i) reply q → HasRoom p → i < length (state_of p.known).plan.stages → is_ready (stage_at (state_of p.known) i) ≡ true → granted_by reply ≡ None
+    → DoesJob answers p q (record { run = 0; won = 0; late = 0 }) × (length p.records < length q.records)
 unfolding adds_claim adds_owing
-does_claim meanings p q i reply a room there ready none =
-    let adds = adds_claim meanings p q i reply a there ready in
+does_claim answers p q i reply a room there ready none =
+    let adds = adds_claim answers p q i reply a there ready in
     let len : length q.records ≡ length p.records + 1 = ap (λ (h : Pass). length h.records) a.is ∙ length-append p.records (Did (length a.before + 1) (Claim i) reply ∷ []) in
     let calls : q.calls ≡ p.calls = ap (λ (h : Pass). h.calls) a.is in
     let g = grant_claim (length a.before + 1) i reply in
     let z : grants_as (granted_by reply) ≡ 0 = ap grants_as none in (
       record {
         does = record {
-          adds = adds_owing meanings None (owed_as i (granted_by reply)) None p q (ap (owed_as i) none) adds;
+          adds = adds_owing answers None (owed_as i (granted_by reply)) None p q (ap (owed_as i) none) adds;
           counts = record { run = omega arith; won = refl; late = refl };
           run_few = omega arith;
           won_few = omega arith;
@@ -331,16 +332,16 @@ does_claim meanings p q i reply a room there ready none =
     )
 
 -- a claim that was granted, and its finish
-pub adds_granted : (meanings : Meanings) (p q : Pass) (i : ℕ) (reply : Reply) (args : Args) → Acts p (Claim i) reply q → i < length (state_of p.known).plan.stages → is_ready (stage_at (state_of p.known) i) ≡ true → granted_by reply ≡ Some args → AddsWork meanings None p q (Some (i, args))
-adds_granted meanings p q i reply args a there ready given = subst (λ (x : Option Args). AddsWork meanings None p q (owed_as i x)) given (adds_claim meanings p q i reply a there ready)
+pub adds_granted : (answers : Answers) (p q : Pass) (i : ℕ) (reply : Reply) (args : Args) → Acts p (Claim i) reply q → i < length (state_of p.known).plan.stages → is_ready (stage_at (state_of p.known) i) ≡ true → granted_by reply ≡ Some args → AddsWork answers None p q (Some (i, args))
+adds_granted answers p q i reply args a there ready given = subst (λ (x : Option Args). AddsWork answers None p q (owed_as i x)) given (adds_claim answers p q i reply a there ready)
 
-pub does_both : (meanings : Meanings) (p q r : Pass) (i : ℕ) (reply finished : Reply) (args : Args) (done : Done) → Acts p (Claim i) reply q → i < length (state_of p.known).plan.stages → is_ready (stage_at (state_of p.known) i) ≡ true → granted_by reply ≡ Some args
-    → Acts q (Finish i (stage_answer meanings (state_of q.known).plan.stages i args)) finished r → HasRoom q → done.run ≡ 1 → done.won ≡ won_by finished → done.late ≡ late_by finished
-    → DoesJob meanings p r done × (length p.records < length r.records)
+pub does_both : (answers : Answers) (p q r : Pass) (i : ℕ) (reply finished : Reply) (args : Args) (answer : Answer) (done : Done) → Acts p (Claim i) reply q → i < length (state_of p.known).plan.stages → is_ready (stage_at (state_of p.known) i) ≡ true → granted_by reply ≡ Some args
+    → MayAnswer answers (state_of q.known).plan.stages i args answer → Acts q (Finish i answer) finished r → HasRoom q → done.run ≡ 1 → done.won ≡ won_by finished → done.late ≡ late_by finished
+    → DoesJob answers p r done × (length p.records < length r.records)
 unfolding adds_claim adds_owing adds_finish adds_then
-does_both meanings p q r i reply finished args done a there ready given b room run won late =
-    let adds = adds_claim meanings p q i reply a there ready in
-    let call = Finish i (stage_answer meanings (state_of q.known).plan.stages i args) in
+does_both answers p q r i reply finished args answer done a there ready given may b room run won late =
+    let adds = adds_claim answers p q i reply a there ready in
+    let call = Finish i answer in
     let first : length q.records ≡ length p.records + 1 = ap (λ (h : Pass). length h.records) a.is ∙ length-append p.records (Did (length a.before + 1) (Claim i) reply ∷ []) in
     let second : length r.records ≡ length q.records + 1 = ap (λ (h : Pass). length h.records) b.is ∙ length-append q.records (Did (length b.before + 1) call finished ∷ []) in
     let calls : r.calls ≡ q.calls = ap (λ (h : Pass). h.calls) b.is in
@@ -350,7 +351,7 @@ does_both meanings p q r i reply finished args done a there ready given b room r
     let y = late_by-few finished in (
       record {
         does = record {
-          adds = adds_then meanings (Some (i, args)) None p q r (adds_owing meanings None (owed_as i (granted_by reply)) (Some (i, args)) p q (ap (owed_as i) given) adds) (adds_finish meanings q r i args finished (still_there p q i (Claim i) reply a there) b);
+          adds = adds_then answers (Some (i, args)) None p q r (adds_owing answers None (owed_as i (granted_by reply)) (Some (i, args)) p q (ap (owed_as i) given) adds) (adds_finish answers q r i args answer finished (still_there p q i (Claim i) reply a there) may b);
           counts = record { run = omega arith; won = omega arith; late = omega arith };
           run_few = omega arith;
           won_few = omega arith;
@@ -364,70 +365,76 @@ does_both meanings p q r i reply finished args done a there ready given b room r
 
 -- ---- what is told
 
-pub adds_works : (meanings : Meanings) (p q : Pass) (owes : Owed) → AddsWork meanings None p q owes → Works meanings p q
-adds_works meanings p q owes a = record { same = a.same; seen = a.seen; goes_on = a.goes_on; more = a.more; records = a.records; work = a.work; once = a.once }
+pub adds_works : (answers : Answers) (p q : Pass) (owes : Owed) → AddsWork answers None p q owes → Works answers p q
+adds_works answers p q owes a = record { same = a.same; seen = a.seen; goes_on = a.goes_on; more = a.more; records = a.records; work = a.work; once = a.once }
 
-pub does_end : (meanings : Meanings) (p q : Pass) (done : Done) → AddsCounted meanings None p q done → EndedWith meanings p q done
+pub does_end : (answers : Answers) (p q : Pass) (done : Done) → AddsCounted answers None p q done → EndedWith answers p q done
 unfolding adds_works
-does_end meanings p q done f = record { out = record { works = adds_works meanings p q None f.adds; owes = f.adds.owes_then }; counts = f.counts }
+does_end answers p q done f = record { out = record { works = adds_works answers p q None f.adds; owes = f.adds.owes_then }; counts = f.counts }
 
 pub ready_is : (k : CallerView) (i : ℕ) → lowest_ready_of (state_of k) ≡ Some i → is_ready (stage_at (state_of k) i) ≡ true
 ready_is k i e = lowest_ready-is_ready (state_of k) i e
 
 -- ---- a call that met a fault
 
-pub claim_meets : (meanings : Meanings) (d : Desk) (p q : Pass) (i : ℕ) (fault : DeskFault) → lowest_ready_of (state_of p.known) ≡ Some i → IsOnStage p (event_by p.known.caller (Claim i)) → Refuses d p (Claim i) q fault → StopsJob meanings d p q fault
-claim_meets meanings d p q i fault ready there refused =
+pub claim_meets : (answers : Answers) (d : Desk) (p q : Pass) (i : ℕ) (fault : DeskFault) → lowest_ready_of (state_of p.known) ≡ Some i → IsOnStage p (event_by p.known.caller (Claim i)) → Refuses d p (Claim i) q fault → StopsJob answers d p q fault
+claim_meets answers d p q i fault ready there refused =
     let left = refuses_known d p q (Claim i) fault there refused in record {
       stood = p;
       owes = None;
-      adds = adds_itself meanings None p;
+      adds = adds_itself answers None p;
       meets = record { call = Claim i; next = (i, ready, refl); there = there; left = left.0; looks = left.1; due = refused.due };
     }
 
-pub finish_stops : (meanings : Meanings) (d : Desk) (p q r : Pass) (owes : Owed) (fault : DeskFault) → AddsWork meanings None p q owes → MeetsFault meanings d owes q r fault → StopsJob meanings d p r fault
-finish_stops meanings d p q r owes fault a m = record { stood = q; owes = owes; adds = a; meets = m }
+pub finish_meets : (answers : Answers) (d : Desk) (p q : Pass) (i : ℕ) (args : Args) (answer : Answer) (fault : DeskFault) → i < length (state_of p.known).plan.stages → MayAnswer answers (state_of p.known).plan.stages i args answer → Refuses d p (Finish i answer) q fault
+    → MeetsFault answers d (Some (i, args)) p q fault
+finish_meets answers d p q i args answer fault there may refused =
+    let left = refuses_known d p q (Finish i answer) fault there refused in
+    record { call = Finish i answer; next = (answer, may, refl); there = there; left = left.0; looks = left.1; due = refused.due }
+
+pub finish_stops : (answers : Answers) (d : Desk) (p q r : Pass) (owes : Owed) (fault : DeskFault) → AddsWork answers None p q owes → MeetsFault answers d owes q r fault → StopsJob answers d p r fault
+finish_stops answers d p q r owes fault a m = record { stood = q; owes = owes; adds = a; meets = m }
 
 -- what was done before
-pub adds_stops : (meanings : Meanings) (d : Desk) (p q : Pass) (fault : DeskFault) → StopsJob meanings d p q fault → (owes : Owed) × AddsWork meanings None p q owes
-adds_stops meanings d p q fault s = (s.owes, adds_then meanings s.owes s.owes p s.stood q s.adds (adds_follows meanings s.owes s.stood q s.meets.left))
+pub adds_stops : (answers : Answers) (d : Desk) (p q : Pass) (fault : DeskFault) → StopsJob answers d p q fault → (owes : Owed) × AddsWork answers None p q owes
+adds_stops answers d p q fault s = (s.owes, adds_then answers s.owes s.owes p s.stood q s.adds (adds_follows answers s.owes s.stood q s.meets.left))
 
-pub stops_then : (meanings : Meanings) (d : Desk) (p q r : Pass) (fault : DeskFault) → AddsWork meanings None p q None → StopsJob meanings d q r fault → Stops meanings d p r fault
+pub stops_then : (answers : Answers) (d : Desk) (p q r : Pass) (fault : DeskFault) → AddsWork answers None p q None → StopsJob answers d q r fault → Stops answers d p r fault
 unfolding adds_works
-stops_then meanings d p q r fault a s =
-    let all = adds_then meanings None s.owes p q s.stood a s.adds in record {
+stops_then answers d p q r fault a s =
+    let all = adds_then answers None s.owes p q s.stood a s.adds in record {
       stood = s.stood;
-      works = adds_works meanings p s.stood s.owes all;
-      meets = subst (λ (o : Owed). MeetsFault meanings d o s.stood r fault) (sym all.owes_then) s.meets;
+      works = adds_works answers p s.stood s.owes all;
+      meets = subst (λ (o : Owed). MeetsFault answers d o s.stood r fault) (sym all.owes_then) s.meets;
     }
 
 -- ---- the turns of a worker
 
 -- what it did, and that it looked before its last record alone
-pub record Turned (meanings : Meanings) (p q : Pass) (done : Done) : Type 0 where
-  pub does : AddsCounted meanings None p q done
+pub record Turned (answers : Answers) (p q : Pass) (done : Done) : Type 0 where
+  pub does : AddsCounted answers None p q done
   pub looked : LooksBefore (length p.known.seen) (last_place (length p.known.seen) does.adds.more) p.known.looks q.known.looks
 
-pub turned_none : (meanings : Meanings) (p : Pass) → length p.records ≤ p.calls → Turned meanings p p (record { run = 0; won = 0; late = 0 })
+pub turned_none : (answers : Answers) (p : Pass) → length p.records ≤ p.calls → Turned answers p p (record { run = 0; won = 0; late = 0 })
 unfolding does_itself adds_itself
-turned_none meanings p room = record { does = does_itself meanings p room; looked = looks_none (length p.known.seen) p.known.looks }
+turned_none answers p room = record { does = does_itself answers p room; looked = looks_none (length p.known.seen) p.known.looks }
 
-pub adds_longer : (meanings : Meanings) (owed owes : Owed) (p q : Pass) → AddsWork meanings owed p q owes → length p.known.seen ≤ length q.known.seen
-adds_longer meanings owed owes p q a = let e = ap length a.goes_on in let l = length-append p.known.seen a.seen in omega arith
+pub adds_longer : (answers : Answers) (owed owes : Owed) (p q : Pass) → AddsWork answers owed p q owes → length p.known.seen ≤ length q.known.seen
+adds_longer answers owed owes p q a = let e = ap length a.goes_on in let l = length-append p.known.seen a.seen in omega arith
 
 -- a find, and the job that it gave
-pub turned_then : (meanings : Meanings) (p q r s : Pass) (a b : Done) → Turned meanings p q a → Follows q r → DoesJob meanings r s b → s.known.looks ≡ r.known.looks → Turned meanings p s (sum_of a b)
+pub turned_then : (answers : Answers) (p q r s : Pass) (a b : Done) → Turned answers p q a → Follows q r → DoesJob answers r s b → s.known.looks ≡ r.known.looks → Turned answers p s (sum_of a b)
 unfolding does_then does_follows adds_then adds_follows
-turned_then meanings p q r s a b t f job same =
-    let before = does_follows meanings p q r a t.does f in record {
-      does = does_then meanings p r s a b before job.does;
+turned_then answers p q r s a b t f job same =
+    let before = does_follows answers p q r a t.does f in record {
+      does = does_then answers p r s a b before job.does;
       looked = subst (λ (l : List Rec). LooksBefore (length p.known.seen) (last_place (length p.known.seen) (l ++ job.does.adds.more)) p.known.looks s.known.looks) (sym (append-nil t.does.adds.more))
-          (looks_on q r s (length p.known.seen) p.known.looks t.does.adds.more job.does.adds.more (adds_longer meanings None None p q t.does.adds) t.does.adds.placed f job.later same t.looked);
+          (looks_on q r s (length p.known.seen) p.known.looks t.does.adds.more job.does.adds.more (adds_longer answers None None p q t.does.adds) t.does.adds.placed f job.later same t.looked);
     }
 
 -- the last looks, which found nothing
-pub turned_waits : (meanings : Meanings) (d : Desk) (patience : ℕ) (p q r : Pass) (a : Done) → Turned meanings p q a → Follows q r → Idles d patience (length q.known.seen) q.known.looks r → Waits d patience p r
-turned_waits meanings d patience p q r a t f i = record {
+pub turned_waits : (answers : Answers) (d : Desk) (patience : ℕ) (p q r : Pass) (a : Done) → Turned answers p q a → Follows q r → Idles d patience (length q.known.seen) q.known.looks r → Waits d patience p r
+turned_waits answers d patience p q r a t f i = record {
   more = t.does.adds.more;
   records = ap (λ (h : Pass). h.records) f.is ∙ t.does.adds.records;
   looks = q.known.looks;

@@ -11,7 +11,7 @@ use Rattle.cf_outcome.specs.declared.outcome.Cause.TheVariants.{Thrown}
 use Rattle.cf_forms.specs.declared.forms.Args.{Args}
 use Rattle.cf_forms.specs.declared.forms.Answer.{Answer}
 use Rattle.cf_forms.specs.Plans.{Planned, PlannedStage, attached_stage}
-use Rattle.cf_forms.specs.Meanings.{Meanings}
+use Rattle.cf_pool.specs.Answering.{Answers}
 use Rattle.cf_model.specs.declared.stage.Stage.{Stage}
 use Rattle.cf_model.specs.declared.stage.Stage.TheVariants.{Pending, Ready, Claimed, Linked, Settled}
 use Rattle.cf_model.specs.declared.replies.Claimed.TheVariants.{Granted, Settled as IsSettled, Taken, NotReady}
@@ -183,8 +183,8 @@ claim_owes place i j was (ToldTick t) none e = none e
 claim_owes place i j was (ToldAttach a) none e = none e
 
 -- what a record of work leaves open is owed
-next_owes : (meanings : Meanings) (plan : Planned) (i : ℕ) (was : Bool) (o : Owed) (r : Rec) → IsNext meanings plan o r → (was ≡ true → OwesStage o i) → open_by i was r ≡ true → OwesStage (owed_by r) i
-next_owes meanings plan i was = by_record meanings plan (λ o r. (was ≡ true → OwesStage o i) → open_by i was r ≡ true → OwesStage (owed_by r) i)
+next_owes : (answers : Answers) (plan : Planned) (i : ℕ) (was : Bool) (o : Owed) (r : Rec) → IsNext answers plan o r → (was ≡ true → OwesStage o i) → open_by i was r ≡ true → OwesStage (owed_by r) i
+next_owes answers plan i was = by_record answers plan (λ o r. (was ≡ true → OwesStage o i) → open_by i was r ≡ true → OwesStage (owed_by r) i)
     (λ place j reply l. claim_owes place i j was reply)
     (λ place j args answer reply is. finished_owes i j was)
 
@@ -194,13 +194,13 @@ at_end (Some x) i true e h = cc
 at_end o i false e h = refl
 
 -- work that owes nothing at its end leaves open what was open before alone
-closes : (meanings : Meanings) (plan : Planned) (o : Owed) (i : ℕ) (was : Bool) (rs : List Rec) → AreWork meanings plan o rs → owed_after o rs ≡ None → (was ≡ true → OwesStage o i) → open_after i was rs ≡ false
-closes meanings plan o i was [] work out h = at_end o i was out h
-closes meanings plan o i was (r ∷ rs) work out h = closes meanings plan (owed_by r) i (open_by i was r) rs work.1 out (next_owes meanings plan i was o r work.0 h)
+closes : (answers : Answers) (plan : Planned) (o : Owed) (i : ℕ) (was : Bool) (rs : List Rec) → AreWork answers plan o rs → owed_after o rs ≡ None → (was ≡ true → OwesStage o i) → open_after i was rs ≡ false
+closes answers plan o i was [] work out h = at_end o i was out h
+closes answers plan o i was (r ∷ rs) work out h = closes answers plan (owed_by r) i (open_by i was r) rs work.1 out (next_owes answers plan i was o r work.0 h)
 
 -- so what is open after a worker's records was open before it began
-was_open : (meanings : Meanings) (p q : Pass) (i : ℕ) → WorksOut meanings p q → open_after i false q.records ≡ true → open_after i false p.records ≡ true
-was_open meanings p q i w e = split (open_after i false p.records) refl
+was_open : (answers : Answers) (p q : Pass) (i : ℕ) → WorksOut answers p q → open_after i false q.records ≡ true → open_after i false p.records ≡ true
+was_open answers p q i w e = split (open_after i false p.records) refl
   where
     after : open_after i (open_after i false p.records) w.works.more ≡ true
     after = sym (open-append i false p.records w.works.more) ∙ ap (open_after i false) (sym w.works.records) ∙ e
@@ -208,7 +208,7 @@ was_open meanings p q i w e = split (open_after i false p.records) refl
     split : (b : Bool) → open_after i false p.records ≡ b → b ≡ true
     split true t = refl
     split false t =
-        let none = closes meanings (state_of q.known).plan None i false w.works.more w.works.work w.owes (λ f. (let no : ⊥ = cc in no)) in
+        let none = closes answers (state_of q.known).plan None i false w.works.more w.works.work w.owes (λ f. (let no : ⊥ = cc in no)) in
         let wrong : true ≡ false = sym after ∙ ap (λ (b : Bool). open_after i b w.works.more) t ∙ none in
         let no : ⊥ = cc in absurd no
 
@@ -222,22 +222,22 @@ all_there (p ∷ ps) = All-cons (Contains (p ∷ ps)) p ps (0, omega arith, refl
 abbrev WasOpenBy : Planned → List Event → List Pass → ℕ → Type 0
 WasOpenBy plan history ps c = (i : ℕ) → open_after i false (recorded c 0 (start plan) history) ≡ true → WasOpen ps c i
 
-opened_before : (meanings : Meanings) (plan : Planned) (history : List Event) (ps : List Pass) (p q : Pass) → WorksOut meanings p q → Contains ps p → Fits plan q.known.caller history q.records → WasOpenBy plan history ps p.known.caller
-opened_before meanings plan history ps p q w there fit i e =
+opened_before : (answers : Answers) (plan : Planned) (history : List Event) (ps : List Pass) (p q : Pass) → WorksOut answers p q → Contains ps p → Fits plan q.known.caller history q.records → WasOpenBy plan history ps p.known.caller
+opened_before answers plan history ps p q w there fit i e =
     let fits : Fits plan p.known.caller history q.records = subst (λ (c : ℕ). Fits plan c history q.records) w.works.same.2 fit in
     let after : open_after i false q.records ≡ true = sym (open_dids i false q.records) ∙ ap (open_after i false) (fits_recorded plan p.known.caller history q.records fits) ∙ e in
-    record { by = p; there = there; is = refl; unfinished = was_open meanings p q i w after }
+    record { by = p; there = there; is = refl; unfinished = was_open answers p q i w after }
 
-pub were_open : (meanings : Meanings) (plan : Planned) (callers : ℕ) (history : List Event) (graph : State) (ps qs : List Pass) → AllZip (WorksOut meanings) ps qs → All (IsKeptFit plan history) (map pass_did qs)
+pub were_open : (answers : Answers) (plan : Planned) (callers : ℕ) (history : List Event) (graph : State) (ps qs : List Pass) → AllZip (WorksOut answers) ps qs → All (IsKeptFit plan history) (map pass_did qs)
     → ((c : ℕ) → c < callers → count_in c (knowns qs) ≡ 1) → All (λ e. who_of e < callers) history → graph ≡ state_from plan history → WereOpen ps graph
-were_open meanings plan callers history graph ps qs zip fits each by is i who e = split (cases_lt who callers)
+were_open answers plan callers history graph ps qs zip fits each by is i who e = split (cases_lt who callers)
   where
     found : open_after i false (recorded who 0 (start plan) history) ≡ true
     found = open_recorded plan history i who (ap (λ (s : State). claim_at s i) (sym is) ∙ e)
 
     split : (who < callers) ⊎ (callers ≤ who) → WasOpen ps who i
     split (inl l) =
-        each_pass plan history (WorksOut meanings) (Contains ps) (WasOpenBy plan history ps) (λ p q w. w.works.same.2) (opened_before meanings plan history ps) who ps qs zip (all_there ps) fits (let one = each who l in omega (arith, one)) i found
+        each_pass plan history (WorksOut answers) (Contains ps) (WasOpenBy plan history ps) (λ p q w. w.works.same.2) (opened_before answers plan history ps) who ps qs zip (all_there ps) fits (let one = each who l in omega (arith, one)) i found
     split (inr l) =
         let none = absent_records callers who 0 (start plan) history l by in
         let wrong : true ≡ false = sym found ∙ ap (open_after i false) none in

@@ -33,6 +33,7 @@ use Rattle.cf_desk.specs.Rule.{count_in}
 use Rattle.cf_desk.specs.Views.{Pass, knowns, state_of}
 use Rattle.cf_desk.proofs.Histories.{calls_of, one_history_shows}
 use Rattle.cf_event.proofs.Events.{events_each}
+use Rattle.cf_pool.specs.Answering.{as_meant}
 use Rattle.cf_pool.specs.PlainRuns.{IsPlainStep, MadeNone, MadePlainSteps, RunsEndPlainly, made_by}
 use Rattle.cf_pool.specs.Records.{recorded}
 use Rattle.cf_pool.specs.Works.{AreWork, IsNext, Owed, Works, owed_by}
@@ -42,7 +43,7 @@ use Rattle.cf_pool.proofs.Racing.Ending.{all_own, weigh_zero}
 use Rattle.cf_pool.proofs.Racing.Joining.{WorksIn, absent_records, each_pass, grows_in, zip_both}
 use Rattle.cf_pool.proofs.Racing.Owing.{WasGranted, by_next, owing_with, rec_of, still_granted}
 use Rattle.cf_pool.proofs.Racing.Recorded.{fits_recorded, only_append, only_dids, only_work}
-use Rattle.cf_pool.proofs.Working.{answer_stays, by_record, more_stages, work_grown}
+use Rattle.cf_pool.proofs.Working.{by_record, function_stays, more_stages, work_grown}
 
 -- ---- what a step is
 
@@ -77,17 +78,17 @@ own_event (Attaches who form of function) = refl
 
 -- a record is of a plain step of this caller, or the next where this is owed
 abbrev IsStepOrNext : Meanings → Planned → Planned → ℕ → Owed → Rec → Type 0
-IsStepOrNext meanings plan last c owed r = (IsNoWork r × All (IsPlainStep meanings plan) (map call_of (dids c (r ∷ [])))) ⊎ IsNext meanings last owed r
+IsStepOrNext meanings plan last c owed r = (IsNoWork r × All (IsPlainStep meanings plan) (map call_of (dids c (r ∷ [])))) ⊎ IsNext (as_meant meanings) last owed r
 
 abbrev AreStepsOrWork : Meanings → Planned → Planned → ℕ → Owed → List Rec → Type 0
 AreStepsOrWork meanings plan last c owed [] = Unit {0}
 AreStepsOrWork meanings plan last c owed (r ∷ rs) = IsStepOrNext meanings plan last c owed r × AreStepsOrWork meanings plan last c (owed_by r) rs
 
-work_alone : (meanings : Meanings) (plan last : Planned) (c : ℕ) (owed : Owed) (rs : List Rec) → AreWork meanings last owed rs → AreStepsOrWork meanings plan last c owed rs
+work_alone : (meanings : Meanings) (plan last : Planned) (c : ℕ) (owed : Owed) (rs : List Rec) → AreWork (as_meant meanings) last owed rs → AreStepsOrWork meanings plan last c owed rs
 work_alone meanings plan last c owed [] h = tt
 work_alone meanings plan last c owed (r ∷ rs) h = (inr h.0, work_alone meanings plan last c (owed_by r) rs h.1)
 
-steps_then_work : (meanings : Meanings) (plan last : Planned) (c : ℕ) (rs more : List Rec) → All (IsPlainStep meanings plan) (map call_of (dids c rs)) → AreWork meanings last None more
+steps_then_work : (meanings : Meanings) (plan last : Planned) (c : ℕ) (rs more : List Rec) → All (IsPlainStep meanings plan) (map call_of (dids c rs)) → AreWork (as_meant meanings) last None more
     → AreStepsOrWork meanings plan last c None (only_dids rs ++ more)
 steps_then_work meanings plan last c [] more steps work = work_alone meanings plan last c None more work
 steps_then_work meanings plan last c (Saw place ask answer ∷ rs) more steps work = steps_then_work meanings plan last c rs more steps work
@@ -107,19 +108,19 @@ abbrev HasBegun : Meanings → DeskConfig → Pass → Type 0
 HasBegun meanings setting p = (p.known.setting ≡ setting) × MadePlainSteps meanings setting.plan p
 
 -- a pass has added work to its steps
-added : (meanings : Meanings) (plan : Planned) (history : List Event) (p q : Pass) (w : Works meanings p q) → Fits plan q.known.caller history q.records → only_dids p.records ++ w.more ≡ recorded p.known.caller 0 (start plan) history
+added : (meanings : Meanings) (plan : Planned) (history : List Event) (p q : Pass) (w : Works (as_meant meanings) p q) → Fits plan q.known.caller history q.records → only_dids p.records ++ w.more ≡ recorded p.known.caller 0 (start plan) history
 added meanings plan history p q w fit =
-    ap (λ l. only_dids p.records ++ l) (sym (only_work meanings (state_of q.known).plan None w.more w.work))
+    ap (λ l. only_dids p.records ++ l) (sym (only_work (as_meant meanings) (state_of q.known).plan None w.more w.work))
     ∙ sym (ap only_dids w.records ∙ only_append p.records w.more)
     ∙ fits_recorded plan p.known.caller history q.records (subst (λ (c : ℕ). Fits plan c history q.records) w.same.2 fit)
 
-share : (meanings : Meanings) (setting : DeskConfig) (history : List Event) (p q : Pass) → WorksIn meanings history p q → HasBegun meanings setting p → Fits setting.plan q.known.caller history q.records → Share meanings setting.plan history p.known.caller
+share : (meanings : Meanings) (setting : DeskConfig) (history : List Event) (p q : Pass) → WorksIn (as_meant meanings) history p q → HasBegun meanings setting p → Fits setting.plan q.known.caller history q.records → Share meanings setting.plan history p.known.caller
 share meanings setting history p q both begun fit =
     let w = both.0 in
     let last = state_from setting.plan history in
     subst (AreStepsOrWork meanings setting.plan last.plan p.known.caller None) (added meanings setting.plan history p q w fit)
     (steps_then_work meanings setting.plan last.plan p.known.caller p.records w.more begun.1
-    (work_grown meanings (state_of q.known) last w.more (grows_in meanings setting history p q both begun.0) w.work))
+    (work_grown (as_meant meanings) (state_of q.known) last w.more (grows_in (as_meant meanings) setting history p q both begun.0) w.work))
 
 -- ---- so the history is plain
 
@@ -141,12 +142,12 @@ plain_event meanings plan granted n s last o e reply before after fits was (inl 
     let plain = subst (IsPlainStep meanings plan) (own_event e) (All-head (IsPlainStep meanings plan) (event_by (who_of e) (as_call e)) [] step.1) in
     plain_grown meanings nothing_granted granted (start plan) s e before plain.0 plain.1
 plain_event meanings plan granted n s last o e reply before after fits was (inr next) =
-    by_next meanings last.plan (λ o e. EventFits (length s.plan.stages) e → ((i : ℕ) (args : Args) → o ≡ Some (i, args) → granted (who_of e) i ≡ Some args) → IsPlainEvent meanings granted s e)
+    by_next (as_meant meanings) last.plan (λ o e. EventFits (length s.plan.stages) e → ((i : ℕ) (args : Args) → o ≡ Some (i, args) → granted (who_of e) i ≡ Some args) → IsPlainEvent meanings granted s e)
     (λ who i l fits was. tt)
     (λ who i args answer means fits was won given there.
     let both : Some args ≡ Some given = sym (was i args refl) ∙ there in
     let same : args ≡ given = cc in
-    means ∙ sym (answer_stays meanings s last i args after fits) ∙ ap (stage_answer meanings s.plan.stages i) same)
+    means ∙ sym (ap (λ (n : ℕ). meanings n args) (function_stays s last i after fits)) ∙ ap (stage_answer meanings s.plan.stages i) same)
     o n e reply next fits was
 
 plain_along : (meanings : Meanings) (plan : Planned) (last : State) (owes : ℕ → Owed) (granted : Grants) (n : ℕ) (s : State) (events : List Event) → state_after s events ≡ last → Grows (start plan) s → EventsFit s events → WasGranted owes granted
@@ -185,10 +186,10 @@ abbrev IsOfWork : ℕ → Rec → Type 0
 IsOfWork c (Did place call reply) = is_work (event_by c call) ≡ true
 IsOfWork c (Saw place ask answer) = ⊥
 
-next_of_work : (meanings : Meanings) (plan : Planned) (c : ℕ) (o : Owed) (r : Rec) → IsNext meanings plan o r → IsOfWork c r
-next_of_work meanings plan c = by_record meanings plan (λ o r. IsOfWork c r) (λ place i reply l. refl) (λ place i args answer reply is. refl)
+next_of_work : (meanings : Meanings) (plan : Planned) (c : ℕ) (o : Owed) (r : Rec) → IsNext (as_meant meanings) plan o r → IsOfWork c r
+next_of_work meanings plan c = by_record (as_meant meanings) plan (λ o r. IsOfWork c r) (λ place i reply l. refl) (λ place i args answer reply is. refl)
 
-all_of_work : (meanings : Meanings) (plan : Planned) (c : ℕ) (o : Owed) (rs : List Rec) → AreWork meanings plan o rs → All (λ e. is_work e ≡ true) (map call_of (dids c rs))
+all_of_work : (meanings : Meanings) (plan : Planned) (c : ℕ) (o : Owed) (rs : List Rec) → AreWork (as_meant meanings) plan o rs → All (λ e. is_work e ≡ true) (map call_of (dids c rs))
 all_of_work meanings plan c o [] h = All-nil (λ e. is_work e ≡ true)
 all_of_work meanings plan c o (Saw place ask answer ∷ rs) h = absurd (next_of_work meanings plan c o (Saw place ask answer) h.0)
 all_of_work meanings plan c o (Did place call reply ∷ rs) h =
@@ -201,7 +202,7 @@ calls-append c (Did place call reply ∷ xs) ys = ap (λ l. event_by c call ∷ 
 calls-append c (Saw place ask answer ∷ xs) ys = calls-append c xs ys
 
 -- a caller's events that are no work are those that it made before
-own_steps : (meanings : Meanings) (plan : Planned) (history : List Event) (p q : Pass) → Works meanings p q → Fits plan q.known.caller history q.records → without_work (own p.known.caller history) ≡ without_work (made_by p)
+own_steps : (meanings : Meanings) (plan : Planned) (history : List Event) (p q : Pass) → Works (as_meant meanings) p q → Fits plan q.known.caller history q.records → without_work (own p.known.caller history) ≡ without_work (made_by p)
 own_steps meanings plan history p q w fit =
     let c = p.known.caller in
     let fits : Fits plan c history q.records = subst (λ (k : ℕ). Fits plan k history q.records) w.same.2 fit in
@@ -217,7 +218,7 @@ all_without : (P : Event → Type 0) (events : List Event) → All P events → 
 all_without P [] h = h
 all_without P (e ∷ events) h = kept_without (is_work e) P e (without_work events) (All-head P e events h) (all_without P events (All-tail P e events h))
 
-steps_alone : (meanings : Meanings) (plan : Planned) (callers : ℕ) (history : List Event) (first : Pass) (others qs : List Pass) → AllZip (Works meanings) (first ∷ others) qs → All (IsKeptFit plan history) (map pass_did qs)
+steps_alone : (meanings : Meanings) (plan : Planned) (callers : ℕ) (history : List Event) (first : Pass) (others qs : List Pass) → AllZip (Works (as_meant meanings)) (first ∷ others) qs → All (IsKeptFit plan history) (map pass_did qs)
     → ((c : ℕ) → c < callers → count_in c (knowns qs) ≡ 1) → All (ByCaller callers) history → All MadeNone others → without_work history ≡ without_work (made_by first)
 steps_alone meanings plan callers history first others [] zip fits each by none = absurd zip
 steps_alone meanings plan callers history first others (q ∷ qs) zip fits each by none =
@@ -231,7 +232,7 @@ steps_alone meanings plan callers history first others (q ∷ qs) zip fits each 
     alone : (k : ℕ) → k ≢ c → k < callers → own k (without_work history) ≡ []
     alone k other less =
         own_without k history
-        ∙ each_pass plan history (Works meanings) MadeNone (λ n. without_work (own n history) ≡ []) (λ p q w. w.same.2)
+        ∙ each_pass plan history (Works (as_meant meanings)) MadeNone (λ n. without_work (own n history) ≡ []) (λ p q w. w.same.2)
         (λ p q w made fit. own_steps meanings plan history p q w fit ∙ ap without_work made) k others qs zip.1 none (All-tail (IsKeptFit plan history) (pass_did q) (map pass_did qs) fits)
         (weigh_zero (eqb q.known.caller k) (count_in k (knowns qs)) (false_from_ne_true (eqb q.known.caller k) (λ e. other (sym (eqb-true q.known.caller k e) ∙ zip.0.same.2))) (each k less))
 
@@ -244,7 +245,7 @@ runs_end_plainly meanings d ps history kept graph of steps o = record {
   expressed = λ built plain_plan i l. shown.expressed built plain_plan quiet_then meanings plain i l;
   by_steps = λ first others are none i.
       work_keeps_expressions graph.plan history (made_by first) meanings i
-      (steps_alone meanings plan callers history first others o.ran.qs (subst (λ (l : List Pass). AllZip (Works meanings) l o.ran.qs) are o.ran.works) fits o.ran.closes.each by none);
+      (steps_alone meanings plan callers history first others o.ran.qs (subst (λ (l : List Pass). AllZip (Works (as_meant meanings)) l o.ran.qs) are o.ran.works) fits o.ran.closes.each by none);
 }
   where
     plan : Planned
@@ -254,7 +255,7 @@ runs_end_plainly meanings d ps history kept graph of steps o = record {
     callers = d.setting.callers
 
     quiet_then : IsQuiet graph
-    quiet_then = quiet meanings d ps history kept graph (All-weaker (MadePlainSteps meanings plan) MadeNoWork (λ p made. All-weaker (IsPlainStep meanings plan) (λ e. is_work e ≡ false) (λ e step. step.0) (made_by p) made) ps steps) o
+    quiet_then = quiet (as_meant meanings) d ps history kept graph (All-weaker (MadePlainSteps meanings plan) MadeNoWork (λ p made. All-weaker (IsPlainStep meanings plan) (λ e. is_work e ≡ false) (λ e step. step.0) (made_by p) made) ps steps) o
 
     shown : Shows plan history (map caller_kept kept) graph
     shown = one_history_shows plan d.setting.functions history (map caller_kept kept) graph o.ran.one o.ran.graph_is
@@ -265,8 +266,8 @@ runs_end_plainly meanings d ps history kept graph of steps o = record {
     by : All (ByCaller callers) history
     by = events_each (ByCaller callers) callers d.setting.functions (λ s e h. h.caller) (start plan) history o.ran.closes.events
 
-    both : AllZip (WorksIn meanings history) ps o.ran.qs
-    both = zip_both (Works meanings) (λ (p : Pass). Catches p.known.caller p.known.seen history) ps o.ran.qs o.ran.works o.ran.closes.begins
+    both : AllZip (WorksIn (as_meant meanings) history) ps o.ran.qs
+    both = zip_both (Works (as_meant meanings)) (λ (p : Pass). Catches p.known.caller p.known.seen history) ps o.ran.qs o.ran.works o.ran.closes.begins
 
     begun : All (HasBegun meanings d.setting) ps
     begun = λ i p l. ((of i p l).1, steps i p l)
@@ -276,7 +277,7 @@ runs_end_plainly meanings d ps history kept graph of steps o = record {
       where
         split : (c < callers) ⊎ (callers ≤ c) → Share meanings plan history c
         split (inl l) =
-            each_pass plan history (WorksIn meanings history) (HasBegun meanings d.setting) (Share meanings plan history) (λ p q w. w.0.same.2) (share meanings d.setting history) c ps o.ran.qs both begun fits
+            each_pass plan history (WorksIn (as_meant meanings) history) (HasBegun meanings d.setting) (Share meanings plan history) (λ p q w. w.0.same.2) (share meanings d.setting history) c ps o.ran.qs both begun fits
             (let one = o.ran.closes.each c l in omega (arith, one))
         split (inr l) = subst (AreStepsOrWork meanings plan ((state_from plan history).plan) c None) (sym (absent_records callers c 0 (start plan) history l by)) tt
 

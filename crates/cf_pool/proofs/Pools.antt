@@ -18,7 +18,7 @@ use Rattle.cf_desk.proofs.Passes.{none_new}
 use Rattle.cf_pool.specs.declared.pool.Met.{Met}
 use Rattle.cf_pool.specs.declared.pool.Worked.{Worked}
 use Rattle.cf_pool.specs.Runs.{EndsIf, IsFirst, IsWorkedBy, SeesMore, Stop, first_with, lower_of, stop_of}
-use Rattle.cf_forms.specs.Meanings.{Meanings}
+use Rattle.cf_pool.specs.Answering.{Answers}
 use Rattle.cf_model.specs.Calling.{CallsOf}
 use Rattle.cf_pool.specs.Calling.{TellsOf}
 
@@ -143,9 +143,9 @@ parts_step f hs now h p rest all parts same items =
     parts ∙ ap (λ x. map f hs ++ x ∷ rest) (sym same) ∙ sym (append_assoc (map f hs) (f h ∷ []) rest) ∙ ap (λ x. x ++ rest) (sym (ap (map f) items ∙ map-append f hs (h ∷ [])))
 
 -- what a worker has come to, whose thread was joined, or which worked on the caller's
-pub work_ended : {H M : Type 0} (tells : TellsOf M) (calls : CallsOf M) (meanings : M → Meanings) (was : H → Pass × M) (on : H → Desk) (d : Desk) (one : Pass × M) (started : Result H (Worked M)) (w : Worked M)
-    → MatchResult started (λ h. (was h ≡ one) × (on h ≡ d)) (λ x. IsWorkedBy tells calls meanings d 1000 one x × (x.alone ≡ true))
-    → MatchResult started (λ h. IsWorkedBy tells calls meanings (on h) 1000 (was h) w × (w.alone ≡ false)) (λ x. w ≡ x) → IsWorkedBy tells calls meanings d 1000 one w
-work_ended {H} {M} tells calls meanings was on d one (Ok h) w same is =
-    subst (λ (k : Pass × M). IsWorkedBy tells calls meanings d 1000 k w) same.0 (subst (λ (x : Desk). IsWorkedBy tells calls meanings x 1000 (was h) w) same.1 is.0)
-work_ended tells calls meanings was on d one (Err x) w is same = subst (λ y. IsWorkedBy tells calls meanings d 1000 one y) (sym same) is.0
+pub work_ended : {H M : Type 0} (tells : TellsOf M) (calls : CallsOf M) (answers : M → Answers) (was : H → Pass × M) (on : H → Desk) (d : Desk) (one : Pass × M) (started : Result H (Worked M)) (w : Worked M)
+    → MatchResult started (λ h. (was h ≡ one) × (on h ≡ d)) (λ x. IsWorkedBy tells calls answers d 1000 one x × (x.alone ≡ true))
+    → MatchResult started (λ h. IsWorkedBy tells calls answers (on h) 1000 (was h) w × (w.alone ≡ false)) (λ x. w ≡ x) → IsWorkedBy tells calls answers d 1000 one w
+work_ended {H} {M} tells calls answers was on d one (Ok h) w same is =
+    subst (λ (k : Pass × M). IsWorkedBy tells calls answers d 1000 k w) same.0 (subst (λ (x : Desk). IsWorkedBy tells calls answers x 1000 (was h) w) same.1 is.0)
+work_ended tells calls answers was on d one (Err x) w is same = subst (λ y. IsWorkedBy tells calls answers d 1000 one y) (sym same) is.0

@@ -3,7 +3,7 @@ use Rattle.std.proofs.Common.{◌≡◌, ℕ, Bool, true, false, Option, Some, N
 use Rattle.std.specs.List.{All}
 use Rattle.std.proofs.lemmas.Bool.{false_from_ne_true}
 use Rattle.std.proofs.lemmas.List.Elements.{All-contains, All-head, All-tail}
-use Rattle.cf_forms.specs.Meanings.{Meanings}
+use Rattle.cf_pool.specs.Answering.{Answers}
 use Rattle.cf_model.specs.declared.events.Event.{Event}
 use Rattle.cf_model.specs.declared.events.Reply.{Reply}
 use Rattle.cf_model.specs.declared.calls.Call.{Call}
@@ -53,8 +53,8 @@ opened_none c i was (Did place call reply ∷ rs) h e =
     let none = step_no_work c place call reply (All-head (λ x. is_work x ≡ false) (event_by c call) calls h) in
     none.opens i was (opened_none c i (open_by i was (Did place call reply)) rs (All-tail (λ x. is_work x ≡ false) (event_by c call) calls h) e)
 
-pub quiet : (meanings : Meanings) (d : Desk) (ps : List Pass) (history : List Event) (kept : List Kept) (graph : State) → All MadeNoWork ps → RanOut meanings d ps history kept graph → IsQuiet graph
-quiet meanings d ps history kept graph made o =
+pub quiet : (answers : Answers) (d : Desk) (ps : List Pass) (history : List Event) (kept : List Kept) (graph : State) → All MadeNoWork ps → RanOut answers d ps history kept graph → IsQuiet graph
+quiet answers d ps history kept graph made o =
     is_quiet graph (lowest_ready-none graph o.none) (λ i. false_from_ne_true (is_claimed (stage_at graph i)) (λ c. by_claim i c (claim_at graph i) refl))
   where
     by_claim : (i : ℕ) → is_claimed (stage_at graph i) ≡ true → (x : Option ℕ) → claim_at graph i ≡ x → ⊥

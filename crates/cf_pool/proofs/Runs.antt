@@ -24,7 +24,7 @@ use Rattle.cf_desk.proofs.Gathers.{all_at}
 use Rattle.cf_desk.proofs.Lists.{all_front}
 use Rattle.cf_desk.proofs.Meets.{short_more}
 use Rattle.cf_desk.proofs.Passes.{same_follows, still_on_stage}
-use Rattle.cf_forms.specs.Meanings.{Meanings}
+use Rattle.cf_pool.specs.Answering.{Answers}
 use Rattle.cf_pool.specs.declared.pool.Left.{Left}
 use Rattle.cf_pool.specs.declared.pool.Met.{Met}
 use Rattle.cf_pool.specs.declared.pool.Worked.{Worked}
@@ -50,19 +50,19 @@ use Rattle.cf_pool.proofs.Working.{pass_grows, work_grown}
 
 -- ---- work, and then or before it only more that was seen
 
-pub works_before : (meanings : Meanings) (p q r : Pass) → Works meanings p q → SeesMore q r → Works meanings p r
-works_before meanings p q r w s = record {
+pub works_before : (answers : Answers) (p q r : Pass) → Works answers p q → SeesMore q r → Works answers p r
+works_before answers p q r w s = record {
   same = (s.same.0 ∙ w.same.0, s.same.1 ∙ w.same.1, s.same.2 ∙ w.same.2, s.same.3 ∙ w.same.3);
   seen = w.seen ++ s.caught.others;
   goes_on = s.caught.joined ∙ ap (λ l. l ++ s.caught.others) w.goes_on ∙ append_assoc p.known.seen w.seen s.caught.others;
   more = w.more;
   records = s.records ∙ w.records;
-  work = work_grown meanings (state_of q.known) (state_of r.known) w.more (pass_grows q r s.caught.others s.same.1 s.caught.joined) w.work;
+  work = work_grown answers (state_of q.known) (state_of r.known) w.more (pass_grows q r s.caught.others s.same.1 s.caught.joined) w.work;
   once = w.once;
 }
 
-pub works_after : (meanings : Meanings) (p q r : Pass) → SeesMore p q → Works meanings q r → Works meanings p r
-works_after meanings p q r s w = record {
+pub works_after : (answers : Answers) (p q r : Pass) → SeesMore p q → Works answers q r → Works answers p r
+works_after answers p q r s w = record {
   same = (w.same.0 ∙ s.same.0, w.same.1 ∙ s.same.1, w.same.2 ∙ s.same.2, w.same.3 ∙ s.same.3);
   seen = s.caught.others ++ w.seen;
   goes_on = w.goes_on ∙ ap (λ l. l ++ w.seen) s.caught.joined ∙ append_assoc p.known.seen s.caught.others w.seen;
@@ -72,17 +72,17 @@ works_after meanings p q r s w = record {
   once = w.once;
 }
 
-pub out_before : (meanings : Meanings) (p q r : Pass) → WorksOut meanings p q → SeesMore q r → WorksOut meanings p r
+pub out_before : (answers : Answers) (p q r : Pass) → WorksOut answers p q → SeesMore q r → WorksOut answers p r
 unfolding works_before
-out_before meanings p q r w s = record { works = works_before meanings p q r w.works s; owes = w.owes }
+out_before answers p q r w s = record { works = works_before answers p q r w.works s; owes = w.owes }
 
-out_after : (meanings : Meanings) (p q r : Pass) → SeesMore p q → WorksOut meanings q r → WorksOut meanings p r
+out_after : (answers : Answers) (p q r : Pass) → SeesMore p q → WorksOut answers q r → WorksOut answers p r
 unfolding works_after
-out_after meanings p q r s w = record { works = works_after meanings p q r s w.works; owes = w.owes }
+out_after answers p q r s w = record { works = works_after answers p q r s w.works; owes = w.owes }
 
-stops_after : (meanings : Meanings) (d : Desk) (p q r : Pass) (fault : DeskFault) → SeesMore p q → Stops meanings d q r fault → Stops meanings d p r fault
+stops_after : (answers : Answers) (d : Desk) (p q r : Pass) (fault : DeskFault) → SeesMore p q → Stops answers d q r fault → Stops answers d p r fault
 unfolding works_after
-stops_after meanings d p q r fault s h = record { stood = h.stood; works = works_after meanings p q h.stood s h.works; meets = h.meets }
+stops_after answers d p q r fault s h = record { stood = h.stood; works = works_after answers p q h.stood s h.works; meets = h.meets }
 
 waits_after : (d : Desk) (patience : ℕ) (p q r : Pass) → SeesMore p q → Waits d patience q r → Waits d patience p r
 waits_after d patience p q r s w =
@@ -94,123 +94,123 @@ waits_after d patience p q r s w =
       idles = idles_since d patience (last_place (length q.known.seen) w.more) (last_place (length p.known.seen) w.more) w.looks r (last_place-mono (length p.known.seen) (length q.known.seen) w.more longer) w.idles;
     }
 
-ends_after : (meanings : Meanings) (d : Desk) (patience : ℕ) (p q r : Pass) → SeesMore p q → Ends meanings d patience q r → Ends meanings d patience p r
-ends_after meanings d patience p q r s e = record { out = out_after meanings p q r s e.out; none = e.none; waits = waits_after d patience p q r s e.waits }
+ends_after : (answers : Answers) (d : Desk) (patience : ℕ) (p q r : Pass) → SeesMore p q → Ends answers d patience q r → Ends answers d patience p r
+ends_after answers d patience p q r s e = record { out = out_after answers p q r s e.out; none = e.none; waits = waits_after d patience p q r s e.waits }
 
-pub worked_after : (meanings : Meanings) (d : Desk) (patience : ℕ) (p q r : Pass) (fault : Option DeskFault) → SeesMore p q → HasWorked meanings d patience q r fault → HasWorked meanings d patience p r fault
-worked_after meanings d patience p q r None s h = record { works = works_after meanings p q r s h.works; met = ends_after meanings d patience p q r s h.met }
-worked_after meanings d patience p q r (Some fault) s h = record { works = works_after meanings p q r s h.works; met = stops_after meanings d p q r fault s h.met }
+pub worked_after : (answers : Answers) (d : Desk) (patience : ℕ) (p q r : Pass) (fault : Option DeskFault) → SeesMore p q → HasWorked answers d patience q r fault → HasWorked answers d patience p r fault
+worked_after answers d patience p q r None s h = record { works = works_after answers p q r s h.works; met = ends_after answers d patience p q r s h.met }
+worked_after answers d patience p q r (Some fault) s h = record { works = works_after answers p q r s h.works; met = stops_after answers d p q r fault s h.met }
 
 -- ---- one pass after another
 
-pub all_work : {M : Type 0} (meanings : Meanings) (d : Desk) (patience : ℕ) (ps qs : List Pass) (ws : List (Worked M)) → AllZip (IsWorkedFrom meanings d patience) ps ws → AllZip SeesOn ws qs → AllZip (Works meanings) ps qs
-all_work meanings d patience [] [] [] f g = tt
-all_work meanings d patience [] [] (w ∷ ws) f g = absurd f
-all_work meanings d patience [] (q ∷ qs) [] f g = absurd g
-all_work meanings d patience [] (q ∷ qs) (w ∷ ws) f g = absurd f
-all_work meanings d patience (p ∷ ps) [] [] f g = absurd f
-all_work meanings d patience (p ∷ ps) [] (w ∷ ws) f g = absurd g
-all_work meanings d patience (p ∷ ps) (q ∷ qs) [] f g = absurd f
-all_work meanings d patience (p ∷ ps) (q ∷ qs) (w ∷ ws) f g = (works_before meanings p w.pass q f.0.works g.0, all_work meanings d patience ps qs ws f.1 g.1)
+pub all_work : {M : Type 0} (answers : Answers) (d : Desk) (patience : ℕ) (ps qs : List Pass) (ws : List (Worked M)) → AllZip (IsWorkedFrom answers d patience) ps ws → AllZip SeesOn ws qs → AllZip (Works answers) ps qs
+all_work answers d patience [] [] [] f g = tt
+all_work answers d patience [] [] (w ∷ ws) f g = absurd f
+all_work answers d patience [] (q ∷ qs) [] f g = absurd g
+all_work answers d patience [] (q ∷ qs) (w ∷ ws) f g = absurd f
+all_work answers d patience (p ∷ ps) [] [] f g = absurd f
+all_work answers d patience (p ∷ ps) [] (w ∷ ws) f g = absurd g
+all_work answers d patience (p ∷ ps) (q ∷ qs) [] f g = absurd f
+all_work answers d patience (p ∷ ps) (q ∷ qs) (w ∷ ws) f g = (works_before answers p w.pass q f.0.works g.0, all_work answers d patience ps qs ws f.1 g.1)
 
-pub ended : (meanings : Meanings) (d : Desk) (patience : ℕ) (p q : Pass) (fault : Option DeskFault) → fault ≡ None → HasWorked meanings d patience p q fault → Ends meanings d patience p q
-ended meanings d patience p q None e h = h.met
-ended meanings d patience p q (Some fault) e h = cc
+pub ended : (answers : Answers) (d : Desk) (patience : ℕ) (p q : Pass) (fault : Option DeskFault) → fault ≡ None → HasWorked answers d patience p q fault → Ends answers d patience p q
+ended answers d patience p q None e h = h.met
+ended answers d patience p q (Some fault) e h = cc
 
-has_ended : (meanings : Meanings) (d : Desk) (patience : ℕ) (p r q : Pass) (fault : Option DeskFault) → HasWorked meanings d patience p r fault → SeesMore r q → fault ≡ None → HasEnded meanings d patience p q
-has_ended meanings d patience p r q fault h s none = record { ended = r; ends = ended meanings d patience p r fault none h; since = s }
+has_ended : (answers : Answers) (d : Desk) (patience : ℕ) (p r q : Pass) (fault : Option DeskFault) → HasWorked answers d patience p r fault → SeesMore r q → fault ≡ None → HasEnded answers d patience p q
+has_ended answers d patience p r q fault h s none = record { ended = r; ends = ended answers d patience p r fault none h; since = s }
 
-all_ended : {M : Type 0} (meanings : Meanings) (d : Desk) (patience : ℕ) (ps qs : List Pass) (ws : List (Worked M)) → AllZip (IsWorkedFrom meanings d patience) ps ws → AllZip SeesOn ws qs → All (λ (x : Stop). x.1 ≡ None) (map stop_of ws) → AllZip (HasEnded meanings d patience) ps qs
-all_ended meanings d patience [] [] [] f g h = tt
-all_ended meanings d patience [] [] (w ∷ ws) f g h = absurd f
-all_ended meanings d patience [] (q ∷ qs) [] f g h = absurd g
-all_ended meanings d patience [] (q ∷ qs) (w ∷ ws) f g h = absurd f
-all_ended meanings d patience (p ∷ ps) [] [] f g h = absurd f
-all_ended meanings d patience (p ∷ ps) [] (w ∷ ws) f g h = absurd g
-all_ended meanings d patience (p ∷ ps) (q ∷ qs) [] f g h = absurd f
-all_ended meanings d patience (p ∷ ps) (q ∷ qs) (w ∷ ws) f g h = (
-  has_ended meanings d patience p w.pass q w.fault f.0 g.0 (All-head (λ (x : Stop). x.1 ≡ None) (stop_of w) (map stop_of ws) h),
-  all_ended meanings d patience ps qs ws f.1 g.1 (All-tail (λ (x : Stop). x.1 ≡ None) (stop_of w) (map stop_of ws) h),
+all_ended : {M : Type 0} (answers : Answers) (d : Desk) (patience : ℕ) (ps qs : List Pass) (ws : List (Worked M)) → AllZip (IsWorkedFrom answers d patience) ps ws → AllZip SeesOn ws qs → All (λ (x : Stop). x.1 ≡ None) (map stop_of ws) → AllZip (HasEnded answers d patience) ps qs
+all_ended answers d patience [] [] [] f g h = tt
+all_ended answers d patience [] [] (w ∷ ws) f g h = absurd f
+all_ended answers d patience [] (q ∷ qs) [] f g h = absurd g
+all_ended answers d patience [] (q ∷ qs) (w ∷ ws) f g h = absurd f
+all_ended answers d patience (p ∷ ps) [] [] f g h = absurd f
+all_ended answers d patience (p ∷ ps) [] (w ∷ ws) f g h = absurd g
+all_ended answers d patience (p ∷ ps) (q ∷ qs) [] f g h = absurd f
+all_ended answers d patience (p ∷ ps) (q ∷ qs) (w ∷ ws) f g h = (
+  has_ended answers d patience p w.pass q w.fault f.0 g.0 (All-head (λ (x : Stop). x.1 ≡ None) (stop_of w) (map stop_of ws) h),
+  all_ended answers d patience ps qs ws f.1 g.1 (All-tail (λ (x : Stop). x.1 ≡ None) (stop_of w) (map stop_of ws) h),
 )
 
-ends_below : (meanings : Meanings) (d : Desk) (caller patience : ℕ) (p r q : Pass) (fault : Option DeskFault) → HasWorked meanings d patience p r fault → SeesMore r q → EndsIf caller (r.known.caller, fault) → EndsBelow meanings d caller patience p q
-ends_below meanings d caller patience p r q fault h s below l = has_ended meanings d patience p r q fault h s (below (let same = s.same.2 in omega arith))
+ends_below : (answers : Answers) (d : Desk) (caller patience : ℕ) (p r q : Pass) (fault : Option DeskFault) → HasWorked answers d patience p r fault → SeesMore r q → EndsIf caller (r.known.caller, fault) → EndsBelow answers d caller patience p q
+ends_below answers d caller patience p r q fault h s below l = has_ended answers d patience p r q fault h s (below (let same = s.same.2 in omega arith))
 
-all_below : {M : Type 0} (meanings : Meanings) (d : Desk) (caller patience : ℕ) (ps qs : List Pass) (ws : List (Worked M)) → AllZip (IsWorkedFrom meanings d patience) ps ws → AllZip SeesOn ws qs → All (EndsIf caller) (map stop_of ws) → AllZip (EndsBelow meanings d caller patience) ps qs
-all_below meanings d caller patience [] [] [] f g h = tt
-all_below meanings d caller patience [] [] (w ∷ ws) f g h = absurd f
-all_below meanings d caller patience [] (q ∷ qs) [] f g h = absurd g
-all_below meanings d caller patience [] (q ∷ qs) (w ∷ ws) f g h = absurd f
-all_below meanings d caller patience (p ∷ ps) [] [] f g h = absurd f
-all_below meanings d caller patience (p ∷ ps) [] (w ∷ ws) f g h = absurd g
-all_below meanings d caller patience (p ∷ ps) (q ∷ qs) [] f g h = absurd f
-all_below meanings d caller patience (p ∷ ps) (q ∷ qs) (w ∷ ws) f g h = (
-  ends_below meanings d caller patience p w.pass q w.fault f.0 g.0 (All-head (EndsIf caller) (stop_of w) (map stop_of ws) h),
-  all_below meanings d caller patience ps qs ws f.1 g.1 (All-tail (EndsIf caller) (stop_of w) (map stop_of ws) h),
+all_below : {M : Type 0} (answers : Answers) (d : Desk) (caller patience : ℕ) (ps qs : List Pass) (ws : List (Worked M)) → AllZip (IsWorkedFrom answers d patience) ps ws → AllZip SeesOn ws qs → All (EndsIf caller) (map stop_of ws) → AllZip (EndsBelow answers d caller patience) ps qs
+all_below answers d caller patience [] [] [] f g h = tt
+all_below answers d caller patience [] [] (w ∷ ws) f g h = absurd f
+all_below answers d caller patience [] (q ∷ qs) [] f g h = absurd g
+all_below answers d caller patience [] (q ∷ qs) (w ∷ ws) f g h = absurd f
+all_below answers d caller patience (p ∷ ps) [] [] f g h = absurd f
+all_below answers d caller patience (p ∷ ps) [] (w ∷ ws) f g h = absurd g
+all_below answers d caller patience (p ∷ ps) (q ∷ qs) [] f g h = absurd f
+all_below answers d caller patience (p ∷ ps) (q ∷ qs) (w ∷ ws) f g h = (
+  ends_below answers d caller patience p w.pass q w.fault f.0 g.0 (All-head (EndsIf caller) (stop_of w) (map stop_of ws) h),
+  all_below answers d caller patience ps qs ws f.1 g.1 (All-tail (EndsIf caller) (stop_of w) (map stop_of ws) h),
 )
 
 -- ---- the worker that was stopped
 
 -- what stopped it, whatever its patience was
-StopsAs : {M : Type 0} → Meanings → Desk → Pass → Worked M → Type 0
-StopsAs meanings d p w = (fault : DeskFault) → w.fault ≡ Some fault → Stops meanings d p w.pass fault
+StopsAs : {M : Type 0} → Answers → Desk → Pass → Worked M → Type 0
+StopsAs answers d p w = (fault : DeskFault) → w.fault ≡ Some fault → Stops answers d p w.pass fault
 
-stops_as : (meanings : Meanings) (d : Desk) (patience : ℕ) (p q : Pass) (fault : Option DeskFault) → HasWorked meanings d patience p q fault → (x : DeskFault) → fault ≡ Some x → Stops meanings d p q x
-stops_as meanings d patience p q None h x e = cc
-stops_as meanings d patience p q (Some fault) h x e = let same : fault ≡ x = cc in subst (Stops meanings d p q) same h.met
+stops_as : (answers : Answers) (d : Desk) (patience : ℕ) (p q : Pass) (fault : Option DeskFault) → HasWorked answers d patience p q fault → (x : DeskFault) → fault ≡ Some x → Stops answers d p q x
+stops_as answers d patience p q None h x e = cc
+stops_as answers d patience p q (Some fault) h x e = let same : fault ≡ x = cc in subst (Stops answers d p q) same h.met
 
-all_stops : {M : Type 0} (meanings : Meanings) (d : Desk) (patience : ℕ) (ps : List Pass) (ws : List (Worked M)) → AllZip (IsWorkedFrom meanings d patience) ps ws → AllZip (StopsAs meanings d) ps ws
+all_stops : {M : Type 0} (answers : Answers) (d : Desk) (patience : ℕ) (ps : List Pass) (ws : List (Worked M)) → AllZip (IsWorkedFrom answers d patience) ps ws → AllZip (StopsAs answers d) ps ws
 unfolding StopsAs
-all_stops meanings d patience [] [] f = tt
-all_stops meanings d patience [] (w ∷ ws) f = absurd f
-all_stops meanings d patience (p ∷ ps) [] f = absurd f
-all_stops meanings d patience (p ∷ ps) (w ∷ ws) f = (stops_as meanings d patience p w.pass w.fault f.0, all_stops meanings d patience ps ws f.1)
+all_stops answers d patience [] [] f = tt
+all_stops answers d patience [] (w ∷ ws) f = absurd f
+all_stops answers d patience (p ∷ ps) [] f = absurd f
+all_stops answers d patience (p ∷ ps) (w ∷ ws) f = (stops_as answers d patience p w.pass w.fault f.0, all_stops answers d patience ps ws f.1)
 
 -- it is the same caller's
-stops_caller : (meanings : Meanings) (d : Desk) (p q : Pass) (fault : DeskFault) → Stops meanings d p q fault → q.known.caller ≡ p.known.caller
-stops_caller meanings d p q fault s = (same_follows s.stood q s.meets.left).2 ∙ s.works.same.2
+stops_caller : (answers : Answers) (d : Desk) (p q : Pass) (fault : DeskFault) → Stops answers d p q fault → q.known.caller ≡ p.known.caller
+stops_caller answers d p q fault s = (same_follows s.stood q s.meets.left).2 ∙ s.works.same.2
 
 -- the pass of a caller that was stopped
-record Stopped (meanings : Meanings) (d : Desk) (ps qs : List Pass) (caller : ℕ) (fault : DeskFault) : Type 0 where
+record Stopped (answers : Answers) (d : Desk) (ps qs : List Pass) (caller : ℕ) (fault : DeskFault) : Type 0 where
   before : Pass
   was_there : Contains ps before
   after : Pass
   there : Contains qs after
   is : before.known.caller ≡ caller
-  stopped : WasStopped meanings d fault before after
+  stopped : WasStopped answers d fault before after
 
-stopped_more : (meanings : Meanings) (d : Desk) (p q : Pass) (ps qs : List Pass) (caller : ℕ) (fault : DeskFault) → Stopped meanings d ps qs caller fault → Stopped meanings d (p ∷ ps) (q ∷ qs) caller fault
-stopped_more meanings d p q ps qs caller fault s =
+stopped_more : (answers : Answers) (d : Desk) (p q : Pass) (ps qs : List Pass) (caller : ℕ) (fault : DeskFault) → Stopped answers d ps qs caller fault → Stopped answers d (p ∷ ps) (q ∷ qs) caller fault
+stopped_more answers d p q ps qs caller fault s =
     record { before = s.before; was_there = Contains-append_right (p ∷ []) ps s.before s.was_there; after = s.after; there = Contains-append_right (q ∷ []) qs s.after s.there; is = s.is; stopped = s.stopped }
 
-stopped_at : {M : Type 0} (meanings : Meanings) (d : Desk) (caller : ℕ) (fault : DeskFault) (ps qs : List Pass) (ws : List (Worked M)) → AllZip (StopsAs meanings d) ps ws → AllZip SeesOn ws qs
-    → (k : ℕ) → k < length (map stop_of ws) → slice_index_or (map stop_of ws) k (caller, Some fault) ≡ (caller, Some fault) → Stopped meanings d ps qs caller fault
+stopped_at : {M : Type 0} (answers : Answers) (d : Desk) (caller : ℕ) (fault : DeskFault) (ps qs : List Pass) (ws : List (Worked M)) → AllZip (StopsAs answers d) ps ws → AllZip SeesOn ws qs
+    → (k : ℕ) → k < length (map stop_of ws) → slice_index_or (map stop_of ws) k (caller, Some fault) ≡ (caller, Some fault) → Stopped answers d ps qs caller fault
 unfolding StopsAs
-stopped_at meanings d caller fault ps qs [] f g k l e = absurd (omega arith)
-stopped_at meanings d caller fault [] qs (w ∷ ws) f g k l e = absurd f
-stopped_at meanings d caller fault (p ∷ ps) [] (w ∷ ws) f g k l e = absurd g
-stopped_at meanings d caller fault (p ∷ ps) (q ∷ qs) (w ∷ ws) f g zero l e =
+stopped_at answers d caller fault ps qs [] f g k l e = absurd (omega arith)
+stopped_at answers d caller fault [] qs (w ∷ ws) f g k l e = absurd f
+stopped_at answers d caller fault (p ∷ ps) [] (w ∷ ws) f g k l e = absurd g
+stopped_at answers d caller fault (p ∷ ps) (q ∷ qs) (w ∷ ws) f g zero l e =
     let stops = f.0 fault (ap (λ (x : Stop). x.1) e) in record {
       before = p;
       was_there = (0, omega arith, refl);
       after = q;
       there = (0, omega arith, refl);
-      is = sym (stops_caller meanings d p w.pass fault stops) ∙ ap (λ (x : Stop). x.0) e;
+      is = sym (stops_caller answers d p w.pass fault stops) ∙ ap (λ (x : Stop). x.0) e;
       stopped = record { stopped = w.pass; stops = stops; since = g.0 };
     }
-stopped_at meanings d caller fault (p ∷ ps) (q ∷ qs) (w ∷ ws) f g (suc k) l e = stopped_more meanings d p q ps qs caller fault (stopped_at meanings d caller fault ps qs ws f.1 g.1 k (omega arith) e)
+stopped_at answers d caller fault (p ∷ ps) (q ∷ qs) (w ∷ ws) f g (suc k) l e = stopped_more answers d p q ps qs caller fault (stopped_at answers d caller fault ps qs ws f.1 g.1 k (omega arith) e)
 
 -- the caller's own worker, with its patience, and the others with theirs
-pub all_met : {M : Type 0} (m : M) (meanings : Meanings) (d : Desk) (p q : Pass) (fault : Option DeskFault) (ps qs : List Pass) (ws : List (Worked M)) (first : Option Met) → HasWorked meanings d 1 p q fault → AllZip (IsWorkedFrom meanings d 1000) ps ws → AllZip SeesOn ws qs
-    → IsFirst ((q.known.caller, fault) ∷ map stop_of ws) first → IsMet meanings d (p ∷ ps) (q ∷ qs) first
+pub all_met : {M : Type 0} (m : M) (answers : Answers) (d : Desk) (p q : Pass) (fault : Option DeskFault) (ps qs : List Pass) (ws : List (Worked M)) (first : Option Met) → HasWorked answers d 1 p q fault → AllZip (IsWorkedFrom answers d 1000) ps ws → AllZip SeesOn ws qs
+    → IsFirst ((q.known.caller, fault) ∷ map stop_of ws) first → IsMet answers d (p ∷ ps) (q ∷ qs) first
 unfolding StopsAs
-all_met m meanings d p q fault ps qs ws None own f g h = (
-  has_ended meanings d 1 p q q fault own (sees_itself q) (All-head (λ (x : Stop). x.1 ≡ None) (q.known.caller, fault) (map stop_of ws) h),
-  all_ended meanings d 1000 ps qs ws f g (All-tail (λ (x : Stop). x.1 ≡ None) (q.known.caller, fault) (map stop_of ws) h),
+all_met m answers d p q fault ps qs ws None own f g h = (
+  has_ended answers d 1 p q q fault own (sees_itself q) (All-head (λ (x : Stop). x.1 ≡ None) (q.known.caller, fault) (map stop_of ws) h),
+  all_ended answers d 1000 ps qs ws f g (All-tail (λ (x : Stop). x.1 ≡ None) (q.known.caller, fault) (map stop_of ws) h),
 )
-all_met {M} m meanings d p q fault ps qs ws (Some met) own f g h =
+all_met {M} m answers d p q fault ps qs ws (Some met) own f g h =
     let mine : Worked M = record { pass = q; worker = m; fault = fault; alone = false } in
-    let s = stopped_at meanings d met.caller met.fault (p ∷ ps) (q ∷ qs) (mine ∷ ws) (stops_as meanings d 1 p q fault own, all_stops meanings d 1000 ps ws f) (sees_itself q, g) h.0.0 h.0.1 h.0.2 in
+    let s = stopped_at answers d met.caller met.fault (p ∷ ps) (q ∷ qs) (mine ∷ ws) (stops_as answers d 1 p q fault own, all_stops answers d 1000 ps ws f) (sees_itself q, g) h.0.0 h.0.1 h.0.2 in
     record {
       before = s.before;
       was_there = s.was_there;
@@ -219,8 +219,8 @@ all_met {M} m meanings d p q fault ps qs ws (Some met) own f g h =
       is = s.is;
       stopped = s.stopped;
       below = (
-        ends_below meanings d met.caller 1 p q q fault own (sees_itself q) (All-head (EndsIf met.caller) (q.known.caller, fault) (map stop_of ws) h.1),
-        all_below meanings d met.caller 1000 ps qs ws f g (All-tail (EndsIf met.caller) (q.known.caller, fault) (map stop_of ws) h.1),
+        ends_below answers d met.caller 1 p q q fault own (sees_itself q) (All-head (EndsIf met.caller) (q.known.caller, fault) (map stop_of ws) h.1),
+        all_below answers d met.caller 1000 ps qs ws f g (All-tail (EndsIf met.caller) (q.known.caller, fault) (map stop_of ws) h.1),
       );
     }
 
@@ -237,47 +237,47 @@ first_rotated stops stop (Some met) h = (
 )
 
 -- what is known when all have come back
-pub record Back {M : Type 0} (meanings : Meanings) (d : Desk) (mine met done : Pass) (ps qs : List Pass) (ws : List (Worked M)) (others : Option Met) (fault : Option DeskFault) : Type 0 where
+pub record Back {M : Type 0} (answers : Answers) (d : Desk) (mine met done : Pass) (ps qs : List Pass) (ws : List (Worked M)) (others : Option Met) (fault : Option DeskFault) : Type 0 where
   pub worker : M
   pub of : All (IsOf d) (mine ∷ ps)
-  pub work : AllZip (IsWorkedFrom meanings d 1000) ps ws
+  pub work : AllZip (IsWorkedFrom answers d 1000) ps ws
   pub sees : AllZip SeesOn ws qs
   pub mine_sees : SeesMore mine met
-  pub mine_works : HasWorked meanings d 1 met done fault
+  pub mine_works : HasWorked answers d 1 met done fault
   pub short : AllShort (length met.known.seen) (knowns qs)
   pub first : IsFirst (map stop_of ws) others
 
-back_own : {M : Type 0} (meanings : Meanings) (d : Desk) (mine met done : Pass) (ps qs : List Pass) (ws : List (Worked M)) (others : Option Met) (fault : Option DeskFault) → Back meanings d mine met done ps qs ws others fault → HasWorked meanings d 1 mine done fault
-back_own meanings d mine met done ps qs ws others fault b = worked_after meanings d 1 mine met done fault b.mine_sees b.mine_works
+back_own : {M : Type 0} (answers : Answers) (d : Desk) (mine met done : Pass) (ps qs : List Pass) (ws : List (Worked M)) (others : Option Met) (fault : Option DeskFault) → Back answers d mine met done ps qs ws others fault → HasWorked answers d 1 mine done fault
+back_own answers d mine met done ps qs ws others fault b = worked_after answers d 1 mine met done fault b.mine_sees b.mine_works
 
-pub back_works : {M : Type 0} (meanings : Meanings) (d : Desk) (mine met done : Pass) (ps qs : List Pass) (ws : List (Worked M)) (others : Option Met) (fault : Option DeskFault) → Back meanings d mine met done ps qs ws others fault → AllZip (Works meanings) (mine ∷ ps) (done ∷ qs)
-back_works meanings d mine met done ps qs ws others fault b = ((back_own meanings d mine met done ps qs ws others fault b).works, all_work meanings d 1000 ps qs ws b.work b.sees)
+pub back_works : {M : Type 0} (answers : Answers) (d : Desk) (mine met done : Pass) (ps qs : List Pass) (ws : List (Worked M)) (others : Option Met) (fault : Option DeskFault) → Back answers d mine met done ps qs ws others fault → AllZip (Works answers) (mine ∷ ps) (done ∷ qs)
+back_works answers d mine met done ps qs ws others fault b = ((back_own answers d mine met done ps qs ws others fault b).works, all_work answers d 1000 ps qs ws b.work b.sees)
 
-pub back_met : {M : Type 0} (meanings : Meanings) (d : Desk) (mine met done : Pass) (ps qs : List Pass) (ws : List (Worked M)) (others : Option Met) (fault : Option DeskFault) → Back meanings d mine met done ps qs ws others fault
-    → IsMet meanings d (mine ∷ ps) (done ∷ qs) (first_with others done.known.caller fault)
-back_met meanings d mine met done ps qs ws others fault b =
-    all_met b.worker meanings d mine done fault ps qs ws (first_with others done.known.caller fault) (back_own meanings d mine met done ps qs ws others fault b) b.work b.sees
+pub back_met : {M : Type 0} (answers : Answers) (d : Desk) (mine met done : Pass) (ps qs : List Pass) (ws : List (Worked M)) (others : Option Met) (fault : Option DeskFault) → Back answers d mine met done ps qs ws others fault
+    → IsMet answers d (mine ∷ ps) (done ∷ qs) (first_with others done.known.caller fault)
+back_met answers d mine met done ps qs ws others fault b =
+    all_met b.worker answers d mine done fault ps qs ws (first_with others done.known.caller fault) (back_own answers d mine met done ps qs ws others fault b) b.work b.sees
     (first_rotated (map stop_of ws) (done.known.caller, fault) (first_with others done.known.caller fault) (first_more (map stop_of ws) others done.known.caller fault b.first))
 
 -- the passes are still of the desk
-still_of : (meanings : Meanings) (d : Desk) (ps qs : List Pass) → All (IsOf d) ps → AllZip (Works meanings) ps qs → All (IsOf d) qs
-still_of meanings d [] [] h f = All-nil (IsOf d)
-still_of meanings d [] (q ∷ qs) h f = absurd f
-still_of meanings d (p ∷ ps) [] h f = absurd f
-still_of meanings d (p ∷ ps) (q ∷ qs) h f =
+still_of : (answers : Answers) (d : Desk) (ps qs : List Pass) → All (IsOf d) ps → AllZip (Works answers) ps qs → All (IsOf d) qs
+still_of answers d [] [] h f = All-nil (IsOf d)
+still_of answers d [] (q ∷ qs) h f = absurd f
+still_of answers d (p ∷ ps) [] h f = absurd f
+still_of answers d (p ∷ ps) (q ∷ qs) h f =
     let x = All-head (IsOf d) p ps h in
-    All-cons (IsOf d) q qs (f.0.same.0 ∙ x.0, f.0.same.1 ∙ x.1) (still_of meanings d ps qs (All-tail (IsOf d) p ps h) f.1)
+    All-cons (IsOf d) q qs (f.0.same.0 ∙ x.0, f.0.same.1 ∙ x.1) (still_of answers d ps qs (All-tail (IsOf d) p ps h) f.1)
 
-pub back_of : {M : Type 0} (meanings : Meanings) (d : Desk) (mine met done : Pass) (ps qs : List Pass) (ws : List (Worked M)) (others : Option Met) (fault : Option DeskFault) → Back meanings d mine met done ps qs ws others fault → All (IsOf d) (done ∷ qs)
-back_of meanings d mine met done ps qs ws others fault b = still_of meanings d (mine ∷ ps) (done ∷ qs) b.of (back_works meanings d mine met done ps qs ws others fault b)
+pub back_of : {M : Type 0} (answers : Answers) (d : Desk) (mine met done : Pass) (ps qs : List Pass) (ws : List (Worked M)) (others : Option Met) (fault : Option DeskFault) → Back answers d mine met done ps qs ws others fault → All (IsOf d) (done ∷ qs)
+back_of answers d mine met done ps qs ws others fault b = still_of answers d (mine ∷ ps) (done ∷ qs) b.of (back_works answers d mine met done ps qs ws others fault b)
 
 -- the passes that come from the workers are of the desk
-pub worked_of : {M : Type 0} (meanings : Meanings) (d : Desk) (ps : List Pass) (ws : List (Worked M)) → All (IsOf d) ps → AllZip (IsWorkedFrom meanings d 1000) ps ws → All (λ (w : Worked M). w.pass.table ≡ d.table) ws
-worked_of {M} meanings d [] [] h f = All-nil (λ (w : Worked M). w.pass.table ≡ d.table)
-worked_of meanings d [] (w ∷ ws) h f = absurd f
-worked_of meanings d (p ∷ ps) [] h f = absurd f
-worked_of {M} meanings d (p ∷ ps) (w ∷ ws) h f =
-    All-cons (λ (w : Worked M). w.pass.table ≡ d.table) w ws (f.0.works.same.0 ∙ (All-head (IsOf d) p ps h).0) (worked_of meanings d ps ws (All-tail (IsOf d) p ps h) f.1)
+pub worked_of : {M : Type 0} (answers : Answers) (d : Desk) (ps : List Pass) (ws : List (Worked M)) → All (IsOf d) ps → AllZip (IsWorkedFrom answers d 1000) ps ws → All (λ (w : Worked M). w.pass.table ≡ d.table) ws
+worked_of {M} answers d [] [] h f = All-nil (λ (w : Worked M). w.pass.table ≡ d.table)
+worked_of answers d [] (w ∷ ws) h f = absurd f
+worked_of answers d (p ∷ ps) [] h f = absurd f
+worked_of {M} answers d (p ∷ ps) (w ∷ ws) h f =
+    All-cons (λ (w : Worked M). w.pass.table ≡ d.table) w ws (f.0.works.same.0 ∙ (All-head (IsOf d) p ps h).0) (worked_of answers d ps ws (All-tail (IsOf d) p ps h) f.1)
 
 pub zip_length : {A B : Type 0} (R : A → B → Type 0) (xs : List A) (ys : List B) → AllZip R xs ys → length ys ≡ length xs
 zip_length R [] [] f = refl
@@ -317,13 +317,13 @@ shut_of d qs items history kept graph same closes are fit one is = record {
   graph_is = is;
 }
 
-pub back_ran : {M : Type 0} (meanings : Meanings) (d : Desk) (mine met done : Pass) (ps qs : List Pass) (ws : List (Worked M)) (others : Option Met) (fault : Option DeskFault) → Back meanings d mine met done ps qs ws others fault
-    → (history : List Event) (kept : List Kept) (graph : State) → Shut d (done ∷ qs) history kept graph → Ran meanings d (mine ∷ ps) history kept graph
-back_ran meanings d mine met done ps qs ws others fault b history kept graph s = record {
+pub back_ran : {M : Type 0} (answers : Answers) (d : Desk) (mine met done : Pass) (ps qs : List Pass) (ws : List (Worked M)) (others : Option Met) (fault : Option DeskFault) → Back answers d mine met done ps qs ws others fault
+    → (history : List Event) (kept : List Kept) (graph : State) → Shut d (done ∷ qs) history kept graph → Ran answers d (mine ∷ ps) history kept graph
+back_ran answers d mine met done ps qs ws others fault b history kept graph s = record {
   qs = done ∷ qs;
   closes = s.closes;
   kept_are = s.kept_are;
-  works = back_works meanings d mine met done ps qs ws others fault b;
+  works = back_works answers d mine met done ps qs ws others fault b;
   fit = s.fit;
   once = λ i. subst (λ (l : List (ℕ × List Rec)). calls_of_all i l ≤ 1) (sym s.kept_are)
       (called_once d.setting.plan d.setting.callers history (done ∷ qs) i (subst (All (IsKeptFit d.setting.plan history)) s.kept_are s.fit.each) s.closes.each
@@ -332,19 +332,19 @@ back_ran meanings d mine met done ps qs ws others fault b history kept graph s =
   graph_is = s.graph_is;
 }
 
-ended_out : (meanings : Meanings) (d : Desk) (patience : ℕ) (p q : Pass) → HasEnded meanings d patience p q → WorksOut meanings p q
-ended_out meanings d patience p q h = out_before meanings p h.ended q h.ends.out h.since
+ended_out : (answers : Answers) (d : Desk) (patience : ℕ) (p q : Pass) → HasEnded answers d patience p q → WorksOut answers p q
+ended_out answers d patience p q h = out_before answers p h.ended q h.ends.out h.since
 
-zip_out : (meanings : Meanings) (d : Desk) (patience : ℕ) (ps qs : List Pass) → AllZip (HasEnded meanings d patience) ps qs → AllZip (WorksOut meanings) ps qs
-zip_out meanings d patience [] [] h = tt
-zip_out meanings d patience [] (q ∷ qs) h = absurd h
-zip_out meanings d patience (p ∷ ps) [] h = absurd h
-zip_out meanings d patience (p ∷ ps) (q ∷ qs) h = (ended_out meanings d patience p q h.0, zip_out meanings d patience ps qs h.1)
+zip_out : (answers : Answers) (d : Desk) (patience : ℕ) (ps qs : List Pass) → AllZip (HasEnded answers d patience) ps qs → AllZip (WorksOut answers) ps qs
+zip_out answers d patience [] [] h = tt
+zip_out answers d patience [] (q ∷ qs) h = absurd h
+zip_out answers d patience (p ∷ ps) [] h = absurd h
+zip_out answers d patience (p ∷ ps) (q ∷ qs) h = (ended_out answers d patience p q h.0, zip_out answers d patience ps qs h.1)
 
-pub each_out : (meanings : Meanings) (d : Desk) (ps qs : List Pass) → OfEach (HasEnded meanings d) ps qs → AllZip (WorksOut meanings) ps qs
-each_out meanings d [] qs h = absurd h
-each_out meanings d (p ∷ ps) [] h = absurd h
-each_out meanings d (p ∷ ps) (q ∷ qs) h = (ended_out meanings d 1 p q h.0, zip_out meanings d 1000 ps qs h.1)
+pub each_out : (answers : Answers) (d : Desk) (ps qs : List Pass) → OfEach (HasEnded answers d) ps qs → AllZip (WorksOut answers) ps qs
+each_out answers d [] qs h = absurd h
+each_out answers d (p ∷ ps) [] h = absurd h
+each_out answers d (p ∷ ps) (q ∷ qs) h = (ended_out answers d 1 p q h.0, zip_out answers d 1000 ps qs h.1)
 
 pub first_none : (others : Option Met) (caller : ℕ) (fault : Option DeskFault) → first_with others caller fault ≡ None → fault ≡ None
 first_none None caller None e = refl
@@ -352,28 +352,28 @@ first_none (Some met) caller None e = refl
 first_none None caller (Some fault) e = cc
 first_none (Some met) caller (Some fault) e = cc
 
-pub back_out : {M : Type 0} (meanings : Meanings) (d : Desk) (mine met done : Pass) (ps qs : List Pass) (ws : List (Worked M)) (others : Option Met) (fault : Option DeskFault) → Back meanings d mine met done ps qs ws others fault
-    → (history : List Event) (kept : List Kept) (graph : State) → Shut d (done ∷ qs) history kept graph → first_with others done.known.caller fault ≡ None → RanOut meanings d (mine ∷ ps) history kept graph
+pub back_out : {M : Type 0} (answers : Answers) (d : Desk) (mine met done : Pass) (ps qs : List Pass) (ws : List (Worked M)) (others : Option Met) (fault : Option DeskFault) → Back answers d mine met done ps qs ws others fault
+    → (history : List Event) (kept : List Kept) (graph : State) → Shut d (done ∷ qs) history kept graph → first_with others done.known.caller fault ≡ None → RanOut answers d (mine ∷ ps) history kept graph
 unfolding back_ran
-back_out meanings d mine met done ps qs ws others fault b history kept graph s none =
-    let of : IsOf d done = All-head (IsOf d) done qs (back_of meanings d mine met done ps qs ws others fault b) in
+back_out answers d mine met done ps qs ws others fault b history kept graph s none =
+    let of : IsOf d done = All-head (IsOf d) done qs (back_of answers d mine met done ps qs ws others fault b) in
     let longer : length met.known.seen ≤ length done.known.seen = (let e = ap length b.mine_works.works.goes_on in let l = length-append met.known.seen b.mine_works.works.seen in omega arith) in
     let whole : history ≡ done.known.seen = whole_seen d done qs history s.closes (short_more (length met.known.seen) (length done.known.seen) longer (knowns qs) b.short) in
     let same : graph ≡ state_of done.known = s.graph_is ∙ (λ i. state_from ((sym of.1 i).plan) (whole i)) in
-    let each : OfEach (HasEnded meanings d) (mine ∷ ps) (done ∷ qs) = subst (IsMet meanings d (mine ∷ ps) (done ∷ qs)) none (back_met meanings d mine met done ps qs ws others fault b) in
+    let each : OfEach (HasEnded answers d) (mine ∷ ps) (done ∷ qs) = subst (IsMet answers d (mine ∷ ps) (done ∷ qs)) none (back_met answers d mine met done ps qs ws others fault b) in
     record {
-      ran = back_ran meanings d mine met done ps qs ws others fault b history kept graph s;
+      ran = back_ran answers d mine met done ps qs ws others fault b history kept graph s;
       ended = each;
-      none = ap lowest_ready_of same ∙ (ended meanings d 1 met done fault (first_none others done.known.caller fault none) b.mine_works).none;
-      claims = were_open meanings d.setting.plan d.setting.callers history graph (mine ∷ ps) (done ∷ qs) (each_out meanings d (mine ∷ ps) (done ∷ qs) each)
+      none = ap lowest_ready_of same ∙ (ended answers d 1 met done fault (first_none others done.known.caller fault none) b.mine_works).none;
+      claims = were_open answers d.setting.plan d.setting.callers history graph (mine ∷ ps) (done ∷ qs) (each_out answers d (mine ∷ ps) (done ∷ qs) each)
           (subst (All (IsKeptFit d.setting.plan history)) s.kept_are s.fit.each) s.closes.each
           (events_each (λ e. who_of e < d.setting.callers) d.setting.callers d.setting.functions (λ t e h. h.caller) (start d.setting.plan) history s.closes.events) s.graph_is;
     }
 
 -- work attaches nothing
-next_fits : (meanings : Meanings) (p : Pass) (owed : Owed) (call : Call) (who functions : ℕ) → IsNextCall meanings p owed call → AttachFits functions (event_by who call)
-next_fits meanings p None call who functions next = subst (λ (c : Call). AttachFits functions (event_by who c)) (sym next.2) tt
-next_fits meanings p (Some owed) call who functions next = subst (λ (c : Call). AttachFits functions (event_by who c)) (sym next) tt
+next_fits : (answers : Answers) (p : Pass) (owed : Owed) (call : Call) (who functions : ℕ) → IsNextCall answers p owed call → AttachFits functions (event_by who call)
+next_fits answers p None call who functions next = subst (λ (c : Call). AttachFits functions (event_by who c)) (sym next.2) tt
+next_fits answers p (Some owed) call who functions next = subst (λ (c : Call). AttachFits functions (event_by who c)) (sym next.2) tt
 
 -- why the fault is told
 due_told : (d : Desk) (qs : List Pass) (stood stopped after : Pass) (history : List Event) (call : Call) (fault : DeskFault) → Closes d qs history → Contains qs after → Follows stood stopped → SeesMore stopped after
@@ -388,18 +388,18 @@ due_told d qs stood stopped after history call BadAttach c there f s fits stage 
 due_told d qs stood stopped after history call NoStage c there f s fits stage due =
     absurd (due (still_on_stage stood stopped (event_by stood.known.caller call) f stage))
 
-pub back_told : {M : Type 0} (meanings : Meanings) (d : Desk) (mine met done : Pass) (ps qs : List Pass) (ws : List (Worked M)) (others : Option Met) (fault : Option DeskFault) → Back meanings d mine met done ps qs ws others fault
+pub back_told : {M : Type 0} (answers : Answers) (d : Desk) (mine met done : Pass) (ps qs : List Pass) (ws : List (Worked M)) (others : Option Met) (fault : Option DeskFault) → Back answers d mine met done ps qs ws others fault
     → (closed : Closed) → Shut d (done ∷ qs) closed.history.items closed.passes.items closed.graph.state
     → (first : Met) → first_with others done.known.caller fault ≡ Some first
-    → RunTells meanings d (mine ∷ ps) first.fault closed
+    → RunTells answers d (mine ∷ ps) first.fault closed
 unfolding back_ran
-back_told meanings d mine met done ps qs ws others fault b closed shut first some =
-    let lowest : IsLowest meanings d (mine ∷ ps) (done ∷ qs) first.caller first.fault = subst (IsMet meanings d (mine ∷ ps) (done ∷ qs)) some (back_met meanings d mine met done ps qs ws others fault b) in
+back_told answers d mine met done ps qs ws others fault b closed shut first some =
+    let lowest : IsLowest answers d (mine ∷ ps) (done ∷ qs) first.caller first.fault = subst (IsMet answers d (mine ∷ ps) (done ∷ qs)) some (back_met answers d mine met done ps qs ws others fault b) in
     let stops = lowest.stopped.stops in
     record {
-      ran = back_ran meanings d mine met done ps qs ws others fault b closed.history.items closed.passes.items closed.graph.state shut;
+      ran = back_ran answers d mine met done ps qs ws others fault b closed.history.items closed.passes.items closed.graph.state shut;
       due = due_told d (done ∷ qs) stops.stood lowest.stopped.stopped lowest.after closed.history.items stops.meets.call first.fault shut.closes lowest.there stops.meets.left lowest.stopped.since
-          (λ functions. next_fits meanings stops.stood (owed_after None stops.works.more) stops.meets.call stops.stood.known.caller functions stops.meets.next) stops.meets.there stops.meets.due;
+          (λ functions. next_fits answers stops.stood (owed_after None stops.works.more) stops.meets.call stops.stood.known.caller functions stops.meets.next) stops.meets.there stops.meets.due;
       caller = first.caller;
       lowest = lowest;
     }
@@ -407,14 +407,14 @@ back_told meanings d mine met done ps qs ws others fault b closed shut first som
 -- ---- the calls
 
 -- all workers' functions mean what the first's do
-pub all_from : {M : Type 0} (tells : TellsOf M) (calls : CallsOf M) (meanings : M → Meanings) (first : Meanings) (d : Desk) (hs : List (Pass × M)) (ws : List (Worked M)) → All (λ (m : M). meanings m ≡ first) (map (λ (h : Pass × M). h.1) hs) → AllZip (IsWorkedBy tells calls meanings d 1000) hs ws
+pub all_from : {M : Type 0} (tells : TellsOf M) (calls : CallsOf M) (answers : M → Answers) (first : Answers) (d : Desk) (hs : List (Pass × M)) (ws : List (Worked M)) → All (λ (m : M). answers m ≡ first) (map (λ (h : Pass × M). h.1) hs) → AllZip (IsWorkedBy tells calls answers d 1000) hs ws
     → AllZip (IsWorkedFrom first d 1000) (map (λ (h : Pass × M). h.0) hs) ws
-all_from tells calls meanings first d [] [] alike f = tt
-all_from tells calls meanings first d [] (w ∷ ws) alike f = absurd f
-all_from tells calls meanings first d (h ∷ hs) [] alike f = absurd f
-all_from {M} tells calls meanings first d (h ∷ hs) (w ∷ ws) alike f = (
-  subst (λ (x : Meanings). IsWorkedFrom x d 1000 h.0 w) (All-head (λ (m : M). meanings m ≡ first) h.1 (map (λ (k : Pass × M). k.1) hs) alike) f.0.from,
-  all_from tells calls meanings first d hs ws (All-tail (λ (m : M). meanings m ≡ first) h.1 (map (λ (k : Pass × M). k.1) hs) alike) f.1,
+all_from tells calls answers first d [] [] alike f = tt
+all_from tells calls answers first d [] (w ∷ ws) alike f = absurd f
+all_from tells calls answers first d (h ∷ hs) [] alike f = absurd f
+all_from {M} tells calls answers first d (h ∷ hs) (w ∷ ws) alike f = (
+  subst (λ (x : Answers). IsWorkedFrom x d 1000 h.0 w) (All-head (λ (m : M). answers m ≡ first) h.1 (map (λ (k : Pass × M). k.1) hs) alike) f.0.from,
+  all_from tells calls answers first d hs ws (All-tail (λ (m : M). answers m ≡ first) h.1 (map (λ (k : Pass × M). k.1) hs) alike) f.1,
 )
 
 -- the plan that a pass has seen last grows to that of the whole history
@@ -433,25 +433,25 @@ whole_calls tells calls d who records p q m n history s of c h =
     (once_grown tells calls (state_of q.known) (state_from d.setting.plan history) who records p.records m n (grows_whole d q history of c)
     (once_grown tells calls (state_of p.known) (state_of q.known) who records p.records m n (pass_grows p q s.caught.others s.same.1 s.caught.joined) h))
 
-each_calls : {M : Type 0} (tells : TellsOf M) (calls : CallsOf M) (meanings : M → Meanings) (d : Desk) (history : List Event) (hs : List (Pass × M)) (ws : List (Worked M)) (qs : List Pass) → AllZip (IsWorkedBy tells calls meanings d 1000) hs ws → AllZip SeesOn ws qs
+each_calls : {M : Type 0} (tells : TellsOf M) (calls : CallsOf M) (answers : M → Answers) (d : Desk) (history : List Event) (hs : List (Pass × M)) (ws : List (Worked M)) (qs : List Pass) → AllZip (IsWorkedBy tells calls answers d 1000) hs ws → AllZip SeesOn ws qs
     → All (IsOf d) qs → All (λ (q : Pass). Catches q.known.caller q.known.seen history) qs
     → EachCalls tells calls (state_from d.setting.plan history).plan.stages (map (λ (h : Pass × M). h.0) hs) (map (λ (q : Pass). q.records) qs) (map (λ (h : Pass × M). h.1) hs) (map (λ (w : Worked M). w.worker) ws)
-each_calls tells calls meanings d history [] [] [] f g of begins = tt
-each_calls tells calls meanings d history [] [] (q ∷ qs) f g of begins = absurd g
-each_calls tells calls meanings d history [] (w ∷ ws) qs f g of begins = absurd f
-each_calls tells calls meanings d history (h ∷ hs) [] qs f g of begins = absurd f
-each_calls tells calls meanings d history (h ∷ hs) (w ∷ ws) [] f g of begins = absurd g
-each_calls tells calls meanings d history (h ∷ hs) (w ∷ ws) (q ∷ qs) f g of begins = (
+each_calls tells calls answers d history [] [] [] f g of begins = tt
+each_calls tells calls answers d history [] [] (q ∷ qs) f g of begins = absurd g
+each_calls tells calls answers d history [] (w ∷ ws) qs f g of begins = absurd f
+each_calls tells calls answers d history (h ∷ hs) [] qs f g of begins = absurd f
+each_calls tells calls answers d history (h ∷ hs) (w ∷ ws) [] f g of begins = absurd g
+each_calls tells calls answers d history (h ∷ hs) (w ∷ ws) (q ∷ qs) f g of begins = (
   whole_calls tells calls d h.0.known.caller h.0.records w.pass q h.1 w.worker history g.0 (All-head (IsOf d) q qs of) (All-head (λ (x : Pass). Catches x.known.caller x.known.seen history) q qs begins) f.0.called,
-  each_calls tells calls meanings d history hs ws qs f.1 g.1 (All-tail (IsOf d) q qs of) (All-tail (λ (x : Pass). Catches x.known.caller x.known.seen history) q qs begins),
+  each_calls tells calls answers d history hs ws qs f.1 g.1 (All-tail (IsOf d) q qs of) (All-tail (λ (x : Pass). Catches x.known.caller x.known.seen history) q qs begins),
 )
 
-pub back_calls : {M : Type 0} (tells : TellsOf M) (calls : CallsOf M) (of_worker : M → Meanings) (meanings : Meanings) (d : Desk) (mine met done : Pass) (hs : List (Pass × M)) (qs : List Pass) (ws : List (Worked M)) (others : Option Met) (fault : Option DeskFault) (m n : M)
-    → Back meanings d mine met done (map (λ (h : Pass × M). h.0) hs) qs ws others fault → AllZip (IsWorkedBy tells calls of_worker d 1000) hs ws → CallsOnce tells calls (state_of done.known).plan.stages met.known.caller met.records done.records m n
+pub back_calls : {M : Type 0} (tells : TellsOf M) (calls : CallsOf M) (of_worker : M → Answers) (answers : Answers) (d : Desk) (mine met done : Pass) (hs : List (Pass × M)) (qs : List Pass) (ws : List (Worked M)) (others : Option Met) (fault : Option DeskFault) (m n : M)
+    → Back answers d mine met done (map (λ (h : Pass × M). h.0) hs) qs ws others fault → AllZip (IsWorkedBy tells calls of_worker d 1000) hs ws → CallsOnce tells calls (state_of done.known).plan.stages met.known.caller met.records done.records m n
     → (history : List Event) (kept : List Kept) (graph : State) → Shut d (done ∷ qs) history kept graph
     → EachCalls tells calls graph.plan.stages (mine ∷ map (λ (h : Pass × M). h.0) hs) (map (λ (k : Kept). k.records.items) kept) (m ∷ map (λ (h : Pass × M). h.1) hs) (n ∷ map (λ (w : Worked M). w.worker) ws)
-back_calls {M} tells calls of_worker meanings d mine met done hs qs ws others fault m n b f own history kept graph s =
-    let of : All (IsOf d) (done ∷ qs) = back_of meanings d mine met done (map (λ (h : Pass × M). h.0) hs) qs ws others fault b in
+back_calls {M} tells calls of_worker answers d mine met done hs qs ws others fault m n b f own history kept graph s =
+    let of : All (IsOf d) (done ∷ qs) = back_of answers d mine met done (map (λ (h : Pass × M). h.0) hs) qs ws others fault b in
     let stages = (state_from d.setting.plan history).plan.stages in
     let own_as : CallsOnce tells calls (state_of done.known).plan.stages mine.known.caller mine.records done.records m n =
     subst (λ (l : List Rec). CallsOnce tells calls (state_of done.known).plan.stages mine.known.caller l done.records m n) b.mine_sees.records
@@ -468,26 +468,26 @@ back_calls {M} tells calls of_worker meanings d mine met done hs qs ws others fa
 -- ---- what is told
 
 -- what a run leaves, where a thread was refused or not, and this was the lowest caller that was stopped
-pub record Leaves {M : Type 0} (tells : TellsOf M) (calls : CallsOf M) (meanings : Meanings) (d : Desk) (ps : List Pass) (ms : List M) (refused : Bool) (first : Option Met) (left : Left M) : Type 0 where
-  pub ran : Ran meanings d ps left.closed.history.items left.closed.passes.items left.closed.graph.state
+pub record Leaves {M : Type 0} (tells : TellsOf M) (calls : CallsOf M) (answers : Answers) (d : Desk) (ps : List Pass) (ms : List M) (refused : Bool) (first : Option Met) (left : Left M) : Type 0 where
+  pub ran : Ran answers d ps left.closed.history.items left.closed.passes.items left.closed.graph.state
   pub called : HaveCalled tells calls ps ms left
-  pub threads : HadThreads meanings d ps left refused
-  pub out : first ≡ None → RanOut meanings d ps left.closed.history.items left.closed.passes.items left.closed.graph.state
-  pub stopped : (met : Met) → first ≡ Some met → RunTells meanings d ps met.fault left.closed
+  pub threads : HadThreads answers d ps left refused
+  pub out : first ≡ None → RanOut answers d ps left.closed.history.items left.closed.passes.items left.closed.graph.state
+  pub stopped : (met : Met) → first ≡ Some met → RunTells answers d ps met.fault left.closed
 
-pub back_leaves : {M : Type 0} (tells : TellsOf M) (calls : CallsOf M) (of_worker : M → Meanings) (meanings : Meanings) (d : Desk) (mine met done : Pass) (hs : List (Pass × M)) (qs : List Pass) (ws : List (Worked M)) (others : Option Met) (fault : Option DeskFault) (m n : M)
-    → Back meanings d mine met done (map (λ (h : Pass × M). h.0) hs) qs ws others fault → AllZip (IsWorkedBy tells calls of_worker d 1000) hs ws → CallsOnce tells calls (state_of done.known).plan.stages met.known.caller met.records done.records m n
+pub back_leaves : {M : Type 0} (tells : TellsOf M) (calls : CallsOf M) (of_worker : M → Answers) (answers : Answers) (d : Desk) (mine met done : Pass) (hs : List (Pass × M)) (qs : List Pass) (ws : List (Worked M)) (others : Option Met) (fault : Option DeskFault) (m n : M)
+    → Back answers d mine met done (map (λ (h : Pass × M). h.0) hs) qs ws others fault → AllZip (IsWorkedBy tells calls of_worker d 1000) hs ws → CallsOnce tells calls (state_of done.known).plan.stages met.known.caller met.records done.records m n
     → (refused : Bool) (first : Option Met) (left : Left M) → Shut d (done ∷ qs) left.closed.history.items left.closed.passes.items left.closed.graph.state
     → left.workers.items ≡ n ∷ map (λ (w : Worked M). w.worker) ws → refused ≡ is_any_alone ws → first ≡ first_with others done.known.caller fault
-    → Leaves tells calls meanings d (mine ∷ map (λ (h : Pass × M). h.0) hs) (m ∷ map (λ (h : Pass × M). h.1) hs) refused first left
-back_leaves {M} tells calls of_worker meanings d mine met done hs qs ws others fault m n b f own refused first left shut workers any is =
+    → Leaves tells calls answers d (mine ∷ map (λ (h : Pass × M). h.0) hs) (m ∷ map (λ (h : Pass × M). h.1) hs) refused first left
+back_leaves {M} tells calls of_worker answers d mine met done hs qs ws others fault m n b f own refused first left shut workers any is =
     let ps = map (λ (h : Pass × M). h.0) hs in record {
-      ran = back_ran meanings d mine met done ps qs ws others fault b left.closed.history.items left.closed.passes.items left.closed.graph.state shut;
+      ran = back_ran answers d mine met done ps qs ws others fault b left.closed.history.items left.closed.passes.items left.closed.graph.state shut;
       called = subst (λ (l : List M). EachCalls tells calls left.closed.graph.state.plan.stages (mine ∷ ps) (map (λ (k : Kept). k.records.items) left.closed.passes.items) (m ∷ map (λ (h : Pass × M). h.1) hs) l) (sym workers)
-          (back_calls tells calls of_worker meanings d mine met done hs qs ws others fault m n b f own left.closed.history.items left.closed.passes.items left.closed.graph.state shut);
+          (back_calls tells calls of_worker answers d mine met done hs qs ws others fault m n b f own left.closed.history.items left.closed.passes.items left.closed.graph.state shut);
       threads = record { worked = ws; from = b.work; workers = ap (drop 1) workers; alone = sym any };
-      out = λ none. back_out meanings d mine met done ps qs ws others fault b left.closed.history.items left.closed.passes.items left.closed.graph.state shut (sym is ∙ none);
-      stopped = λ x some. back_told meanings d mine met done ps qs ws others fault b left.closed shut x (sym is ∙ some);
+      out = λ none. back_out answers d mine met done ps qs ws others fault b left.closed.history.items left.closed.passes.items left.closed.graph.state shut (sym is ∙ none);
+      stopped = λ x some. back_told answers d mine met done ps qs ws others fault b left.closed shut x (sym is ∙ some);
     }
 
 pub told_left : {M : Type 0} (P : Left M → Type 0) (refused : Bool) (first : Option Met) (left : Left M) → (refused ≡ false → first ≡ None → P left) → IfOk (told refused first left) P
@@ -495,11 +495,11 @@ told_left P true first left h = tt
 told_left P false None left h = h refl refl
 told_left P false (Some met) left h = tt
 
-pub told_refused : {M : Type 0} (tells : TellsOf M) (calls : CallsOf M) (meanings : Meanings) (d : Desk) (ps : List Pass) (ms : List M) (refused : Bool) (first : Option Met) (left : Left M) → Leaves tells calls meanings d ps ms refused first left
-    → IfErr (told refused first left) (RunRefuses tells calls meanings d ps ms)
-told_refused tells calls meanings d ps ms true first left h = (h.ran, h.called, h.threads)
-told_refused tells calls meanings d ps ms false None left h = tt
-told_refused tells calls meanings d ps ms false (Some met) left h = (h.stopped met refl, h.called, h.threads)
+pub told_refused : {M : Type 0} (tells : TellsOf M) (calls : CallsOf M) (answers : Answers) (d : Desk) (ps : List Pass) (ms : List M) (refused : Bool) (first : Option Met) (left : Left M) → Leaves tells calls answers d ps ms refused first left
+    → IfErr (told refused first left) (RunRefuses tells calls answers d ps ms)
+told_refused tells calls answers d ps ms true first left h = (h.ran, h.called, h.threads)
+told_refused tells calls answers d ps ms false None left h = tt
+told_refused tells calls answers d ps ms false (Some met) left h = (h.stopped met refl, h.called, h.threads)
 
 -- a list as its first element and the others
 pub first_and : {A : Type 0} (xs rest : List A) (x : A) → 0 < length xs → x ≡ slice_index_or xs 0 x → rest ≡ take 0 xs ++ drop (0 + 1) xs → xs ≡ x ∷ rest

@@ -4,7 +4,7 @@ use Rattle.std.specs.Prelude.{unwrap_or}
 use Rattle.std.specs.Option.{option_map_or}
 use Rattle.cf_forms.specs.declared.forms.Answer.{Answer}
 use Rattle.cf_forms.specs.declared.forms.Args.{Args}
-use Rattle.cf_forms.specs.Meanings.{Meanings, stage_answer}
+use Rattle.cf_pool.specs.Answering.{Answers, IsAnswer, MayAnswer}
 use Rattle.cf_forms.specs.Plans.{Planned, PlannedStage, function_at}
 use Rattle.cf_forms.proofs.ListLemmas.{slice_get-front}
 use Rattle.cf_model.specs.declared.events.Event.{Event}
@@ -48,8 +48,8 @@ pub function_stays : (s r : State) (i : ℕ) → Grows s r → i < length s.plan
 function_stays s r i g l =
     sym (ap (λ stages. unwrap_or (function_at stages i) 0) g.stages ∙ ap (λ (x : Option PlannedStage). unwrap_or (option_map_or (λ (p : PlannedStage). p.function) x None) 0) (slice_get-front s.plan.stages g.more i l))
 
-pub answer_stays : (meanings : Meanings) (s r : State) (i : ℕ) (args : Args) → Grows s r → i < length s.plan.stages → stage_answer meanings s.plan.stages i args ≡ stage_answer meanings r.plan.stages i args
-answer_stays meanings s r i args g l = ap (λ (n : ℕ). meanings n args) (function_stays s r i g l)
+pub answer_stays : (answers : Answers) (s r : State) (i : ℕ) (args : Args) (answer : Answer) → Grows s r → i < length s.plan.stages → MayAnswer answers s.plan.stages i args answer → MayAnswer answers r.plan.stages i args answer
+answer_stays answers s r i args answer g l = subst (λ (n : ℕ). IsAnswer (answers n args) answer) (function_stays s r i g l)
 
 -- ---- a call on stages that the pass knows, for which it needn't look
 
@@ -72,29 +72,29 @@ refuses_known d p q call fault there r =
 
 -- ---- a record of work is a claim by one who owes nothing, or the finish that is owed
 
-pub by_record : (meanings : Meanings) (plan : Planned) (P : Owed → Rec → Type 0)
+pub by_record : (answers : Answers) (plan : Planned) (P : Owed → Rec → Type 0)
     → ((place i : ℕ) (reply : Reply) → i < length plan.stages → P None (Did place (Claim i) reply))
-    → ((place i : ℕ) (args : Args) (answer : Answer) (reply : Reply) → answer ≡ stage_answer meanings plan.stages i args → P (Some (i, args)) (Did place (Finish i answer) reply))
-    → (o : Owed) (r : Rec) → IsNext meanings plan o r → P o r
-by_record meanings plan P claims finishes None (Did place (Claim i) reply) h = claims place i reply h
-by_record meanings plan P claims finishes None (Did place (Finish i answer) reply) h = absurd h
-by_record meanings plan P claims finishes None (Did place (Complete i v) reply) h = absurd h
-by_record meanings plan P claims finishes None (Did place (Fail i code) reply) h = absurd h
-by_record meanings plan P claims finishes None (Did place (FailAs i failure) reply) h = absurd h
-by_record meanings plan P claims finishes None (Did place (Cancel i) reply) h = absurd h
-by_record meanings plan P claims finishes None (Did place (Tick now) reply) h = absurd h
-by_record meanings plan P claims finishes None (Did place (Attach form of function) reply) h = absurd h
-by_record meanings plan P claims finishes None (Saw place ask answer) h = absurd h
-by_record meanings plan P claims finishes (Some (j, args)) (Did place (Finish i answer) reply) h =
+    → ((place i : ℕ) (args : Args) (answer : Answer) (reply : Reply) → MayAnswer answers plan.stages i args answer → P (Some (i, args)) (Did place (Finish i answer) reply))
+    → (o : Owed) (r : Rec) → IsNext answers plan o r → P o r
+by_record answers plan P claims finishes None (Did place (Claim i) reply) h = claims place i reply h
+by_record answers plan P claims finishes None (Did place (Finish i answer) reply) h = absurd h
+by_record answers plan P claims finishes None (Did place (Complete i v) reply) h = absurd h
+by_record answers plan P claims finishes None (Did place (Fail i code) reply) h = absurd h
+by_record answers plan P claims finishes None (Did place (FailAs i failure) reply) h = absurd h
+by_record answers plan P claims finishes None (Did place (Cancel i) reply) h = absurd h
+by_record answers plan P claims finishes None (Did place (Tick now) reply) h = absurd h
+by_record answers plan P claims finishes None (Did place (Attach form of function) reply) h = absurd h
+by_record answers plan P claims finishes None (Saw place ask answer) h = absurd h
+by_record answers plan P claims finishes (Some (j, args)) (Did place (Finish i answer) reply) h =
     subst (λ (k : ℕ). P (Some (k, args)) (Did place (Finish i answer) reply)) h.0 (finishes place i args answer reply h.1)
-by_record meanings plan P claims finishes (Some owed) (Did place (Claim i) reply) h = absurd h
-by_record meanings plan P claims finishes (Some owed) (Did place (Complete i v) reply) h = absurd h
-by_record meanings plan P claims finishes (Some owed) (Did place (Fail i code) reply) h = absurd h
-by_record meanings plan P claims finishes (Some owed) (Did place (FailAs i failure) reply) h = absurd h
-by_record meanings plan P claims finishes (Some owed) (Did place (Cancel i) reply) h = absurd h
-by_record meanings plan P claims finishes (Some owed) (Did place (Tick now) reply) h = absurd h
-by_record meanings plan P claims finishes (Some owed) (Did place (Attach form of function) reply) h = absurd h
-by_record meanings plan P claims finishes (Some owed) (Saw place ask answer) h = absurd h
+by_record answers plan P claims finishes (Some owed) (Did place (Claim i) reply) h = absurd h
+by_record answers plan P claims finishes (Some owed) (Did place (Complete i v) reply) h = absurd h
+by_record answers plan P claims finishes (Some owed) (Did place (Fail i code) reply) h = absurd h
+by_record answers plan P claims finishes (Some owed) (Did place (FailAs i failure) reply) h = absurd h
+by_record answers plan P claims finishes (Some owed) (Did place (Cancel i) reply) h = absurd h
+by_record answers plan P claims finishes (Some owed) (Did place (Tick now) reply) h = absurd h
+by_record answers plan P claims finishes (Some owed) (Did place (Attach form of function) reply) h = absurd h
+by_record answers plan P claims finishes (Some owed) (Saw place ask answer) h = absurd h
 
 -- ---- what is owed is the finish of a stage of the plan
 
@@ -122,22 +122,22 @@ granted_below : (n i : ℕ) (x : Option Args) → i < n → OwesBelow n (owed_as
 granted_below n i None l = tt
 granted_below n i (Some args) l = l
 
-owes_below : (meanings : Meanings) (plan : Planned) (o : Owed) (r : Rec) → IsNext meanings plan o r → OwesBelow (length plan.stages) (owed_by r)
-owes_below meanings plan = by_record meanings plan (λ o r. OwesBelow (length plan.stages) (owed_by r))
+owes_below : (answers : Answers) (plan : Planned) (o : Owed) (r : Rec) → IsNext answers plan o r → OwesBelow (length plan.stages) (owed_by r)
+owes_below answers plan = by_record answers plan (λ o r. OwesBelow (length plan.stages) (owed_by r))
     (λ place i reply l. subst (OwesBelow (length plan.stages)) (sym (owed_claim place i reply)) (granted_below (length plan.stages) i (granted_by reply) l))
     (λ place i args answer reply is. tt)
 
 -- ---- work over a plan is work over what it grows to
 
-next_grown : (meanings : Meanings) (s r : State) → Grows s r → (o : Owed) (x : Rec) → IsNext meanings s.plan o x → OwesBelow (length s.plan.stages) o → IsNext meanings r.plan o x
-next_grown meanings s r g = by_record meanings s.plan (λ o x. OwesBelow (length s.plan.stages) o → IsNext meanings r.plan o x)
+next_grown : (answers : Answers) (s r : State) → Grows s r → (o : Owed) (x : Rec) → IsNext answers s.plan o x → OwesBelow (length s.plan.stages) o → IsNext answers r.plan o x
+next_grown answers s r g = by_record answers s.plan (λ o x. OwesBelow (length s.plan.stages) o → IsNext answers r.plan o x)
     (λ place i reply l owed. let more = more_stages s r g in omega (arith, l, more))
-    (λ place i args answer reply is owed. (refl, is ∙ answer_stays meanings s r i args g owed))
+    (λ place i args answer reply may owed. (refl, answer_stays answers s r i args answer g owed may))
 
-work_grown_on : (meanings : Meanings) (s r : State) (o : Owed) (rs : List Rec) → Grows s r → OwesBelow (length s.plan.stages) o → AreWork meanings s.plan o rs → AreWork meanings r.plan o rs
-work_grown_on meanings s r o [] g below h = tt
-work_grown_on meanings s r o (x ∷ rs) g below h =
-    (next_grown meanings s r g o x h.0 below, work_grown_on meanings s r (owed_by x) rs g (owes_below meanings s.plan o x h.0) h.1)
+work_grown_on : (answers : Answers) (s r : State) (o : Owed) (rs : List Rec) → Grows s r → OwesBelow (length s.plan.stages) o → AreWork answers s.plan o rs → AreWork answers r.plan o rs
+work_grown_on answers s r o [] g below h = tt
+work_grown_on answers s r o (x ∷ rs) g below h =
+    (next_grown answers s r g o x h.0 below, work_grown_on answers s r (owed_by x) rs g (owes_below answers s.plan o x h.0) h.1)
 
-pub work_grown : (meanings : Meanings) (s r : State) (rs : List Rec) → Grows s r → AreWork meanings s.plan None rs → AreWork meanings r.plan None rs
-work_grown meanings s r rs g h = work_grown_on meanings s r None rs g tt h
+pub work_grown : (answers : Answers) (s r : State) (rs : List Rec) → Grows s r → AreWork answers s.plan None rs → AreWork answers r.plan None rs
+work_grown answers s r rs g h = work_grown_on answers s r None rs g tt h

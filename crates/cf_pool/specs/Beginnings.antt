@@ -10,7 +10,7 @@ use Rattle.cf_event.specs.Events.{own}
 use Rattle.cf_desk.specs.Records.{dids}
 use Rattle.cf_desk.specs.Views.{Desk, IsOf, Pass}
 use Rattle.cf_pool.specs.declared.pool.Left.{Left}
-use Rattle.cf_forms.specs.Meanings.{Meanings}
+use Rattle.cf_pool.specs.Answering.{Answers}
 use Rattle.cf_model.specs.Calling.{CallsOf}
 use Rattle.cf_pool.specs.Calling.{TellsOf}
 use Rattle.cf_pool.specs.Closings.{HadThreads, HaveCalled}
@@ -62,10 +62,10 @@ pub record HaveBegun (d : Desk) (steps : List Event) (calls : ℕ) (ps : List Pa
   pub apart : All (IsApart d calls first.known.seen) others
 
 -- the passes began so, and then each worker had a thread of its own, and has called its functions for the claims that its pass was granted
-pub record HaveCalledInRace {M : Type 0} (tells : TellsOf M) (calls : CallsOf M) (meanings : Meanings) (steps : List Event) (ms : List M) (left : Left M) : Type 0 where
+pub record HaveCalledInRace {M : Type 0} (tells : TellsOf M) (calls : CallsOf M) (answers : Answers) (steps : List Event) (ms : List M) (left : Left M) : Type 0 where
   pub desk : Desk
   pub room : ℕ
   pub passes : List Pass
   pub begun : HaveBegun desk steps room passes
   pub called : HaveCalled tells calls passes ms left
-  pub threads : HadThreads meanings desk passes left false
+  pub threads : HadThreads answers desk passes left false

@@ -5,7 +5,7 @@ use Rattle.cf_forms.specs.declared.forms.Answer.{Answer}
 use Rattle.cf_forms.specs.declared.forms.Answer.TheVariants.{Give}
 use Rattle.std.specs.List.{All}
 use Rattle.cf_forms.specs.declared.forms.Args.{Args}
-use Rattle.cf_forms.specs.Meanings.{Meanings}
+use Rattle.cf_pool.specs.Answering.{Answers}
 use Rattle.cf_forms.specs.Plans.{PlannedStage, function_at}
 use Rattle.cf_model.specs.Calling.{CallsOf}
 use Rattle.cf_model.specs.declared.calls.Call.TheVariants.{Finish}
@@ -78,11 +78,11 @@ EachCalls tells calls stages [] [] [] [] = Unit {0}
 EachCalls tells calls stages (p ∷ ps) (rs ∷ rss) (m ∷ ms) (n ∷ ns) = CallsOnce tells calls stages p.known.caller p.records rs m n × EachCalls tells calls stages ps rss ms ns
 EachCalls tells calls stages ps rss ms ns = ⊥
 
--- what the functions of the first of these workers mean; nil where there is none
-abbrev pub first_meanings : {M : Type 0} → (M → Meanings) → List M → Meanings
-first_meanings meanings [] = λ number args. Give Nil
-first_meanings meanings (m ∷ ms) = meanings m
+-- what the functions of the first of these workers answer; none is determined where there is none
+abbrev pub first_answers : {M : Type 0} → (M → Answers) → List M → Answers
+first_answers answers [] = λ number args. None
+first_answers answers (m ∷ ms) = answers m
 
--- the functions of all of them mean the same
-abbrev pub MeanAlike : {M : Type 0} → (M → Meanings) → List M → Type 0
-MeanAlike {M} meanings ms = All (λ (m : M). meanings m ≡ first_meanings meanings ms) ms
+-- the functions of all of them answer the same
+abbrev pub AnswerAlike : {M : Type 0} → (M → Answers) → List M → Type 0
+AnswerAlike {M} answers ms = All (λ (m : M). answers m ≡ first_answers answers ms) ms

@@ -3,7 +3,7 @@ use Rattle.std.specs.Prelude.{◌≡◌, ◌+◌, ◌<◌, ◌≤◌, ℕ, Bool,
 use Rattle.std.specs.List.{AllZip, Contains}
 use Rattle.cf_model.specs.declared.events.Event.{Event}
 use Rattle.cf_model.specs.States.{State, lowest_ready_of}
-use Rattle.cf_forms.specs.Meanings.{Meanings}
+use Rattle.cf_pool.specs.Answering.{Answers}
 use Rattle.cf_forms.specs.Plans.{Planned}
 use Rattle.cf_desk.specs.declared.calls.Closed.{Closed}
 use Rattle.cf_desk.specs.declared.calls.Kept.{Kept}
@@ -41,11 +41,11 @@ abbrev pub IsEachOnce : ℕ → List Kept → Type 0
 IsEachOnce callers kept = (c : ℕ) → c < callers → times_kept c (map pass_kept kept) ≡ 1
 
 -- what a run leaves: the closed desk with the passes as they are then, whose records are one history, and the graph as it leaves it
-pub record Ran (meanings : Meanings) (d : Desk) (ps : List Pass) (history : List Event) (kept : List Kept) (graph : State) : Type 0 where
+pub record Ran (answers : Answers) (d : Desk) (ps : List Pass) (history : List Event) (kept : List Kept) (graph : State) : Type 0 where
   pub qs : List Pass
   pub closes : Closes d qs history
   pub kept_are : AreKept kept qs
-  pub works : AllZip (Works meanings) ps qs
+  pub works : AllZip (Works answers) ps qs
   pub fit : AllFit d.setting.plan history (map pass_kept kept)
   pub once : AreCalledOnce kept
   pub one : IsOneHistory d.setting.plan d.setting.functions history (map caller_kept kept)
@@ -57,9 +57,9 @@ IsHistoryOf plan functions closed =
     IsOneHistory plan functions closed.history.items (map caller_kept closed.passes.items) × (closed.graph.state ≡ state_from plan closed.history.items)
 
 -- and each worker has ended, nothing is ready, and no claim is open that wasn't before
-pub record RanOut (meanings : Meanings) (d : Desk) (ps : List Pass) (history : List Event) (kept : List Kept) (graph : State) : Type 0 where
-  pub ran : Ran meanings d ps history kept graph
-  pub ended : OfEach (HasEnded meanings d) ps ran.qs
+pub record RanOut (answers : Answers) (d : Desk) (ps : List Pass) (history : List Event) (kept : List Kept) (graph : State) : Type 0 where
+  pub ran : Ran answers d ps history kept graph
+  pub ended : OfEach (HasEnded answers d) ps ran.qs
   pub none : lowest_ready_of graph ≡ None
   pub claims : WereOpen ps graph
 
@@ -71,11 +71,11 @@ IsDueToTell words qs history NoStage = ⊥
 IsDueToTell words qs history BadAttach = ⊥
 
 -- the closed desk after a fault: why it is told, and that it is the fault of the lowest caller that met one
-pub record RunTells (meanings : Meanings) (d : Desk) (ps : List Pass) (fault : DeskFault) (closed : Closed) : Type 0 where
-  pub ran : Ran meanings d ps closed.history.items closed.passes.items closed.graph.state
+pub record RunTells (answers : Answers) (d : Desk) (ps : List Pass) (fault : DeskFault) (closed : Closed) : Type 0 where
+  pub ran : Ran answers d ps closed.history.items closed.passes.items closed.graph.state
   pub due : IsDueToTell d.words ran.qs closed.history.items fault
   pub caller : ℕ
-  pub lowest : IsLowest meanings d ps ran.qs caller fault
+  pub lowest : IsLowest answers d ps ran.qs caller fault
 
 -- each worker has called its functions for the claims that its pass was granted
 abbrev pub HaveCalled : {M : Type 0} → TellsOf M → CallsOf M → List Pass → List M → Left M → Type 0
@@ -83,9 +83,9 @@ HaveCalled tells calls ps ms left =
     EachCalls tells calls left.closed.graph.state.plan.stages ps (map (λ (k : Kept). k.records.items) left.closed.passes.items) ms left.workers.items
 
 -- what each worker but the caller's own came to, and whether the thread of one of them was refused
-pub record HadThreads {M : Type 0} (meanings : Meanings) (d : Desk) (ps : List Pass) (left : Left M) (refused : Bool) : Type 0 where
+pub record HadThreads {M : Type 0} (answers : Answers) (d : Desk) (ps : List Pass) (left : Left M) (refused : Bool) : Type 0 where
   pub worked : List (Worked M)
-  pub from : AllZip (IsWorkedFrom meanings d 1000) (drop 1 ps) worked
+  pub from : AllZip (IsWorkedFrom answers d 1000) (drop 1 ps) worked
   pub workers : drop 1 left.workers.items ≡ map (λ (w : Worked M). w.worker) worked
   pub alone : is_any_alone worked ≡ refused
 
@@ -107,9 +107,9 @@ IsForRoom (ToldDesk fault left) = ⊥
 
 -- Why a run tells a fault, and what it leaves then: memory was refused, and nothing has begun; a thread was refused, and all have worked; or none was, and it is
 -- the desk's.
-abbrev pub RunRefuses : {M : Type 0} → TellsOf M → CallsOf M → Meanings → Desk → List Pass → List M → PoolFault M → Type 0
-RunRefuses tells calls meanings d ps ms (NoMemory unbegun) = IsAsBefore d ps ms unbegun
-RunRefuses tells calls meanings d ps ms (NoThread left) =
-    Ran meanings d ps left.closed.history.items left.closed.passes.items left.closed.graph.state × HaveCalled tells calls ps ms left × HadThreads meanings d ps left true
-RunRefuses tells calls meanings d ps ms (ToldDesk fault left) =
-    RunTells meanings d ps fault left.closed × HaveCalled tells calls ps ms left × HadThreads meanings d ps left false
+abbrev pub RunRefuses : {M : Type 0} → TellsOf M → CallsOf M → Answers → Desk → List Pass → List M → PoolFault M → Type 0
+RunRefuses tells calls answers d ps ms (NoMemory unbegun) = IsAsBefore d ps ms unbegun
+RunRefuses tells calls answers d ps ms (NoThread left) =
+    Ran answers d ps left.closed.history.items left.closed.passes.items left.closed.graph.state × HaveCalled tells calls ps ms left × HadThreads answers d ps left true
+RunRefuses tells calls answers d ps ms (ToldDesk fault left) =
+    RunTells answers d ps fault left.closed × HaveCalled tells calls ps ms left × HadThreads answers d ps left false

@@ -8,7 +8,7 @@ use Rattle.cf_model.specs.declared.calls.Call.TheVariants.{Claim, Finish}
 use Rattle.cf_desk.specs.declared.calls.Rec.{Rec}
 use Rattle.cf_desk.specs.declared.calls.Rec.TheVariants.{Did}
 use Rattle.cf_desk.specs.Views.{Pass}
-use Rattle.cf_forms.specs.Meanings.{Meanings}
+use Rattle.cf_pool.specs.Answering.{Answers}
 use Rattle.cf_pool.specs.declared.worker.Done.{Done}
 use Rattle.cf_pool.specs.Works.{WorksOut}
 
@@ -46,6 +46,6 @@ pub record Counts (done : Done) (records : List Rec) : Type 0 where
   pub late : done.late ≡ total_by late_at records
 
 -- a worker that ended: it owes nothing, and has counted what it added
-pub record EndedWith (meanings : Meanings) (p q : Pass) (done : Done) : Type 0 where
-  pub out : WorksOut meanings p q
+pub record EndedWith (answers : Answers) (p q : Pass) (done : Done) : Type 0 where
+  pub out : WorksOut answers p q
   pub counts : Counts done out.works.more

@@ -1,3 +1,4 @@
+pub mod Answering
 pub mod Works
 pub mod Stops
 pub mod Waits

@@ -11,6 +11,7 @@ use Rattle.cf_desk.specs.declared.calls.Kept.{Kept}
 use Rattle.cf_desk.specs.Laws.{call_of}
 use Rattle.cf_desk.specs.Records.{dids}
 use Rattle.cf_desk.specs.Views.{Desk, IsOf, Pass}
+use Rattle.cf_pool.specs.Answering.{as_meant}
 use Rattle.cf_pool.specs.Closings.{RanOut}
 
 -- the changing calls that a pass has made, in order
@@ -42,5 +43,5 @@ pub record EndsPlainly (meanings : Meanings) (plan : Planned) (ps : List Pass) (
 abbrev pub RunsEndPlainly : Type 0
 RunsEndPlainly =
     (meanings : Meanings) (d : Desk) (ps : List Pass) (history : List Event) (kept : List Kept) (graph : State) →
-    All (IsOf d) ps → All (MadePlainSteps meanings d.setting.plan) ps → RanOut meanings d ps history kept graph →
+    All (IsOf d) ps → All (MadePlainSteps meanings d.setting.plan) ps → RanOut (as_meant meanings) d ps history kept graph →
     EndsPlainly meanings d.setting.plan ps history graph

@@ -12,7 +12,8 @@ use Rattle.cf_desk.specs.Faults.{AttachFits}
 use Rattle.cf_forms.specs.declared.forms.Args.{Args}
 use Rattle.cf_pool.specs.declared.races.RaceFault.{RaceFault}
 use Rattle.cf_pool.specs.declared.races.RaceFault.TheVariants.{Size, NoMemory}
-use Rattle.cf_forms.specs.Meanings.{Meanings, stage_answer}
+use Rattle.cf_forms.specs.Meanings.{Meanings}
+use Rattle.cf_pool.specs.Answering.{Answers, MayAnswer, as_meant}
 use Rattle.cf_expr.specs.Expressions.{expr}
 use Rattle.cf_expr.specs.Histories.{Grants, IsPlain, IsPlainPlan, IsQuiet, grants_after, granted_with, nothing_granted}
 
@@ -36,18 +37,18 @@ AreSteps plan steps = All IsStep steps × EventsFit (start plan) steps
 abbrev pub plan_after : Planned → List Event → Planned
 plan_after plan steps = (state_after (start plan) steps).plan
 
--- a claim, or a finish with what the stage's function answers to the arguments that its caller was granted last
-abbrev pub IsWorkEvent : Meanings → Grants → State → Event → Type 0
-IsWorkEvent meanings granted s (Claims who i) = Unit {0}
-IsWorkEvent meanings granted s (Finishes who i answer) =
-    (args : Args) × (granted who i ≡ Some args) × (answer ≡ stage_answer meanings s.plan.stages i args)
-IsWorkEvent meanings granted s event = ⊥
+-- a claim, or a finish with what the stage's function may answer to the arguments that its caller was granted last
+abbrev pub IsWorkEvent : Answers → Grants → State → Event → Type 0
+IsWorkEvent answers granted s (Claims who i) = Unit {0}
+IsWorkEvent answers granted s (Finishes who i answer) =
+    (args : Args) × (granted who i ≡ Some args) × MayAnswer answers s.plan.stages i args answer
+IsWorkEvent answers granted s event = ⊥
 
 -- each of these events is work where it stands
-abbrev pub IsWorkHistory : Meanings → Grants → State → List Event → Type 0
-IsWorkHistory meanings granted s [] = Unit {0}
-IsWorkHistory meanings granted s (e ∷ events) =
-    IsWorkEvent meanings granted s e × IsWorkHistory meanings (granted_with granted e ((answered s e).0)) ((answered s e).1) events
+abbrev pub IsWorkHistory : Answers → Grants → State → List Event → Type 0
+IsWorkHistory answers granted s [] = Unit {0}
+IsWorkHistory answers granted s (e ∷ events) =
+    IsWorkEvent answers granted s e × IsWorkHistory answers (granted_with granted e ((answered s e).0)) ((answered s e).1) events
 
 -- an event of caller 0 or of one of so many workers, whose numbers begin with 1
 abbrev pub IsByWorker : ℕ → Event → Type 0
@@ -55,11 +56,11 @@ IsByWorker workers e = who_of e ≤ workers
 
 -- The state's plan is what the steps leave, which was built, and the state comes after a history that begins with the steps, goes on
 -- with work alone, by no more callers than so many workers, and leaves nothing ready or claimed.
-pub record IsRaced (meanings : Meanings) (plan : Planned) (steps : List Event) (workers : ℕ) (s : State) : Type 0 where
+pub record IsRaced (answers : Answers) (plan : Planned) (steps : List Event) (workers : ℕ) (s : State) : Type 0 where
   pub of_plan : s.plan ≡ plan_after plan steps
   pub built : IsBuilt s.plan
   pub work : List Event
-  pub done : IsWorkHistory meanings (grants_after nothing_granted (start plan) steps) (state_after (start plan) steps) work
+  pub done : IsWorkHistory answers (grants_after nothing_granted (start plan) steps) (state_after (start plan) steps) work
   pub by : All (IsByWorker workers) work
   pub state : s ≡ state_after (start plan) (steps ++ work)
   pub quiet : IsQuiet s
@@ -69,7 +70,7 @@ abbrev pub RacedIsExpression : Type 0
 RacedIsExpression =
     (plan : Planned) (steps : List Event) (meanings : Meanings) (workers : ℕ) (s : State) (i : ℕ) →
     let grown = plan_after plan steps in
-    IsPlainPlan grown → IsPlain meanings nothing_granted (start plan) steps → IsRaced meanings plan steps workers s →
+    IsPlainPlan grown → IsPlain meanings nothing_granted (start plan) steps → IsRaced (as_meant meanings) plan steps workers s →
     i < length grown.stages → outcome_at s i ≡ expr grown steps meanings i
 
 -- So two races that begin with the same plain steps end alike.
@@ -77,7 +78,7 @@ abbrev pub RacesEndAlike : Type 0
 RacesEndAlike =
     (plan : Planned) (steps : List Event) (meanings : Meanings) (few many : ℕ) (s r : State) (i : ℕ) →
     let grown = plan_after plan steps in
-    IsPlainPlan grown → IsPlain meanings nothing_granted (start plan) steps → IsRaced meanings plan steps few s → IsRaced meanings plan steps many r →
+    IsPlainPlan grown → IsPlain meanings nothing_granted (start plan) steps → IsRaced (as_meant meanings) plan steps few s → IsRaced (as_meant meanings) plan steps many r →
     i < length grown.stages → outcome_at s i ≡ outcome_at r i
 
 -- why there is no race

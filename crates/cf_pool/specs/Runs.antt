@@ -1,7 +1,7 @@
 -- What a run of workers is told by each of them.
 use Rattle.std.specs.Prelude.{◌≡◌, ℕ, ◌<◌, nat_lt, Bool, true, false, Option, Some, None, MatchOption, List, ◌∷◌}
 use Rattle.std.specs.List.{All, AllZip, Contains, list_any}
-use Rattle.cf_forms.specs.Meanings.{Meanings}
+use Rattle.cf_pool.specs.Answering.{Answers}
 use Rattle.cf_desk.specs.declared.faults.DeskFault.{DeskFault}
 use Rattle.cf_desk.specs.Log.{Catches}
 use Rattle.cf_desk.specs.Views.{Pass, IsSamePass, Desk, state_of}
@@ -14,16 +14,16 @@ use Rattle.cf_pool.specs.Waits.{Ends}
 use Rattle.cf_pool.specs.Works.{Works}
 
 -- a worker has worked, and has ended with this patience or stopped with this fault
-pub record HasWorked (meanings : Meanings) (d : Desk) (patience : ℕ) (p q : Pass) (fault : Option DeskFault) : Type 0 where
-  pub works : Works meanings p q
-  pub met : MatchOption fault (Ends meanings d patience p q) (Stops meanings d p q)
+pub record HasWorked (answers : Answers) (d : Desk) (patience : ℕ) (p q : Pass) (fault : Option DeskFault) : Type 0 where
+  pub works : Works answers p q
+  pub met : MatchOption fault (Ends answers d patience p q) (Stops answers d p q)
 
-abbrev pub IsWorkedFrom : {M : Type 0} → Meanings → Desk → ℕ → Pass → Worked M → Type 0
-IsWorkedFrom meanings d patience p w = HasWorked meanings d patience p w.pass w.fault
+abbrev pub IsWorkedFrom : {M : Type 0} → Answers → Desk → ℕ → Pass → Worked M → Type 0
+IsWorkedFrom answers d patience p w = HasWorked answers d patience p w.pass w.fault
 
 -- and it has called its functions for what its pass has more
-pub record IsWorkedBy {M : Type 0} (tells : TellsOf M) (calls : CallsOf M) (meanings : M → Meanings) (d : Desk) (patience : ℕ) (h : Pass × M) (w : Worked M) : Type 0 where
-  pub from : IsWorkedFrom (meanings h.1) d patience h.0 w
+pub record IsWorkedBy {M : Type 0} (tells : TellsOf M) (calls : CallsOf M) (answers : M → Answers) (d : Desk) (patience : ℕ) (h : Pass × M) (w : Worked M) : Type 0 where
+  pub from : IsWorkedFrom (answers h.1) d patience h.0 w
   pub called : CallsOnce tells calls (state_of w.pass.known).plan.stages h.0.known.caller h.0.records w.pass.records h.1 w.worker
 
 -- whether the thread of one of them was refused, so that it worked alone on the caller's
@@ -42,15 +42,15 @@ abbrev pub SeesOn : {M : Type 0} → Worked M → Pass → Type 0
 SeesOn w q = SeesMore w.pass q
 
 -- a worker ended, and its pass has seen more since
-pub record HasEnded (meanings : Meanings) (d : Desk) (patience : ℕ) (p q : Pass) : Type 0 where
+pub record HasEnded (answers : Answers) (d : Desk) (patience : ℕ) (p q : Pass) : Type 0 where
   pub ended : Pass
-  pub ends : Ends meanings d patience p ended
+  pub ends : Ends answers d patience p ended
   pub since : SeesMore ended q
 
 -- a worker was stopped by this fault, and its pass has seen more since
-pub record WasStopped (meanings : Meanings) (d : Desk) (fault : DeskFault) (p q : Pass) : Type 0 where
+pub record WasStopped (answers : Answers) (d : Desk) (fault : DeskFault) (p q : Pass) : Type 0 where
   pub stopped : Pass
-  pub stops : Stops meanings d p stopped fault
+  pub stops : Stops answers d p stopped fault
   pub since : SeesMore stopped q
 
 -- The same of each pass, by how often it looks before it ends: the caller's own, which comes first, once, and each worker's 1,000
@@ -85,19 +85,19 @@ first_with None caller (Some fault) = Some (record { caller = caller; fault = fa
 first_with (Some met) caller (Some fault) = Some (lower_of (nat_lt caller met.caller) met (record { caller = caller; fault = fault }))
 
 -- the worker ended, if its caller's number is below this one
-abbrev pub EndsBelow : Meanings → Desk → ℕ → ℕ → Pass → Pass → Type 0
-EndsBelow meanings d caller patience p q = q.known.caller < caller → HasEnded meanings d patience p q
+abbrev pub EndsBelow : Answers → Desk → ℕ → ℕ → Pass → Pass → Type 0
+EndsBelow answers d caller patience p q = q.known.caller < caller → HasEnded answers d patience p q
 
 -- this caller's worker was stopped by this fault, and that of each lower one ended
-pub record IsLowest (meanings : Meanings) (d : Desk) (ps qs : List Pass) (caller : ℕ) (fault : DeskFault) : Type 0 where
+pub record IsLowest (answers : Answers) (d : Desk) (ps qs : List Pass) (caller : ℕ) (fault : DeskFault) : Type 0 where
   pub before : Pass
   pub was_there : Contains ps before
   pub after : Pass
   pub there : Contains qs after
   pub is : before.known.caller ≡ caller
-  pub stopped : WasStopped meanings d fault before after
-  pub below : OfEach (EndsBelow meanings d caller) ps qs
+  pub stopped : WasStopped answers d fault before after
+  pub below : OfEach (EndsBelow answers d caller) ps qs
 
 -- all workers ended, or this is the fault of the lowest that stopped
-abbrev pub IsMet : Meanings → Desk → List Pass → List Pass → Option Met → Type 0
-IsMet meanings d ps qs met = MatchOption met (OfEach (HasEnded meanings d) ps qs) (λ x. IsLowest meanings d ps qs x.caller x.fault)
+abbrev pub IsMet : Answers → Desk → List Pass → List Pass → Option Met → Type 0
+IsMet answers d ps qs met = MatchOption met (OfEach (HasEnded answers d) ps qs) (λ x. IsLowest answers d ps qs x.caller x.fault)

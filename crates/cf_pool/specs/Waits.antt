@@ -3,7 +3,7 @@ use Rattle.std.specs.Prelude.{◌≡◌, ℕ, ◌<◌, ◌≤◌, ◌⊎◌, Non
 use Rattle.std.specs.List.{All}
 use Rattle.cf_model.specs.States.{lowest_ready_of}
 use Rattle.cf_model.specs.Events.{state_at}
-use Rattle.cf_forms.specs.Meanings.{Meanings}
+use Rattle.cf_pool.specs.Answering.{Answers}
 use Rattle.cf_desk.specs.declared.calls.Rec.{Rec}
 use Rattle.cf_desk.specs.declared.calls.Rec.TheVariants.{Did, Saw}
 use Rattle.cf_desk.specs.Views.{Desk, Pass, state_of}
@@ -47,7 +47,7 @@ pub record Waits (d : Desk) (patience : ℕ) (p q : Pass) : Type 0 where
   pub idles : Idles d patience (last_place (length p.known.seen) more) looks q
 
 -- a worker that ended: it owes nothing, found nothing ready at last, and had waited for its patience
-pub record Ends (meanings : Meanings) (d : Desk) (patience : ℕ) (p q : Pass) : Type 0 where
-  pub out : WorksOut meanings p q
+pub record Ends (answers : Answers) (d : Desk) (patience : ℕ) (p q : Pass) : Type 0 where
+  pub out : WorksOut answers p q
   pub none : lowest_ready_of (state_of q.known) ≡ None
   pub waits : Waits d patience p q

@@ -4,7 +4,7 @@ ghost use Rattle.std.specs.Prelude.{◌≡◌, ◌+◌, ◌<◌, ◌≤◌, ◌�
 ghost use Rattle.std.specs.List.{AllZip};
 ghost use Rattle.cf_desk.specs.Rule.{AllShort};
 ghost use Rattle.cf_desk.specs.Views.{IsOf, knowns};
-ghost use Rattle.cf_pool.specs.Calling.{MeanAlike, first_meanings};
+ghost use Rattle.cf_pool.specs.Calling.{AnswerAlike, first_answers};
 ghost use Rattle.cf_pool.specs.Closings.{HadThreads, HaveCalled, RunRefuses, RanOut, told};
 ghost use Rattle.cf_pool.specs.PlainRuns.{RunsEndPlainly};
 ghost use Rattle.cf_pool.specs.Runs.{IsFirst, IsWorkedBy, SeesMore, SeesOn, first_with, is_any_alone, lower_of, stop_of};
@@ -81,7 +81,7 @@ impl<W: Worker> Promise<Worked<W>> for WorkOf<W> {
     ghost use Rattle.std.specs.Prelude.{◌≡◌, false};
     ghost use Rattle.cf_pool.specs.Runs.{IsWorkedBy};
 
-    ghost kept_by = { λ p r. IsWorkedBy W.tells W.calls W.meanings p.desk.value 1000 p.was.value r × (r.alone ≡ false) };
+    ghost kept_by = { λ p r. IsWorkedBy W.tells W.calls W.answers p.desk.value 1000 p.was.value r × (r.alone ≡ false) };
 }
 
 /// A worker's thread, or what it came to on the caller's.
@@ -91,7 +91,7 @@ type Started<W> = Result<PromisedHandle<Worked<W>, WorkOf<W>>, Worked<W>>;
 fn work_on<W: Worker>(desk: &Desk, one: (Pass, W), patience: u32) -> Worked<W>
     requires pass { IsOf desk.now one.0 }
     requires patience { 0 < patience }
-    ensures worked { IsWorkedBy W.tells W.calls W.meanings desk.now patience one result }
+    ensures worked { IsWorkedBy W.tells W.calls W.answers desk.now patience one result }
     ensures alone { result.alone ≡ false }
 {
     let (mut pass, mut worker) = one;
@@ -111,7 +111,7 @@ fn start<'s, E, W: Worker + Send + Drop + 's>(
     one: (Pass, W),
 ) -> Started<W>
     requires { IsOf desk.now one.0 }
-    ensures { MatchResult result (λ h. (h.promise.was.value ≡ one) × (h.promise.desk.value ≡ desk.now)) (λ w. IsWorkedBy W.tells W.calls W.meanings desk.now 1000 one w × (w.alone ≡ true)) }
+    ensures { MatchResult result (λ h. (h.promise.was.value ≡ one) × (h.promise.desk.value ≡ desk.now)) (λ w. IsWorkedBy W.tells W.calls W.answers desk.now 1000 one w × (w.alone ≡ true)) }
 {
     let promise = WorkOf {
         was: Snapshot::of(&one),
@@ -121,7 +121,7 @@ fn start<'s, E, W: Worker + Send + Drop + 's>(
         promise,
         move || -> Worked<W>
             requires { IsOf desk.now one.0 }
-            ensures { IsWorkedBy W.tells W.calls W.meanings desk.entry.now 1000 one result × (result.alone ≡ false) }
+            ensures { IsWorkedBy W.tells W.calls W.answers desk.entry.now 1000 one result × (result.alone ≡ false) }
         { work_on(desk, one, PATIENCE) },
     );
     match started {
@@ -161,7 +161,7 @@ fn start_all<'s, E, W: Worker + Send + Drop + 's>(
     requires all { All (λ w. IsOf desk.now w.0) workers.items }
     requires none { started.items ≡ [] }
     requires room { vec_len workers ≤ vec_capacity started }
-    ensures { AllZip (λ one s. MatchResult s (λ h. (h.promise.was.value ≡ one) × (h.promise.desk.value ≡ desk.now)) (λ w. IsWorkedBy W.tells W.calls W.meanings desk.now 1000 one w × (w.alone ≡ true))) workers.items result.items }
+    ensures { AllZip (λ one s. MatchResult s (λ h. (h.promise.was.value ≡ one) × (h.promise.desk.value ≡ desk.now)) (λ w. IsWorkedBy W.tells W.calls W.answers desk.now 1000 one w × (w.alone ≡ true))) workers.items result.items }
 {
     let mut rest = workers.into_iter();
     'next: while let Some(one) = rest.next() {
@@ -173,7 +173,7 @@ fn start_all<'s, E, W: Worker + Send + Drop + 's>(
 
 /// What a worker has come to.
 fn ended<R: Threads, W: Worker + Drop>(rt: &R, started: Started<W>) -> Worked<W>
-    ensures { MatchResult started (λ h. IsWorkedBy W.tells W.calls W.meanings h.promise.desk.value 1000 h.promise.was.value result × (result.alone ≡ false)) (λ w. result ≡ w) }
+    ensures { MatchResult started (λ h. IsWorkedBy W.tells W.calls W.answers h.promise.desk.value 1000 h.promise.was.value result × (result.alone ≡ false)) (λ w. result ≡ w) }
 {
     match started {
         Ok(handle) => handle.join(rt),
@@ -189,7 +189,7 @@ fn join_all<R: Threads, W: Worker + Drop>(
 ) -> Vec<Worked<W>>
     requires none { worked.items ≡ [] }
     requires room { vec_len started ≤ vec_capacity worked }
-    ensures { AllZip (λ s x. MatchResult s (λ h. IsWorkedBy W.tells W.calls W.meanings h.promise.desk.value 1000 h.promise.was.value x × (x.alone ≡ false)) (λ w. x ≡ w)) started.items result.items }
+    ensures { AllZip (λ s x. MatchResult s (λ h. IsWorkedBy W.tells W.calls W.answers h.promise.desk.value 1000 h.promise.was.value x × (x.alone ≡ false)) (λ w. x ≡ w)) started.items result.items }
 {
     let mut rest = started.into_iter();
     'next: while let Some(one) = rest.next() {
@@ -210,7 +210,7 @@ fn spread<R: Threads + Wait + Sync, W: Worker + Send + Drop>(
     requires all { All (λ w. IsOf desk.now w.0) workers.items }
     requires none { (started.items ≡ []) × (worked.items ≡ []) }
     requires room { (vec_len workers ≤ vec_capacity started) × (vec_len workers ≤ vec_capacity worked) }
-    ensures { AllZip (IsWorkedBy W.tells W.calls W.meanings desk.now 1000) workers.items result.items }
+    ensures { AllZip (IsWorkedBy W.tells W.calls W.answers desk.now 1000) workers.items result.items }
 {
     thread::scope(
         thread::scope_env(),
@@ -219,7 +219,7 @@ fn spread<R: Threads + Wait + Sync, W: Worker + Send + Drop>(
             requires all { All (λ w. IsOf desk.now w.0) workers.items }
             requires none { (started.items ≡ []) × (worked.items ≡ []) }
             requires room { (vec_len workers ≤ vec_capacity started) × (vec_len workers ≤ vec_capacity worked) }
-            ensures { AllZip (IsWorkedBy W.tells W.calls W.meanings desk.entry.now 1000) workers.items result.items }
+            ensures { AllZip (IsWorkedBy W.tells W.calls W.answers desk.entry.now 1000) workers.items result.items }
         {
             let started = start_all(scope, desk, workers, started);
             join_all(rt, started, worked)
@@ -386,13 +386,13 @@ fn run_each<R: Threads + Wait + Sync, W: Worker + Send + Drop>(
 ) -> Result<Left<W>, PoolFault<W>>
     requires workers { (0 < vec_len workers) × (desk.setting.callers ≡ vec_len workers) }
     requires passes { All (IsOf desk) (map (λ w. w.0) workers.items) }
-    requires alike { MeanAlike W.meanings (map (λ w. w.1) workers.items) }
+    requires alike { AnswerAlike W.answers (map (λ w. w.1) workers.items) }
     requires none { (started.items ≡ []) × (worked.items ≡ []) × (back.passes.items ≡ []) × (back.workers.items ≡ []) }
     requires room { (vec_len workers ≤ vec_capacity started) × (vec_len workers ≤ vec_capacity worked) × (vec_len workers ≤ vec_capacity back.passes) × (vec_len workers ≤ vec_capacity back.workers) }
-    ensures ran { IfOk result (λ left. RanOut (first_meanings W.meanings (map (λ w. w.1) workers.items)) desk (map (λ w. w.0) workers.items) left.closed.history.items left.closed.passes.items left.closed.graph.state) }
+    ensures ran { IfOk result (λ left. RanOut (first_answers W.answers (map (λ w. w.1) workers.items)) desk (map (λ w. w.0) workers.items) left.closed.history.items left.closed.passes.items left.closed.graph.state) }
     ensures called { IfOk result (HaveCalled W.tells W.calls (map (λ w. w.0) workers.items) (map (λ w. w.1) workers.items)) }
-    ensures threads { IfOk result (λ left. HadThreads (first_meanings W.meanings (map (λ w. w.1) workers.items)) desk (map (λ w. w.0) workers.items) left false) }
-    ensures refused { IfErr result (RunRefuses W.tells W.calls (first_meanings W.meanings (map (λ w. w.1) workers.items)) desk (map (λ w. w.0) workers.items) (map (λ w. w.1) workers.items)) }
+    ensures threads { IfOk result (λ left. HadThreads (first_answers W.answers (map (λ w. w.1) workers.items)) desk (map (λ w. w.0) workers.items) left false) }
+    ensures refused { IfErr result (RunRefuses W.tells W.calls (first_answers W.answers (map (λ w. w.1) workers.items)) desk (map (λ w. w.0) workers.items) (map (λ w. w.1) workers.items)) }
 {
     let one = workers.remove(0);
     let (mut mine, own) = one;
@@ -425,7 +425,8 @@ fn told<W>(refused: bool, first: Option<Met>, left: Left<W>) -> Result<Left<W>, 
 
 /// Starts a thread for each of 1 to 32 workers, which works with its pass, and joins them all. Then the caller's pass meets
 /// each other one and its worker works until nothing is ready, and the desk is closed. `passes` holds all passes of the
-/// desk, the caller's own first, and `workers` the worker of each. Their functions mean the same.
+/// desk, the caller's own first, and `workers` the worker of each. Where their arguments determine what the functions
+/// answer, all workers' answer the same.
 ///
 /// After it nothing is ready, each worker has waited for its patience, and no claim is open but those that were granted
 /// and not finished before. After a fault of the desk, which is that of the lowest caller of whom a call was refused, the
@@ -443,12 +444,12 @@ pub fn run<R: Threads + Wait + Sync, W: Worker + Send + Drop>(
     workers: Vec<W>,
 ) -> Result<Left<W>, PoolFault<W>>
     requires workers { (1 < vec_len workers) × (vec_len workers ≤ 33) × (desk.setting.callers ≡ vec_len workers) }
-    requires alike { MeanAlike W.meanings workers.items }
+    requires alike { AnswerAlike W.answers workers.items }
     requires passes { All (IsOf desk) passes.items × (vec_len passes ≡ vec_len workers) }
-    ensures ran { IfOk result (λ left. RanOut (first_meanings W.meanings workers.items) desk passes.items left.closed.history.items left.closed.passes.items left.closed.graph.state) }
+    ensures ran { IfOk result (λ left. RanOut (first_answers W.answers workers.items) desk passes.items left.closed.history.items left.closed.passes.items left.closed.graph.state) }
     ensures called { IfOk result (HaveCalled W.tells W.calls passes.items workers.items) }
-    ensures threads { IfOk result (λ left. HadThreads (first_meanings W.meanings workers.items) desk passes.items left false) }
-    ensures refused { IfErr result (RunRefuses W.tells W.calls (first_meanings W.meanings workers.items) desk passes.items workers.items) }
+    ensures threads { IfOk result (λ left. HadThreads (first_answers W.answers workers.items) desk passes.items left false) }
+    ensures refused { IfErr result (RunRefuses W.tells W.calls (first_answers W.answers workers.items) desk passes.items workers.items) }
 {
     let alloc = *passes.allocator();
     match room_for(alloc, workers.len()) {

@@ -5,7 +5,7 @@ mod sizes;
 
 ghost use Rattle.std.specs.Prelude.{◌≡◌, ◌+◌, ◌<◌, ◌≤◌, IfErr, IfOk, length, true, vec_len};
 ghost use Rattle.cf_forms.specs.Plans.{has_place, with_room};
-ghost use Rattle.cf_pool.specs.Calling.{MeanAlike, first_meanings};
+ghost use Rattle.cf_pool.specs.Calling.{AnswerAlike, first_answers};
 ghost use Rattle.cf_pool.specs.Beginnings.{HaveCalledInRace};
 ghost use Rattle.cf_pool.specs.Closings.{AreCalledOnce, IsEachOnce, IsForRoom, IsHistoryOf};
 ghost use Rattle.cf_pool.specs.Races.{AreSteps, IsDueToRefuse, IsRaced, RacedIsExpression, RacesEndAlike, log_words, race_functions};
@@ -42,10 +42,10 @@ impl From<AllocError> for RaceFault {
 
 /// Does these steps as caller 0's, in order, and then lets so many workers, 1 to 32, work on threads of their own until
 /// nothing is ready. There is room for so many stages that steps attach. No caller has a number above the workers'.
-/// `hands` has the worker of caller 0 and then those of the others, whose functions mean the same. It leaves the desk,
-/// closed, and the workers, each of which has called its functions for the claims that its pass was granted, once each,
-/// and never else; over all workers together, a stage's function is called at most once. What the desk tells is one
-/// history, and its graph is as that leaves it.
+/// `hands` has the worker of caller 0 and then those of the others. Where their arguments determine what their functions
+/// answer, all answer the same. The race leaves the desk, closed, and the workers, each of which has called its functions
+/// for the claims that its pass was granted, once each, and never else; over all workers together, a stage's function is
+/// called at most once. What the desk tells is one history, and its graph is as that leaves it.
 #[tactic(auto, using(cf_forms::proofs::PlanLemmas::place_is))]
 pub fn race<R: Threads + Wait + Sync, W: Worker + Send + Drop>(
     rt: &R,
@@ -57,14 +57,14 @@ pub fn race<R: Threads + Wait + Sync, W: Worker + Send + Drop>(
     workers: u8,
 ) -> Result<Left<W>, RaceFault>
     requires workers { (0 < workers) × (workers ≤ 32) × (vec_len hands ≡ workers + 1) }
-    requires alike { MeanAlike W.meanings hands.items }
+    requires alike { AnswerAlike W.answers hands.items }
     requires room { has_place plan.stages room ≡ true }
     requires steps { AreSteps (with_room plan room) steps.now }
-    ensures raced { IfOk result (λ left. IsRaced (first_meanings W.meanings hands.items) (with_room plan room) steps.now workers left.closed.graph.state) }
+    ensures raced { IfOk result (λ left. IsRaced (first_answers W.answers hands.items) (with_room plan room) steps.now workers left.closed.graph.state) }
     ensures history { IfOk result (λ left. IsHistoryOf (with_room plan room) race_functions left.closed) }
     ensures each { IfOk result (λ left. IsEachOnce (workers + 1) left.closed.passes.items) }
     ensures once { IfOk result (λ left. AreCalledOnce left.closed.passes.items) }
-    ensures called { IfOk result (HaveCalledInRace W.tells W.calls (first_meanings W.meanings hands.items) steps.now hands.items) }
+    ensures called { IfOk result (HaveCalledInRace W.tells W.calls (first_answers W.answers hands.items) steps.now hands.items) }
     ensures size { IfOk result (λ left. log_words (length steps.now) (length plan.stages + room) workers ≤ 65535) }
     ensures fault { IfErr result (IsDueToRefuse (log_words (length steps.now) (length plan.stages + room) workers)) }
 {

@@ -4,11 +4,12 @@ ghost use Rattle.cf_model.specs.States.{lowest_ready_of};
 ghost use Rattle.cf_model.specs.declared.calls.Call.TheVariants.{Claim, Finish};
 ghost use Rattle.cf_model.specs.Calls.{event_by};
 ghost use Rattle.cf_desk.specs.Faults.{HasRoom, IsOnStage};
+ghost use Rattle.cf_desk.specs.Results.{Refuses};
 ghost use Rattle.cf_desk.specs.Views.{Acts, Follows, IsOf, IsSamePass, state_of};
 ghost use Rattle.cf_pool.specs.Calling.{Calls, CallsOnce, RunsStage};
 ghost use Rattle.cf_pool.specs.Counting.{EndedWith, late_by, won_by};
 ghost use Rattle.cf_pool.specs.Jobs.{AddsWork, DoesJob, StopsJob, granted_by};
-ghost use Rattle.cf_forms.specs.Meanings.{stage_answer};
+ghost use Rattle.cf_pool.specs.Answering.{MayAnswer};
 ghost use Rattle.cf_forms.specs.Plans.{function_at};
 ghost use Rattle.cf_pool.specs.Stops.{MeetsFault, Stops};
 ghost use Rattle.cf_pool.specs.Waits.{Idles, Waits};
@@ -48,13 +49,13 @@ pub fn work<W: Worker>(
     requires pass { IsOf desk.now pass.old }
     requires patience { 0 < patience }
     ensures same { IsSamePass pass.old pass.new }
-    ensures works { Works (W.meanings worker.old) pass.old pass.new }
-    ensures done { IfOk result (λ done. EndedWith (W.meanings worker.old) pass.old pass.new done) }
+    ensures works { Works (W.answers worker.old) pass.old pass.new }
+    ensures done { IfOk result (λ done. EndedWith (W.answers worker.old) pass.old pass.new done) }
     ensures nothing_ready { OnOk result (lowest_ready_of (state_of pass.new.known) ≡ None) }
     ensures waits { OnOk result (Waits desk.now patience pass.old pass.new) }
-    ensures stops { IfErr result (Stops (W.meanings worker.old) desk.now pass.old pass.new) }
+    ensures stops { IfErr result (Stops (W.answers worker.old) desk.now pass.old pass.new) }
     ensures called { CallsOnce W.tells W.calls (state_of pass.new.known).plan.stages pass.old.known.caller pass.old.records pass.new.records worker.old worker.new }
-    ensures keeps { W.meanings worker.new ≡ W.meanings worker.old }
+    ensures keeps { W.answers worker.new ≡ W.answers worker.old }
 {
     let room = pass.left();
     let mut done = Done {
@@ -99,13 +100,13 @@ fn take_job<W: Worker>(
     requires pass { IsOf desk.now pass.old }
     requires ready { lowest_ready_of (state_of pass.old.known) ≡ Some stage }
     requires there { IsOnStage pass.old (event_by pass.old.known.caller (Claim stage)) }
-    ensures adds { (owes : Owed) × AddsWork (W.meanings worker.old) None pass.old pass.new owes }
-    ensures done { IfOk result (λ done. DoesJob (W.meanings worker.old) pass.old pass.new done) }
+    ensures adds { (owes : Owed) × AddsWork (W.answers worker.old) None pass.old pass.new owes }
+    ensures done { IfOk result (λ done. DoesJob (W.answers worker.old) pass.old pass.new done) }
     ensures more { OnOk result (length pass.old.records < length pass.new.records) }
     ensures looks { OnOk result (pass.new.known.looks ≡ pass.old.known.looks) }
-    ensures stops { IfErr result (StopsJob (W.meanings worker.old) desk.now pass.old pass.new) }
+    ensures stops { IfErr result (StopsJob (W.answers worker.old) desk.now pass.old pass.new) }
     ensures called { Calls W.tells W.calls (state_of pass.new.known).plan.stages pass.old.known.caller pass.old.records pass.new.records worker.old worker.new }
-    ensures keeps { W.meanings worker.new ≡ W.meanings worker.old }
+    ensures keeps { W.answers worker.new ≡ W.answers worker.old }
 {
     let reply = desk.act(pass, Call::Claim(stage))?;
     match granted(reply) {
@@ -115,7 +116,8 @@ fn take_job<W: Worker>(
             late: 0,
         }),
         Some(args) => {
-            let finished = finish(desk, pass, worker, stage, args)?;
+            let answer = answer_of(pass, worker, stage, &args);
+            let finished = finish(desk, pass, stage, answer)?;
             Ok(count(finished))
         }
     }
@@ -131,25 +133,15 @@ fn granted(reply: Reply) -> Option<Args>
     }
 }
 
-/// Runs the function of a stage with the arguments that were granted, and finishes the stage.
-fn finish<W: Worker>(
-    desk: &Desk,
-    pass: &mut Pass,
-    worker: &mut W,
-    stage: u16,
-    args: Args,
-) -> Result<Reply, DeskFault>
+/// Finishes a stage with its function's answer.
+fn finish(desk: &Desk, pass: &mut Pass, stage: u16, answer: Answer) -> Result<Reply, DeskFault>
     requires pass { IsOf desk.now pass.old }
     requires stage { stage < length (state_of pass.old.known).plan.stages }
-    ensures done { IfOk result (λ reply. Acts pass.old (Finish stage (stage_answer (W.meanings worker.old) (state_of pass.old.known).plan.stages stage args)) reply pass.new) }
+    ensures done { IfOk result (λ reply. Acts pass.old (Finish stage answer) reply pass.new) }
     ensures room { OnOk result (HasRoom pass.old) }
-    ensures meets { IfErr result (MeetsFault (W.meanings worker.old) desk.now (Some (stage, args)) pass.old pass.new) }
+    ensures refused { IfErr result (Refuses desk.now pass.old (Finish stage answer) pass.new) }
     ensures looks { pass.new.known.looks ≡ pass.old.known.looks }
-    ensures called { RunsStage W.tells W.calls (state_of pass.old.known).plan.stages pass.old.known.caller stage args (stage_answer (W.meanings worker.old) (state_of pass.old.known).plan.stages stage args) worker.old worker.new }
-    ensures keeps { W.meanings worker.new ≡ W.meanings worker.old }
 {
-    worker.before(stage, pass.caller());
-    let answer = answer_of(pass, worker, stage, &args);
     desk.act(pass, Call::Finish(stage, answer))
 }
 
@@ -167,12 +159,13 @@ fn count(finished: Reply) -> Done
     Done { run: 1, won, late }
 }
 
-/// What the function of a stage answers to these arguments, by one call of it.
+/// What the function of a stage answers to these arguments, by one call of it, of which the gate is told before.
 fn answer_of<W: Worker>(pass: &Pass, worker: &mut W, stage: u16, args: &Args) -> Answer
     requires { stage < length (state_of pass.now.known).plan.stages }
-    ensures called { W.calls worker.old (unwrap_or (function_at (state_of pass.now.known).plan.stages stage) 0) args.now result worker.new }
-    ensures answers { result ≡ stage_answer (W.meanings worker.old) (state_of pass.now.known).plan.stages stage args.now }
-    ensures keeps { W.meanings worker.new ≡ W.meanings worker.old }
+    ensures called { RunsStage W.tells W.calls (state_of pass.now.known).plan.stages pass.now.known.caller stage args.now result worker.old worker.new }
+    ensures answers { MayAnswer (W.answers worker.old) (state_of pass.now.known).plan.stages stage args.now result }
+    ensures keeps { W.answers worker.new ≡ W.answers worker.old }
 {
+    worker.before(stage, pass.caller());
     worker.call(pass.function(stage).unwrap_or(0), args)
 }

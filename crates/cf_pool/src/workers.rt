@@ -3,19 +3,20 @@ ghost use Rattle.std.specs.Prelude.{◌≡◌, ◌<◌, ℕ, IfOk, vec_len};
 ghost use Rattle.std.proofs.Common.{ap};
 ghost use Rattle.cf_forms.specs.declared.forms.Answer.{Answer};
 ghost use Rattle.cf_forms.specs.declared.forms.Args.{Args};
-ghost use Rattle.cf_forms.specs.Meanings.{Meanings, meanings_of};
-ghost use Rattle.cf_pool.specs.Calling.{MeanAlike, first_meanings};
+ghost use Rattle.cf_forms.specs.Meanings.{meanings_of};
+ghost use Rattle.cf_pool.specs.Answering.{Answers, IsAnswer, as_meant};
+ghost use Rattle.cf_pool.specs.Calling.{AnswerAlike, first_answers};
 
 use crate::gate::Gate;
 use cf_forms::{Answer, Args, Each, Functions, StageFn};
 use std::alloc::{AllocError, Global};
 
 /// The functions of stages and a gate, with one memory, which a call and the gate may change. So a worker may count and
-/// keep what it is called with. But what its functions answer depends on their number and the arguments alone: their
-/// meaning, which stays.
+/// keep what it is called with, and its functions may answer what they like, as those do that read a file. Where their number
+/// and the arguments determine an answer, that stays so, and contracts tell it.
 pub trait Worker: Functions {
-    // What the functions answer.
-    ghost meanings: { Self → Meanings };
+    // What the functions answer to their arguments, where these determine it.
+    ghost answers: { Self → Answers };
 
     // From the first memory, being told that a caller runs a stage next leaves the second memory.
     ghost tells: { Self → ℕ → ℕ → Self → Type 0 };
@@ -23,10 +24,10 @@ pub trait Worker: Functions {
     /// Is told which stage's function a caller runs next.
     fn before(&mut self, stage: u16, caller: u8)
         ensures told { tells self.old stage caller self.new }
-        ensures keeps { meanings self.new ≡ meanings self.old };
+        ensures keeps { answers self.new ≡ answers self.old };
 
     ghost means: { (m n : Self) (number : ℕ) (args : Args) (answer : Answer) →
-        Self.calls m number args answer n → (answer ≡ meanings m number args) × (meanings n ≡ meanings m) };
+        Self.calls m number args answer n → IsAnswer (answers m number args) answer × (answers n ≡ answers m) };
 }
 
 /// A list of functions and a gate that workers share. It remembers nothing. A number without a function is answered by
@@ -51,7 +52,7 @@ impl<F: StageFn, G: Gate> Functions for Shared<'_, F, G> {
 }
 
 impl<F: StageFn, G: Gate> Worker for Shared<'_, F, G> {
-    ghost meanings = { λ m. meanings_of F.meaning m.functions.now };
+    ghost answers = { λ m. as_meant (meanings_of F.meaning m.functions.now) };
 
     ghost tells = { λ m stage caller n. n ≡ m };
 
@@ -59,7 +60,7 @@ impl<F: StageFn, G: Gate> Worker for Shared<'_, F, G> {
         self.gate.before(stage, caller);
     }
 
-    ghost means = { λ m n number args answer h. (h.0, ap (λ w. meanings_of F.meaning w.functions.now) h.1) };
+    ghost means = { λ m n number args answer h. (h.0, ap (λ w. as_meant (meanings_of F.meaning w.functions.now)) h.1) };
 }
 
 /// So many workers that share a list of functions and a gate.
@@ -70,8 +71,8 @@ pub fn share<'a, F: StageFn, G: Gate>(
     count: u8,
 ) -> Result<Vec<Shared<'a, F, G>>, AllocError>
     ensures count { IfOk result (λ v. vec_len v ≡ count) }
-    ensures alike { IfOk result (λ v. MeanAlike (λ w. meanings_of F.meaning w.functions.now) v.items) }
-    ensures means { IfOk result (λ v. 0 < count → first_meanings (λ w. meanings_of F.meaning w.functions.now) v.items ≡ meanings_of F.meaning functions.now) }
+    ensures alike { IfOk result (λ v. AnswerAlike (λ w. as_meant (meanings_of F.meaning w.functions.now)) v.items) }
+    ensures means { IfOk result (λ v. 0 < count → first_answers (λ w. as_meant (meanings_of F.meaning w.functions.now)) v.items ≡ as_meant (meanings_of F.meaning functions.now)) }
 {
     let mut workers = Vec::with_capacity(alloc, count as usize)?;
     'workers: for _ in 0..count {

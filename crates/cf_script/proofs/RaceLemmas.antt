@@ -16,6 +16,7 @@ use Rattle.cf_reading.specs.declared.script.Step.TheVariants.{Does, Asks, Work, 
 use Rattle.cf_reading.specs.Functions.{func_answer}
 use Rattle.cf_reading.specs.Purposes.{IsForRace}
 use Rattle.cf_reading.specs.Scripts.{Extent, Script, StepCalls, StepsFit, extent_after, extent_of, opening}
+use Rattle.cf_pool.specs.Answering.{as_meant}
 use Rattle.cf_pool.specs.Races.{AreSteps, IsRaced, IsStep, RacedIsExpression, log_words}
 use Rattle.cf_script.specs.Reports.{stage_lines, stage_text}
 use Rattle.cf_script.specs.Races.{IsRaceEnd, IsTooLargeToRace, PlainRacesGiveExpressions, events_of, grown_by}
@@ -72,12 +73,12 @@ steps_taken n plan steps h calls fits = (all_taken n (extent_of plan) steps h ca
 
 -- a race of the events ends as one of the steps
 pub ends_of : (workers : ℕ) (s : Script) (events : List Event) (end : State) → events ≡ events_of s.steps → All IsForRace s.steps →
-    IsRaced (meanings_of func_answer s.functions) (opening s) events workers end → log_words (length events) (length s.plan.stages + s.room) workers ≤ 65535 → IsRaceEnd workers s end
+    IsRaced (as_meant (meanings_of func_answer s.functions)) (opening s) events workers end → log_words (length events) (length s.plan.stages + s.room) workers ≤ 65535 → IsRaceEnd workers s end
 ends_of workers s events end is h raced fits =
     let same : length events ≡ length s.steps = ap length is ∙ length-events_of s.steps h in
     record {
       fits = subst (λ k. log_words k (length s.plan.stages + s.room) workers ≤ 65535) same fits;
-      raced = subst (λ es. IsRaced (meanings_of func_answer s.functions) (opening s) es workers end) is raced;
+      raced = subst (λ es. IsRaced (as_meant (meanings_of func_answer s.functions)) (opening s) es workers end) is raced;
     }
 
 pub too_long : (workers : ℕ) (s : Script) (events : List Event) → events ≡ events_of s.steps → All IsForRace s.steps →

@@ -11,6 +11,7 @@ use Rattle.cf_reading.specs.declared.script.Step.TheVariants.{Does}
 use Rattle.cf_reading.specs.Functions.{func_answer}
 use Rattle.cf_reading.specs.Reading.{race_reading}
 use Rattle.cf_reading.specs.Scripts.{Script, opening}
+use Rattle.cf_pool.specs.Answering.{as_meant}
 use Rattle.cf_pool.specs.Races.{IsRaced, log_words, plan_after}
 use Rattle.cf_text.specs.declared.fault.ScriptFault.{ScriptFault}
 use Rattle.cf_text.specs.declared.fault.ScriptFault.TheVariants as faults
@@ -35,7 +36,7 @@ IsTooLargeToRace workers s = 65535 < words_of workers s
 -- nothing is ready or claimed in it.
 pub record IsRaceEnd (workers : ℕ) (s : Script) (end : State) : Type 0 where
   pub fits : words_of workers s ≤ 65535
-  pub raced : IsRaced (meanings_of func_answer s.functions) (opening s) (events_of s.steps) workers end
+  pub raced : IsRaced (as_meant (meanings_of func_answer s.functions)) (opening s) (events_of s.steps) workers end
 
 -- the lines of the stages, as a race of this script may leave them
 pub record IsRaceText (workers : ℕ) (s : Script) (text : List ℕ) : Type 0 where

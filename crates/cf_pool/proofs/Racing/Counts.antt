@@ -16,7 +16,7 @@ use Rattle.cf_model.specs.Events.{answered, claiming, state_after}
 use Rattle.cf_model.proofs.Claimable.{answered-claimable, claiming-claimable}
 use Rattle.cf_model.proofs.Shape.{answered-shape}
 use Rattle.cf_model.specs.Calls.{as_call, who_of}
-use Rattle.cf_forms.specs.Meanings.{Meanings}
+use Rattle.cf_pool.specs.Answering.{Answers}
 use Rattle.cf_model.specs.declared.calls.Call.TheVariants.{Complete, Fail, FailAs, Cancel, Claim, Finish, Tick, Attach}
 use Rattle.cf_desk.specs.declared.calls.Rec.{Rec}
 use Rattle.cf_desk.specs.declared.calls.Rec.TheVariants.{Did, Saw}
@@ -80,15 +80,15 @@ grant_claims (Did place (Attach form of function) reply) = omega arith
 grant_claims (Saw place ask answer) = omega arith
 
 -- a record of work is a claim, or pays what is owed
-pays : (meanings : Meanings) (plan : Planned) (owed : Owed) (r : Rec) → IsNext meanings plan owed r → claim_one r + owed_one owed ≡ 1
-pays meanings plan = by_record meanings plan (λ owed r. claim_one r + owed_one owed ≡ 1) (λ place i reply l. omega arith) (λ place i args answer reply is. omega arith)
+pays : (answers : Answers) (plan : Planned) (owed : Owed) (r : Rec) → IsNext answers plan owed r → claim_one r + owed_one owed ≡ 1
+pays answers plan = by_record answers plan (λ owed r. claim_one r + owed_one owed ≡ 1) (λ place i reply l. omega arith) (λ place i args answer reply is. omega arith)
 
-pub work_at_most : (meanings : Meanings) (plan : Planned) (owed : Owed) (rs : List Rec) → AreWork meanings plan owed rs → length rs ≤ claims_in rs + grants_in rs + owed_one owed
-work_at_most meanings plan owed [] h = omega arith
-work_at_most meanings plan owed (r ∷ rs) h =
-    let one = pays meanings plan owed r h.0 in
+pub work_at_most : (answers : Answers) (plan : Planned) (owed : Owed) (rs : List Rec) → AreWork answers plan owed rs → length rs ≤ claims_in rs + grants_in rs + owed_one owed
+work_at_most answers plan owed [] h = omega arith
+work_at_most answers plan owed (r ∷ rs) h =
+    let one = pays answers plan owed r h.0 in
     let now = granted_one r in
-    let rest = work_at_most meanings plan (owed_by r) rs h.1 in
+    let rest = work_at_most answers plan (owed_by r) rs h.1 in
     omega (arith, one, now, rest)
 
 pub grants_at_most : (rs : List Rec) → grants_in rs ≤ claims_in rs
@@ -107,12 +107,12 @@ AllBelow n [] = Unit {0}
 AllBelow n (r ∷ rs) = ClaimsBelow n r × AllBelow n rs
 
 -- as are those of work
-next_below : (meanings : Meanings) (plan : Planned) (n : ℕ) → length plan.stages ≤ n → (owed : Owed) (r : Rec) → IsNext meanings plan owed r → ClaimsBelow n r
-next_below meanings plan n few = by_record meanings plan (λ owed r. ClaimsBelow n r) (λ place i reply l. omega (arith, few, l)) (λ place i args answer reply is. tt)
+next_below : (answers : Answers) (plan : Planned) (n : ℕ) → length plan.stages ≤ n → (owed : Owed) (r : Rec) → IsNext answers plan owed r → ClaimsBelow n r
+next_below answers plan n few = by_record answers plan (λ owed r. ClaimsBelow n r) (λ place i reply l. omega (arith, few, l)) (λ place i args answer reply is. tt)
 
-pub work_below : (meanings : Meanings) (plan : Planned) (n : ℕ) (owed : Owed) (rs : List Rec) → length plan.stages ≤ n → AreWork meanings plan owed rs → AllBelow n rs
-work_below meanings plan n owed [] few h = tt
-work_below meanings plan n owed (r ∷ rs) few h = (next_below meanings plan n few owed r h.0, work_below meanings plan n (owed_by r) rs few h.1)
+pub work_below : (answers : Answers) (plan : Planned) (n : ℕ) (owed : Owed) (rs : List Rec) → length plan.stages ≤ n → AreWork answers plan owed rs → AllBelow n rs
+work_below answers plan n owed [] few h = tt
+work_below answers plan n owed (r ∷ rs) few h = (next_below answers plan n few owed r h.0, work_below answers plan n (owed_by r) rs few h.1)
 
 nothing_more : (n : ℕ) (f : ℕ → ℕ) → total n (λ i. 0 + f i) ≡ 0 + total n f
 nothing_more zero f = refl
@@ -148,9 +148,9 @@ claims_at_most n rs h once =
     omega (arith, e, m, z)
 
 -- so a caller that owes nothing records at most two calls for each stage
-pub records_at_most : (meanings : Meanings) (plan : Planned) (n : ℕ) (rs : List Rec) → AreWork meanings plan None rs → AllBelow n rs → ((i : ℕ) → claims_of i rs ≤ 1) → length rs ≤ n + grants_in rs
-records_at_most meanings plan n rs h below once =
-    let a = work_at_most meanings plan None rs h in
+pub records_at_most : (answers : Answers) (plan : Planned) (n : ℕ) (rs : List Rec) → AreWork answers plan None rs → AllBelow n rs → ((i : ℕ) → claims_of i rs ≤ 1) → length rs ≤ n + grants_in rs
+records_at_most answers plan n rs h below once =
+    let a = work_at_most answers plan None rs h in
     let b = claims_at_most n rs below once in
     omega (arith, a, b)
 

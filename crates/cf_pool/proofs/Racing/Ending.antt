@@ -6,7 +6,7 @@ use Rattle.std.proofs.lemmas.List.Elements.{All-cons, All-head, All-tail, All-we
 use Rattle.cf_forms.specs.Plans.{Planned}
 use Rattle.cf_model.specs.declared.events.Event.{Event}
 use Rattle.cf_model.specs.Calls.{who_of}
-use Rattle.cf_forms.specs.Meanings.{Meanings}
+use Rattle.cf_pool.specs.Answering.{Answers}
 use Rattle.cf_desk.specs.declared.row.DeskConfig.{DeskConfig}
 use Rattle.cf_desk.specs.Keepings.{IsKeptFit, pass_did}
 use Rattle.cf_desk.specs.Laws.{call_of}
@@ -83,9 +83,9 @@ others_begun d seen most calls ps a = All-weaker (IsApart d calls seen) (HadBegu
 
 -- ---- caller 0 had seen the steps that it did, and nothing else
 
-pub own_none : (d : Desk) (calls : ℕ) (plan : Planned) (history : List Event) (meanings : Meanings) (seen : List Event) (c : ℕ) (ps qs : List Pass) → AllZip (Works meanings) ps qs → All (IsApart d calls seen) ps → All (IsKeptFit plan history) (map pass_did qs)
+pub own_none : (d : Desk) (calls : ℕ) (plan : Planned) (history : List Event) (answers : Answers) (seen : List Event) (c : ℕ) (ps qs : List Pass) → AllZip (Works answers) ps qs → All (IsApart d calls seen) ps → All (IsKeptFit plan history) (map pass_did qs)
     → 0 < count_in c (knowns qs) → own c seen ≡ []
-own_none d calls plan history meanings seen = each_pass plan history (Works meanings) (IsApart d calls seen) (λ c. own c seen ≡ []) (λ p q w. w.same.2) (λ p q w a fit. a.none)
+own_none d calls plan history answers seen = each_pass plan history (Works answers) (IsApart d calls seen) (λ c. own c seen ≡ []) (λ p q w. w.same.2) (λ p q w a fit. a.none)
 
 pub weigh_zero : (b : Bool) (n : ℕ) → b ≡ false → weight b + n ≡ 1 → 0 < n
 weigh_zero true n e l = cc
@@ -99,19 +99,19 @@ seen_is d steps p callers t h none =
 -- ---- the history of a run
 
 -- it begins with what caller 0 had seen, and each caller goes on with work over the plan that it leaves
-pub record Whole (meanings : Meanings) (setting : DeskConfig) (history seen work : List Event) : Type 0 where
+pub record Whole (answers : Answers) (setting : DeskConfig) (history seen work : List Event) : Type 0 where
   pub history_is : history ≡ seen ++ work
   pub by : All (ByCaller setting.callers) (seen ++ work)
-  pub shares_of : (c : ℕ) → c < setting.callers → Shares meanings (last_plan setting (seen ++ work)) (recorded c (length seen) (state_from setting.plan seen) work)
+  pub shares_of : (c : ℕ) → c < setting.callers → Shares answers (last_plan setting (seen ++ work)) (recorded c (length seen) (state_from setting.plan seen) work)
 
-no_work : (meanings : Meanings) (plan : Planned) → Shares meanings plan []
-no_work meanings plan = record { work = tt; once = λ i. omega arith }
+no_work : (answers : Answers) (plan : Planned) → Shares answers plan []
+no_work answers plan = record { work = tt; once = λ i. omega arith }
 
-pub all_share : (meanings : Meanings) (setting : DeskConfig) (history seen work : List Event) → Whole meanings setting history seen work → (c : ℕ) → Shares meanings (last_plan setting (seen ++ work)) (recorded c (length seen) (state_from setting.plan seen) work)
-all_share meanings setting history seen work w c = split (cases_lt c setting.callers)
+pub all_share : (answers : Answers) (setting : DeskConfig) (history seen work : List Event) → Whole answers setting history seen work → (c : ℕ) → Shares answers (last_plan setting (seen ++ work)) (recorded c (length seen) (state_from setting.plan seen) work)
+all_share answers setting history seen work w c = split (cases_lt c setting.callers)
   where
-    split : (c < setting.callers) ⊎ (setting.callers ≤ c) → Shares meanings (last_plan setting (seen ++ work)) (recorded c (length seen) (state_from setting.plan seen) work)
+    split : (c < setting.callers) ⊎ (setting.callers ≤ c) → Shares answers (last_plan setting (seen ++ work)) (recorded c (length seen) (state_from setting.plan seen) work)
     split (inl l) = w.shares_of c l
-    split (inr l) = subst (Shares meanings (last_plan setting (seen ++ work)))
+    split (inr l) = subst (Shares answers (last_plan setting (seen ++ work)))
         (sym (absent_records setting.callers c (length seen) (state_from setting.plan seen) work l (back_all (ByCaller setting.callers) seen work w.by)))
-        (no_work meanings (last_plan setting (seen ++ work)))
+        (no_work answers (last_plan setting (seen ++ work)))

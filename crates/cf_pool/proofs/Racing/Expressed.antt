@@ -11,9 +11,10 @@ use Rattle.cf_expr.specs.Expressions.{expr}
 use Rattle.cf_expr.specs.Histories.{Grants, IsPlain, IsPlainEvent, IsPlainPlan, IsQuiet, grants_after, granted_with, is_work, nothing_granted}
 use Rattle.cf_expr.proofs.Parts.{plain_append, without_work-append, work_keeps_expressions}
 use Rattle.cf_expr.proofs.Runs.{quiet_is_expression}
+use Rattle.cf_pool.specs.Answering.{as_meant}
 use Rattle.cf_pool.specs.Races.{IsWorkHistory, IsWorkEvent, RacedIsExpression, RacesEndAlike, plan_after}
 
-plain_event : (meanings : Meanings) (granted : Grants) (s : State) (e : Event) → IsWorkEvent meanings granted s e → IsPlainEvent meanings granted s e
+plain_event : (meanings : Meanings) (granted : Grants) (s : State) (e : Event) → IsWorkEvent (as_meant meanings) granted s e → IsPlainEvent meanings granted s e
 plain_event meanings granted s (Completes who i v) h = absurd h
 plain_event meanings granted s (Fails who i code) h = absurd h
 plain_event meanings granted s (FailsAs who i failure) h = absurd h
@@ -26,12 +27,12 @@ plain_event meanings granted s (Finishes who i answer) h = λ won given there.
 plain_event meanings granted s (Ticks who now) h = absurd h
 plain_event meanings granted s (Attaches who form of function) h = absurd h
 
-work_is_plain : (meanings : Meanings) (granted : Grants) (s : State) (events : List Event) → IsWorkHistory meanings granted s events → IsPlain meanings granted s events
+work_is_plain : (meanings : Meanings) (granted : Grants) (s : State) (events : List Event) → IsWorkHistory (as_meant meanings) granted s events → IsPlain meanings granted s events
 work_is_plain meanings granted s [] h = tt
 work_is_plain meanings granted s (e ∷ events) h =
     (plain_event meanings granted s e h.0, work_is_plain meanings (granted_with granted e ((answered s e).0)) ((answered s e).1) events h.1)
 
-event_is_work : (meanings : Meanings) (granted : Grants) (s : State) (e : Event) → IsWorkEvent meanings granted s e → is_work e ≡ true
+event_is_work : (meanings : Meanings) (granted : Grants) (s : State) (e : Event) → IsWorkEvent (as_meant meanings) granted s e → is_work e ≡ true
 event_is_work meanings granted s (Completes who i v) h = absurd h
 event_is_work meanings granted s (Fails who i code) h = absurd h
 event_is_work meanings granted s (FailsAs who i failure) h = absurd h
@@ -41,7 +42,7 @@ event_is_work meanings granted s (Finishes who i answer) h = refl
 event_is_work meanings granted s (Ticks who now) h = absurd h
 event_is_work meanings granted s (Attaches who form of function) h = absurd h
 
-all_work : (meanings : Meanings) (granted : Grants) (s : State) (events : List Event) → IsWorkHistory meanings granted s events → All (λ e. is_work e ≡ true) events
+all_work : (meanings : Meanings) (granted : Grants) (s : State) (events : List Event) → IsWorkHistory (as_meant meanings) granted s events → All (λ e. is_work e ≡ true) events
 all_work meanings granted s [] h = All-nil (λ e. is_work e ≡ true)
 all_work meanings granted s (e ∷ events) h =
     All-cons (λ e. is_work e ≡ true) e events (event_is_work meanings granted s e h.0) (all_work meanings (granted_with granted e ((answered s e).0)) ((answered s e).1) events h.1)

@@ -12,7 +12,7 @@ use Rattle.cf_model.specs.Growth.{Grows}
 use Rattle.cf_model.proofs.Histories.{state_after-append}
 use Rattle.cf_model.proofs.Shape.{state_after-grows}
 use Rattle.cf_model.specs.Calls.{who_of}
-use Rattle.cf_forms.specs.Meanings.{Meanings}
+use Rattle.cf_pool.specs.Answering.{Answers}
 use Rattle.cf_desk.specs.declared.calls.Rec.{Rec}
 use Rattle.cf_desk.specs.declared.row.DeskConfig.{DeskConfig}
 use Rattle.cf_desk.specs.Keepings.{IsKeptFit, pass_did}
@@ -28,15 +28,15 @@ use Rattle.cf_pool.proofs.Racing.Counts.{grants_in, records_at_most, grants_at_m
 
 -- ---- what a pass added is what the rest of the history makes of its caller's events
 
-pub more_is : (meanings : Meanings) (plan : Planned) (seen work : List Event) (p q : Pass) (w : Works meanings p q) → Fits plan p.known.caller seen p.records → Fits plan q.known.caller (seen ++ work) q.records
+pub more_is : (answers : Answers) (plan : Planned) (seen work : List Event) (p q : Pass) (w : Works answers p q) → Fits plan p.known.caller seen p.records → Fits plan q.known.caller (seen ++ work) q.records
     → w.more ≡ recorded p.known.caller (length seen) (state_from plan seen) work
-more_is meanings plan seen work p q w before now =
+more_is answers plan seen work p q w before now =
     let c = p.known.caller in
     let now_p : Fits plan c (seen ++ work) q.records = subst (λ (k : ℕ). Fits plan k (seen ++ work) q.records) w.same.2 now in
     let a = fits_recorded plan c seen p.records before in
     let b = fits_recorded plan c (seen ++ work) q.records now_p in
     let added : only_dids q.records ≡ only_dids p.records ++ w.more =
-    ap only_dids w.records ∙ only_append p.records w.more ∙ ap (λ l. only_dids p.records ++ l) (only_work meanings (state_of q.known).plan None w.more w.work) in
+    ap only_dids w.records ∙ only_append p.records w.more ∙ ap (λ l. only_dids p.records ++ l) (only_work answers (state_of q.known).plan None w.more w.work) in
     let place : 0 + length seen ≡ length seen = omega arith in
     append_cancel_left (recorded c 0 (start plan) seen) w.more (recorded c (length seen) (state_from plan seen) work)
     (ap (λ l. l ++ w.more) (sym a) ∙ sym added ∙ b ∙ recorded_append c 0 (start plan) seen work
@@ -71,8 +71,8 @@ each_pass plan history R B P same holds c (p ∷ ps) (q ∷ qs) zip begun fit l 
 
 -- ---- what each caller records of the work
 
-pub record Shares (meanings : Meanings) (plan : Planned) (rs : List Rec) : Type 0 where
-  pub work : AreWork meanings plan None rs
+pub record Shares (answers : Answers) (plan : Planned) (rs : List Rec) : Type 0 where
+  pub work : AreWork answers plan None rs
   pub once : (i : ℕ) → claims_of i rs ≤ 1
 
 -- before its workers began, a pass held what its caller did of what was seen
@@ -87,25 +87,25 @@ abbrev pub last_plan : DeskConfig → List Event → Planned
 last_plan setting history = (state_from setting.plan history).plan
 
 -- the history begins with what the pass had seen after its work
-abbrev pub WorksIn : Meanings → List Event → Pass → Pass → Type 0
-WorksIn meanings history p q = Works meanings p q × Catches q.known.caller q.known.seen history
+abbrev pub WorksIn : Answers → List Event → Pass → Pass → Type 0
+WorksIn answers history p q = Works answers p q × Catches q.known.caller q.known.seen history
 
 -- so the plan that the pass saw last grows to the one that the history leaves
-pub grows_in : (meanings : Meanings) (setting : DeskConfig) (history : List Event) (p q : Pass) → WorksIn meanings history p q → p.known.setting ≡ setting → Grows (state_of q.known) (state_from setting.plan history)
-grows_in meanings setting history p q w is =
+pub grows_in : (answers : Answers) (setting : DeskConfig) (history : List Event) (p q : Pass) → WorksIn answers history p q → p.known.setting ≡ setting → Grows (state_of q.known) (state_from setting.plan history)
+grows_in answers setting history p q w is =
     let was : state_of q.known ≡ state_from setting.plan q.known.seen = ap (λ (s : DeskConfig). state_from s.plan q.known.seen) (w.0.same.1 ∙ is) in
     let now : state_from setting.plan history ≡ state_after (state_from setting.plan q.known.seen) w.1.others = ap (state_from setting.plan) w.1.joined ∙ state_after-append (start setting.plan) q.known.seen w.1.others in
     subst (λ (s : State). Grows s (state_from setting.plan history)) (sym was)
     (subst (Grows (state_from setting.plan q.known.seen)) (sym now) (state_after-grows (state_from setting.plan q.known.seen) w.1.others))
 
-pub shares : (meanings : Meanings) (setting : DeskConfig) (seen work : List Event) (most calls : ℕ) (p q : Pass) → WorksIn meanings (seen ++ work) p q → HadBegun setting seen most calls p → Fits setting.plan q.known.caller (seen ++ work) q.records
-    → Shares meanings (last_plan setting (seen ++ work)) (recorded p.known.caller (length seen) (state_from setting.plan seen) work)
-shares meanings setting seen work most calls p q both begun fit =
+pub shares : (answers : Answers) (setting : DeskConfig) (seen work : List Event) (most calls : ℕ) (p q : Pass) → WorksIn answers (seen ++ work) p q → HadBegun setting seen most calls p → Fits setting.plan q.known.caller (seen ++ work) q.records
+    → Shares answers (last_plan setting (seen ++ work)) (recorded p.known.caller (length seen) (state_from setting.plan seen) work)
+shares answers setting seen work most calls p q both begun fit =
     let w = both.0 in
-    let is = more_is meanings setting.plan seen work p q w begun.fits fit in
+    let is = more_is answers setting.plan seen work p q w begun.fits fit in
     record {
-      work = subst (AreWork meanings (last_plan setting (seen ++ work)) None) is
-          (work_grown meanings (state_of q.known) (state_from setting.plan (seen ++ work)) w.more (grows_in meanings setting (seen ++ work) p q both begun.setting_is) w.work);
+      work = subst (AreWork answers (last_plan setting (seen ++ work)) None) is
+          (work_grown answers (state_of q.known) (state_from setting.plan (seen ++ work)) w.more (grows_in answers setting (seen ++ work) p q both begun.setting_is) w.work);
       once = λ i. subst (λ (l : List Rec). claims_of i l ≤ 1) is (w.once i);
     }
 
@@ -127,19 +127,19 @@ absent_records callers c n s (e ∷ events) le h =
 
 -- ---- no pass is full
 
-pub shares_few : (meanings : Meanings) (plan : Planned) (n : ℕ) (rs : List Rec) → length plan.stages ≤ n → Shares meanings plan rs → (length rs ≤ n + grants_in rs) × (grants_in rs ≤ n)
-shares_few meanings plan n rs few h =
-    let below = work_below meanings plan n None rs few h.work in
+pub shares_few : (answers : Answers) (plan : Planned) (n : ℕ) (rs : List Rec) → length plan.stages ≤ n → Shares answers plan rs → (length rs ≤ n + grants_in rs) × (grants_in rs ≤ n)
+shares_few answers plan n rs few h =
+    let below = work_below answers plan n None rs few h.work in
     let a = claims_at_most n rs below h.once in
     let b = grants_at_most rs in
-    (records_at_most meanings plan n rs h.work below h.once, omega (arith, a, b))
+    (records_at_most answers plan n rs h.work below h.once, omega (arith, a, b))
 
-pub has_room : (meanings : Meanings) (setting : DeskConfig) (seen work : List Event) (most calls stages : ℕ) → most + 2 * stages < calls → length (last_plan setting (seen ++ work)).stages ≤ stages
-    → (p q : Pass) → WorksIn meanings (seen ++ work) p q → HadBegun setting seen most calls p → Fits setting.plan q.known.caller (seen ++ work) q.records → length q.records < q.calls
-has_room meanings setting seen work most calls stages room all p q both begun fit =
+pub has_room : (answers : Answers) (setting : DeskConfig) (seen work : List Event) (most calls stages : ℕ) → most + 2 * stages < calls → length (last_plan setting (seen ++ work)).stages ≤ stages
+    → (p q : Pass) → WorksIn answers (seen ++ work) p q → HadBegun setting seen most calls p → Fits setting.plan q.known.caller (seen ++ work) q.records → length q.records < q.calls
+has_room answers setting seen work most calls stages room all p q both begun fit =
     let w = both.0 in
-    let is = more_is meanings setting.plan seen work p q w begun.fits fit in
-    let few = shares_few meanings (last_plan setting (seen ++ work)) stages (recorded p.known.caller (length seen) (state_from setting.plan seen) work) all (shares meanings setting seen work most calls p q both begun fit) in
+    let is = more_is answers setting.plan seen work p q w begun.fits fit in
+    let few = shares_few answers (last_plan setting (seen ++ work)) stages (recorded p.known.caller (length seen) (state_from setting.plan seen) work) all (shares answers setting seen work most calls p q both begun fit) in
     let len : length q.records ≡ length p.records + length w.more = ap length w.records ∙ length-append p.records w.more in
     let more : length w.more ≡ length (recorded p.known.caller (length seen) (state_from setting.plan seen) work) = ap length is in
     let same : q.calls ≡ calls = w.same.3 ∙ begun.calls_are in

@@ -15,7 +15,7 @@ use Rattle.cf_model.specs.States.{State}
 use Rattle.cf_model.specs.Calls.{as_call, is_attach, who_of}
 use Rattle.cf_model.specs.Events.{answered, state_after}
 use Rattle.cf_model.proofs.Shape.{answered-shape}
-use Rattle.cf_forms.specs.Meanings.{Meanings, stage_answer}
+use Rattle.cf_pool.specs.Answering.{Answers, MayAnswer}
 use Rattle.cf_expr.specs.Histories.{Grants, granted_with}
 use Rattle.cf_expr.proofs.Parts.{granted_with-other}
 use Rattle.cf_desk.specs.declared.calls.Rec.{Rec}
@@ -33,62 +33,62 @@ abbrev pub owing_with : (ℕ → Owed) → ℕ → Event → Reply → ℕ → O
 owing_with owes n e reply c = cond (eqb (who_of e) c) (owed_by (rec_of n e reply)) (owes c)
 
 -- each caller does work, from what it owes on
-abbrev pub AllWork : Meanings → Planned → (ℕ → Owed) → ℕ → State → List Event → Type 0
-AllWork meanings plan owes n s events = (c : ℕ) → AreWork meanings plan (owes c) (recorded c n s events)
+abbrev pub AllWork : Answers → Planned → (ℕ → Owed) → ℕ → State → List Event → Type 0
+AllWork answers plan owes n s events = (c : ℕ) → AreWork answers plan (owes c) (recorded c n s events)
 
-next_is : (meanings : Meanings) (plan : Planned) (o : Owed) (b : Bool) (r : Rec) (rs : List Rec) → b ≡ true → AreWork meanings plan o (cond b (r ∷ rs) rs) → IsNext meanings plan o r
-next_is meanings plan o true r rs e h = h.0
-next_is meanings plan o false r rs e h = cc
+next_is : (answers : Answers) (plan : Planned) (o : Owed) (b : Bool) (r : Rec) (rs : List Rec) → b ≡ true → AreWork answers plan o (cond b (r ∷ rs) rs) → IsNext answers plan o r
+next_is answers plan o true r rs e h = h.0
+next_is answers plan o false r rs e h = cc
 
-next_all : (meanings : Meanings) (plan : Planned) (o : Owed) (b : Bool) (r : Rec) (rs : List Rec) → AreWork meanings plan o (cond b (r ∷ rs) rs) → AreWork meanings plan (cond b (owed_by r) o) rs
-next_all meanings plan o true r rs h = h.1
-next_all meanings plan o false r rs h = h
+next_all : (answers : Answers) (plan : Planned) (o : Owed) (b : Bool) (r : Rec) (rs : List Rec) → AreWork answers plan o (cond b (r ∷ rs) rs) → AreWork answers plan (cond b (owed_by r) o) rs
+next_all answers plan o true r rs h = h.1
+next_all answers plan o false r rs h = h
 
-pub is_next : (meanings : Meanings) (plan : Planned) (owes : ℕ → Owed) (n : ℕ) (s : State) (e : Event) (events : List Event) → AllWork meanings plan owes n s (e ∷ events) →
-    IsNext meanings plan (owes (who_of e)) (rec_of n e ((answered s e).0))
-is_next meanings plan owes n s e events h =
-    next_is meanings plan (owes (who_of e)) (eqb (who_of e) (who_of e)) (rec_of n e ((answered s e).0)) (recorded (who_of e) (suc n) ((answered s e).1) events) (eq-eqb (who_of e) (who_of e) refl) (h (who_of e))
+pub is_next : (answers : Answers) (plan : Planned) (owes : ℕ → Owed) (n : ℕ) (s : State) (e : Event) (events : List Event) → AllWork answers plan owes n s (e ∷ events) →
+    IsNext answers plan (owes (who_of e)) (rec_of n e ((answered s e).0))
+is_next answers plan owes n s e events h =
+    next_is answers plan (owes (who_of e)) (eqb (who_of e) (who_of e)) (rec_of n e ((answered s e).0)) (recorded (who_of e) (suc n) ((answered s e).1) events) (eq-eqb (who_of e) (who_of e) refl) (h (who_of e))
 
-pub rest_works : (meanings : Meanings) (plan : Planned) (owes : ℕ → Owed) (n : ℕ) (s : State) (e : Event) (events : List Event) → AllWork meanings plan owes n s (e ∷ events) →
-    AllWork meanings plan (owing_with owes n e ((answered s e).0)) (suc n) ((answered s e).1) events
-rest_works meanings plan owes n s e events h c =
-    next_all meanings plan (owes c) (eqb (who_of e) c) (rec_of n e ((answered s e).0)) (recorded c (suc n) ((answered s e).1) events) (h c)
+pub rest_works : (answers : Answers) (plan : Planned) (owes : ℕ → Owed) (n : ℕ) (s : State) (e : Event) (events : List Event) → AllWork answers plan owes n s (e ∷ events) →
+    AllWork answers plan (owing_with owes n e ((answered s e).0)) (suc n) ((answered s e).1) events
+rest_works answers plan owes n s e events h c =
+    next_all answers plan (owes c) (eqb (who_of e) c) (rec_of n e ((answered s e).0)) (recorded c (suc n) ((answered s e).1) events) (h c)
 
 -- ---- what comes is a claim by one who owes nothing, or the finish that is owed
 
-pub by_next : (meanings : Meanings) (plan : Planned) (P : Owed → Event → Type 0)
+pub by_next : (answers : Answers) (plan : Planned) (P : Owed → Event → Type 0)
     → ((who i : ℕ) → i < length plan.stages → P None (Claims who i))
-    → ((who i : ℕ) (args : Args) (answer : Answer) → answer ≡ stage_answer meanings plan.stages i args → P (Some (i, args)) (Finishes who i answer))
-    → (o : Owed) (n : ℕ) (e : Event) (reply : Reply) → IsNext meanings plan o (rec_of n e reply) → P o e
-by_next meanings plan P claims finishes None n (Completes who i v) reply h = absurd h
-by_next meanings plan P claims finishes None n (Fails who i code) reply h = absurd h
-by_next meanings plan P claims finishes None n (FailsAs who i failure) reply h = absurd h
-by_next meanings plan P claims finishes None n (Cancels who i) reply h = absurd h
-by_next meanings plan P claims finishes None n (Claims who i) reply h = claims who i h
-by_next meanings plan P claims finishes None n (Finishes who i answer) reply h = absurd h
-by_next meanings plan P claims finishes None n (Ticks who now) reply h = absurd h
-by_next meanings plan P claims finishes None n (Attaches who form of function) reply h = absurd h
-by_next meanings plan P claims finishes (Some owed) n (Completes who i v) reply h = absurd h
-by_next meanings plan P claims finishes (Some owed) n (Fails who i code) reply h = absurd h
-by_next meanings plan P claims finishes (Some owed) n (FailsAs who i failure) reply h = absurd h
-by_next meanings plan P claims finishes (Some owed) n (Cancels who i) reply h = absurd h
-by_next meanings plan P claims finishes (Some owed) n (Claims who i) reply h = absurd h
-by_next meanings plan P claims finishes (Some (j, args)) n (Finishes who i answer) reply h =
+    → ((who i : ℕ) (args : Args) (answer : Answer) → MayAnswer answers plan.stages i args answer → P (Some (i, args)) (Finishes who i answer))
+    → (o : Owed) (n : ℕ) (e : Event) (reply : Reply) → IsNext answers plan o (rec_of n e reply) → P o e
+by_next answers plan P claims finishes None n (Completes who i v) reply h = absurd h
+by_next answers plan P claims finishes None n (Fails who i code) reply h = absurd h
+by_next answers plan P claims finishes None n (FailsAs who i failure) reply h = absurd h
+by_next answers plan P claims finishes None n (Cancels who i) reply h = absurd h
+by_next answers plan P claims finishes None n (Claims who i) reply h = claims who i h
+by_next answers plan P claims finishes None n (Finishes who i answer) reply h = absurd h
+by_next answers plan P claims finishes None n (Ticks who now) reply h = absurd h
+by_next answers plan P claims finishes None n (Attaches who form of function) reply h = absurd h
+by_next answers plan P claims finishes (Some owed) n (Completes who i v) reply h = absurd h
+by_next answers plan P claims finishes (Some owed) n (Fails who i code) reply h = absurd h
+by_next answers plan P claims finishes (Some owed) n (FailsAs who i failure) reply h = absurd h
+by_next answers plan P claims finishes (Some owed) n (Cancels who i) reply h = absurd h
+by_next answers plan P claims finishes (Some owed) n (Claims who i) reply h = absurd h
+by_next answers plan P claims finishes (Some (j, args)) n (Finishes who i answer) reply h =
     subst (λ (k : ℕ). P (Some (k, args)) (Finishes who i answer)) h.0 (finishes who i args answer h.1)
-by_next meanings plan P claims finishes (Some owed) n (Ticks who now) reply h = absurd h
-by_next meanings plan P claims finishes (Some owed) n (Attaches who form of function) reply h = absurd h
+by_next answers plan P claims finishes (Some owed) n (Ticks who now) reply h = absurd h
+by_next answers plan P claims finishes (Some owed) n (Attaches who form of function) reply h = absurd h
 
 -- it attaches nothing
-pub next_attaches_none : (meanings : Meanings) (plan : Planned) (o : Owed) (n : ℕ) (e : Event) (reply : Reply) → IsNext meanings plan o (rec_of n e reply) → is_attach e ≡ false
-next_attaches_none meanings plan = by_next meanings plan (λ o e. is_attach e ≡ false) (λ who i l. refl) (λ who i args answer means. refl)
+pub next_attaches_none : (answers : Answers) (plan : Planned) (o : Owed) (n : ℕ) (e : Event) (reply : Reply) → IsNext answers plan o (rec_of n e reply) → is_attach e ≡ false
+next_attaches_none answers plan = by_next answers plan (λ o e. is_attach e ≡ false) (λ who i l. refl) (λ who i args answer means. refl)
 
 -- so work leaves the plan
-pub work_leaves_plan : (meanings : Meanings) (plan : Planned) (owes : ℕ → Owed) (n : ℕ) (s : State) (events : List Event) → AllWork meanings plan owes n s events → (state_after s events).plan ≡ s.plan
-work_leaves_plan meanings plan owes n s [] h = refl
-work_leaves_plan meanings plan owes n s (e ∷ events) h =
+pub work_leaves_plan : (answers : Answers) (plan : Planned) (owes : ℕ → Owed) (n : ℕ) (s : State) (events : List Event) → AllWork answers plan owes n s events → (state_after s events).plan ≡ s.plan
+work_leaves_plan answers plan owes n s [] h = refl
+work_leaves_plan answers plan owes n s (e ∷ events) h =
     let reply = answered s e in
-    let none = next_attaches_none meanings plan (owes (who_of e)) n e reply.0 (is_next meanings plan owes n s e events h) in
-    work_leaves_plan meanings plan (owing_with owes n e reply.0) (suc n) reply.1 events (rest_works meanings plan owes n s e events h) ∙ (answered-shape s e none).plan
+    let none = next_attaches_none answers plan (owes (who_of e)) n e reply.0 (is_next answers plan owes n s e events h) in
+    work_leaves_plan answers plan (owing_with owes n e reply.0) (suc n) reply.1 events (rest_works answers plan owes n s e events h) ∙ (answered-shape s e none).plan
 
 -- ---- what is owed was granted
 
@@ -143,19 +143,19 @@ still_granted owes granted n e reply h c i args owed = split (eqb (who_of e) c) 
 
 -- ---- so the history is work
 
-work_next : (meanings : Meanings) (plan : Planned) (granted : Grants) (s : State) (o : Owed) (n : ℕ) (e : Event) (reply : Reply) → s.plan ≡ plan → ((i : ℕ) (args : Args) → o ≡ Some (i, args) → granted (who_of e) i ≡ Some args) → IsNext meanings plan o (rec_of n e reply) → IsWorkEvent meanings granted s e
-work_next meanings plan granted s o n e reply same was next =
-    by_next meanings plan (λ o e. ((i : ℕ) (args : Args) → o ≡ Some (i, args) → granted (who_of e) i ≡ Some args) → IsWorkEvent meanings granted s e)
+work_next : (answers : Answers) (plan : Planned) (granted : Grants) (s : State) (o : Owed) (n : ℕ) (e : Event) (reply : Reply) → s.plan ≡ plan → ((i : ℕ) (args : Args) → o ≡ Some (i, args) → granted (who_of e) i ≡ Some args) → IsNext answers plan o (rec_of n e reply) → IsWorkEvent answers granted s e
+work_next answers plan granted s o n e reply same was next =
+    by_next answers plan (λ o e. ((i : ℕ) (args : Args) → o ≡ Some (i, args) → granted (who_of e) i ≡ Some args) → IsWorkEvent answers granted s e)
     (λ who i l w. tt)
-    (λ who i args answer means w. (args, w i args refl, means ∙ ap (λ (p : Planned). stage_answer meanings p.stages i args) (sym same)))
+    (λ who i args answer may w. (args, w i args refl, subst (λ (p : Planned). MayAnswer answers p.stages i args answer) (sym same) may))
     o n e reply next was
 
-pub is_work_then : (meanings : Meanings) (plan : Planned) (owes : ℕ → Owed) (granted : Grants) (n : ℕ) (s : State) (events : List Event) → s.plan ≡ plan → WasGranted owes granted → AllWork meanings plan owes n s events → IsWorkHistory meanings granted s events
-is_work_then meanings plan owes granted n s [] same was h = tt
-is_work_then meanings plan owes granted n s (e ∷ events) same was h =
+pub is_work_then : (answers : Answers) (plan : Planned) (owes : ℕ → Owed) (granted : Grants) (n : ℕ) (s : State) (events : List Event) → s.plan ≡ plan → WasGranted owes granted → AllWork answers plan owes n s events → IsWorkHistory answers granted s events
+is_work_then answers plan owes granted n s [] same was h = tt
+is_work_then answers plan owes granted n s (e ∷ events) same was h =
     let reply = answered s e in
-    let next = is_next meanings plan owes n s e events h in
-    let stays = (answered-shape s e (next_attaches_none meanings plan (owes (who_of e)) n e reply.0 next)).plan in (
-      work_next meanings plan granted s (owes (who_of e)) n e reply.0 same (was (who_of e)) next,
-      is_work_then meanings plan (owing_with owes n e reply.0) (granted_with granted e reply.0) (suc n) reply.1 events (stays ∙ same) (still_granted owes granted n e reply.0 was) (rest_works meanings plan owes n s e events h),
+    let next = is_next answers plan owes n s e events h in
+    let stays = (answered-shape s e (next_attaches_none answers plan (owes (who_of e)) n e reply.0 next)).plan in (
+      work_next answers plan granted s (owes (who_of e)) n e reply.0 same (was (who_of e)) next,
+      is_work_then answers plan (owing_with owes n e reply.0) (granted_with granted e reply.0) (suc n) reply.1 events (stays ∙ same) (still_granted owes granted n e reply.0 was) (rest_works answers plan owes n s e events h),
     )

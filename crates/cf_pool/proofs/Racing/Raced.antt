@@ -19,7 +19,7 @@ use Rattle.cf_model.specs.Calls.{is_from_outside}
 use Rattle.cf_model.proofs.Histories.{state_after-append}
 use Rattle.cf_model.proofs.Growing.{grown_growing}
 use Rattle.cf_model.proofs.Shape.{length-new_states, state_after-grows}
-use Rattle.cf_forms.specs.Meanings.{Meanings}
+use Rattle.cf_pool.specs.Answering.{Answers}
 use Rattle.cf_expr.specs.Histories.{grants_after, is_work, nothing_granted}
 use Rattle.cf_desk.specs.declared.calls.Kept.{Kept}
 use Rattle.cf_desk.specs.declared.faults.DeskFault.{DeskFault}
@@ -51,10 +51,10 @@ use Rattle.cf_pool.proofs.Racing.Joining.{HadBegun, Shares, WorksIn, all_room, e
 use Rattle.cf_pool.proofs.Racing.Owing.{AllWork, is_work_then, work_leaves_plan}
 
 -- a run that began with the steps
-pub record Ended (meanings : Meanings) (d : Desk) (steps : List Event) (calls : ℕ) (ps qs : List Pass) (history : List Event) : Type 0 where
+pub record Ended (answers : Answers) (d : Desk) (steps : List Event) (calls : ℕ) (ps qs : List Pass) (history : List Event) : Type 0 where
   pub seen : List Event
   pub work : List Event
-  pub whole : Whole meanings d.setting history seen work
+  pub whole : Whole answers d.setting history seen work
   pub begun : All (HadBegun d.setting seen (length steps) calls) ps
   pub steps_are : seen ≡ steps
   pub short : length history < d.words
@@ -81,27 +81,27 @@ few_stages plan events =
     let room = grown.room in
     omega (arith, stages, room)
 
-work_few : (meanings : Meanings) (setting : DeskConfig) (history seen work : List Event) → Whole meanings setting history seen work → length work ≤ most_stages setting.plan * setting.callers + most_stages setting.plan
-work_few meanings setting history seen work w =
+work_few : (answers : Answers) (setting : DeskConfig) (history seen work : List Event) → Whole answers setting history seen work → length work ≤ most_stages setting.plan * setting.callers + most_stages setting.plan
+work_few answers setting history seen work w =
     history_at_most setting.callers (most_stages setting.plan) (length seen) (state_from setting.plan seen) work
     (back_all (ByCaller setting.callers) seen work w.by) (start_few setting.plan seen)
-    (λ c l. (shares_few meanings (last_plan setting (seen ++ work)) (most_stages setting.plan) (recorded c (length seen) (state_from setting.plan seen) work) (few_stages setting.plan (seen ++ work)) (w.shares_of c l)).0)
+    (λ c l. (shares_few answers (last_plan setting (seen ++ work)) (most_stages setting.plan) (recorded c (length seen) (state_from setting.plan seen) work) (few_stages setting.plan (seen ++ work)) (w.shares_of c l)).0)
 
-history_short : (meanings : Meanings) (d : Desk) (steps : ℕ) (workers : ℕ) (history seen work : List Event) → Whole meanings d.setting history seen work → length seen ≤ steps
+history_short : (answers : Answers) (d : Desk) (steps : ℕ) (workers : ℕ) (history seen work : List Event) → Whole answers d.setting history seen work → length seen ≤ steps
     → d.setting.callers ≡ workers + 1 → d.words ≡ log_words steps (most_stages d.setting.plan) workers → length history < d.words
-history_short meanings d steps workers history seen work w few callers words =
+history_short answers d steps workers history seen work w few callers words =
     let n = most_stages d.setting.plan in
-    let a = work_few meanings d.setting history seen work w in
+    let a = work_few answers d.setting history seen work w in
     let b : length history ≡ length seen + length work = ap length w.history_is ∙ length-append seen work in
     let c : n * (workers + 2) ≡ n * d.setting.callers + n = ap (λ (k : ℕ). n * k) (let e : workers + 2 ≡ suc d.setting.callers = omega arith in e) ∙ mul-suc n d.setting.callers in
     omega (arith, a, b, c, few, words)
 
 -- ---- the whole
 
-apart_none : (d : Desk) (calls : ℕ) (meanings : Meanings) (history : List Event) (first q : Pass) (others qs : List Pass) → first.known.caller ≡ 0 → Works meanings first q → AllZip (Works meanings) others qs → All (IsApart d calls first.known.seen) others
+apart_none : (d : Desk) (calls : ℕ) (answers : Answers) (history : List Event) (first q : Pass) (others qs : List Pass) → first.known.caller ≡ 0 → Works answers first q → AllZip (Works answers) others qs → All (IsApart d calls first.known.seen) others
     → All (IsKeptFit d.setting.plan history) (map pass_did qs) → (c : ℕ) → 0 < c → count_in c (knowns (q ∷ qs)) ≡ 1 → own c first.known.seen ≡ []
-apart_none d calls meanings history first q others qs zeroth w zip apart fit c more one =
-    own_none d calls d.setting.plan history meanings first.known.seen c others qs zip apart fit
+apart_none d calls answers history first q others qs zeroth w zip apart fit c more one =
+    own_none d calls d.setting.plan history answers first.known.seen c others qs zip apart fit
     (weigh_zero (eqb q.known.caller c) (count_in c (knowns qs)) (false_from_ne_true (eqb q.known.caller c) (λ e. let same = eqb-true q.known.caller c e in let was : q.known.caller ≡ 0 = w.same.2 ∙ zeroth in let nothing : ⊥ = omega arith in nothing)) one)
 
 -- a desk of a race of these steps, with room for their records and two for each stage there may be
@@ -117,11 +117,11 @@ all_taken d steps calls first t history for room is begins short = split t.all
     split (inl e) = is ∙ ap (λ (k : ℕ). take k steps) e ∙ take-length steps
     split (inr held) = absurd (let full = held_up_by_log d steps t.taken calls first t.done for.functions for.are is room (let enough = for.enough in omega arith) held in omega arith)
 
-ended : (meanings : Meanings) (d : Desk) (steps : List Event) (calls workers : ℕ) (first q : Pass) (others qs : List Pass) (history : List Event) → HasDoneSteps d steps first → first.calls ≡ calls → All (IsApart d calls first.known.seen) others
-    → AllZip (Works meanings) (first ∷ others) (q ∷ qs) → Closes d (q ∷ qs) history → All (IsKeptFit d.setting.plan history) (map pass_did (q ∷ qs))
+ended : (answers : Answers) (d : Desk) (steps : List Event) (calls workers : ℕ) (first q : Pass) (others qs : List Pass) (history : List Event) → HasDoneSteps d steps first → first.calls ≡ calls → All (IsApart d calls first.known.seen) others
+    → AllZip (Works answers) (first ∷ others) (q ∷ qs) → Closes d (q ∷ qs) history → All (IsKeptFit d.setting.plan history) (map pass_did (q ∷ qs))
     → d.setting.callers ≡ workers + 1 → d.words ≡ log_words (length steps) (most_stages d.setting.plan) workers → IsForSteps d steps calls
-    → Ended meanings d steps calls (first ∷ others) (q ∷ qs) history
-ended meanings d steps calls workers first q others qs history t room apart zip closes fit callers words for =
+    → Ended answers d steps calls (first ∷ others) (q ∷ qs) history
+ended answers d steps calls workers first q others qs history t room apart zip closes fit callers words for =
     let setting = d.setting in
     let seen = first.known.seen in
     let w = zip.0 in
@@ -130,20 +130,20 @@ ended meanings d steps calls workers first q others qs history t room apart zip 
     let is : history ≡ seen ++ work = catch.joined ∙ ap (λ l. l ++ catch.others) w.goes_on ∙ append_assoc seen w.seen catch.others in
     let by : All (ByCaller setting.callers) (seen ++ work) = subst (All (ByCaller setting.callers)) is (events_each (ByCaller setting.callers) setting.callers setting.functions (λ s e h. h.caller) (start setting.plan) history closes.events) in
     let caught = subst (λ (h : List Event). All (λ (p : Pass). Catches p.known.caller p.known.seen h) (q ∷ qs)) is closes.begins in
-    let both : AllZip (WorksIn meanings (seen ++ work)) (first ∷ others) (q ∷ qs) = zip_both (Works meanings) (λ (p : Pass). Catches p.known.caller p.known.seen (seen ++ work)) (first ∷ others) (q ∷ qs) zip caught in
+    let both : AllZip (WorksIn answers (seen ++ work)) (first ∷ others) (q ∷ qs) = zip_both (Works answers) (λ (p : Pass). Catches p.known.caller p.known.seen (seen ++ work)) (first ∷ others) (q ∷ qs) zip caught in
     let fits : All (IsKeptFit setting.plan (seen ++ work)) (map pass_did (q ∷ qs)) = subst (λ (h : List Event). All (IsKeptFit setting.plan h) (map pass_did (q ∷ qs))) is fit in
     let begun = All-cons (HadBegun setting seen (length steps) calls) first others (first_begun d steps calls first t room)
     (others_begun d seen (length steps) calls others apart) in
-    let whole : Whole meanings setting history seen work = record {
+    let whole : Whole answers setting history seen work = record {
       history_is = is;
       by = by;
-      shares_of = λ c l. each_pass setting.plan (seen ++ work) (WorksIn meanings (seen ++ work)) (HadBegun setting seen (length steps) calls) (λ k. Shares meanings (last_plan setting (seen ++ work)) (recorded k (length seen) (state_from setting.plan seen) work))
-          (λ a b v. v.0.same.2) (shares meanings setting seen work (length steps) calls) c (first ∷ others) (q ∷ qs) both begun fits (let one = closes.each c l in omega (arith, one));
+      shares_of = λ c l. each_pass setting.plan (seen ++ work) (WorksIn answers (seen ++ work)) (HadBegun setting seen (length steps) calls) (λ k. Shares answers (last_plan setting (seen ++ work)) (recorded k (length seen) (state_from setting.plan seen) work))
+          (λ a b v. v.0.same.2) (shares answers setting seen work (length steps) calls) c (first ∷ others) (q ∷ qs) both begun fits (let one = closes.each c l in omega (arith, one));
     } in
     let taken : seen ≡ take t.taken steps = seen_is d steps first setting.callers t (all_front (ByCaller setting.callers) seen work by)
-    (λ c more less. apart_none d calls meanings (seen ++ work) first q others qs t.done.caller w zip.1 apart (All-tail (IsKeptFit setting.plan (seen ++ work)) (pass_did q) (map pass_did qs) fits) c more (closes.each c less)) in
+    (λ c more less. apart_none d calls answers (seen ++ work) first q others qs t.done.caller w zip.1 apart (All-tail (IsKeptFit setting.plan (seen ++ work)) (pass_did q) (map pass_did qs) fits) c more (closes.each c less)) in
     let few : length seen ≤ length steps = (let a = ap length taken in let b = length-take-le t.taken steps t.few in let c = t.few in omega (arith, a, b, c)) in
-    let short = history_short meanings d (length steps) workers history seen work whole few callers words in
+    let short = history_short answers d (length steps) workers history seen work whole few callers words in
     record {
       seen = seen;
       work = work;
@@ -151,25 +151,25 @@ ended meanings d steps calls workers first q others qs history t room apart zip 
       begun = begun;
       steps_are = all_taken d steps calls first t history for room taken (let e : length history ≡ length seen + length work = ap length is ∙ length-append seen work in omega arith) short;
       short = short;
-      room = all_room setting.plan (seen ++ work) (WorksIn meanings (seen ++ work)) (HadBegun setting seen (length steps) calls)
-          (has_room meanings setting seen work (length steps) calls (most_stages setting.plan) for.enough (few_stages setting.plan (seen ++ work)))
+      room = all_room setting.plan (seen ++ work) (WorksIn answers (seen ++ work)) (HadBegun setting seen (length steps) calls)
+          (has_room answers setting seen work (length steps) calls (most_stages setting.plan) for.enough (few_stages setting.plan (seen ++ work)))
           (first ∷ others) (q ∷ qs) both begun fits;
     }
 
-ended_any : (meanings : Meanings) (d : Desk) (steps : List Event) (calls workers : ℕ) (first : Pass) (others qs : List Pass) (history : List Event) → HasDoneSteps d steps first → first.calls ≡ calls → All (IsApart d calls first.known.seen) others
-    → AllZip (Works meanings) (first ∷ others) qs → Closes d qs history → All (IsKeptFit d.setting.plan history) (map pass_did qs)
+ended_any : (answers : Answers) (d : Desk) (steps : List Event) (calls workers : ℕ) (first : Pass) (others qs : List Pass) (history : List Event) → HasDoneSteps d steps first → first.calls ≡ calls → All (IsApart d calls first.known.seen) others
+    → AllZip (Works answers) (first ∷ others) qs → Closes d qs history → All (IsKeptFit d.setting.plan history) (map pass_did qs)
     → d.setting.callers ≡ workers + 1 → d.words ≡ log_words (length steps) (most_stages d.setting.plan) workers → IsForSteps d steps calls
-    → Ended meanings d steps calls (first ∷ others) qs history
-ended_any meanings d steps calls workers first others [] history t room apart zip closes fit callers words for = absurd zip
-ended_any meanings d steps calls workers first others (q ∷ qs) history t room apart zip closes fit callers words for =
-    ended meanings d steps calls workers first q others qs history t room apart zip closes fit callers words for
+    → Ended answers d steps calls (first ∷ others) qs history
+ended_any answers d steps calls workers first others [] history t room apart zip closes fit callers words for = absurd zip
+ended_any answers d steps calls workers first others (q ∷ qs) history t room apart zip closes fit callers words for =
+    ended answers d steps calls workers first q others qs history t room apart zip closes fit callers words for
 
-pub run_ended : (meanings : Meanings) (d : Desk) (steps : List Event) (calls workers : ℕ) (ps : List Pass) (history : List Event) (kept : List Kept) (graph : State) → HaveBegun d steps calls ps → (r : Ran meanings d ps history kept graph)
+pub run_ended : (answers : Answers) (d : Desk) (steps : List Event) (calls workers : ℕ) (ps : List Pass) (history : List Event) (kept : List Kept) (graph : State) → HaveBegun d steps calls ps → (r : Ran answers d ps history kept graph)
     → d.setting.callers ≡ workers + 1 → d.words ≡ log_words (length steps) (most_stages d.setting.plan) workers → IsForSteps d steps calls
-    → Ended meanings d steps calls ps r.qs history
-run_ended meanings d steps calls workers ps history kept graph b r callers words for =
-    subst (λ (l : List Pass). Ended meanings d steps calls l r.qs history) (sym b.are)
-    (ended_any meanings d steps calls workers b.first b.others r.qs history b.took b.room b.apart (subst (λ (l : List Pass). AllZip (Works meanings) l r.qs) b.are r.works)
+    → Ended answers d steps calls ps r.qs history
+run_ended answers d steps calls workers ps history kept graph b r callers words for =
+    subst (λ (l : List Pass). Ended answers d steps calls l r.qs history) (sym b.are)
+    (ended_any answers d steps calls workers b.first b.others r.qs history b.took b.room b.apart (subst (λ (l : List Pass). AllZip (Works answers) l r.qs) b.are r.works)
     r.closes (subst (All (IsKeptFit d.setting.plan history)) r.kept_are r.fit.each) callers words for)
 
 -- ---- the race
@@ -193,29 +193,29 @@ begun_no_work setting seen most calls p outside begun =
     subst (All (λ e. is_work e ≡ false)) (sym (ap (map call_of) begun.fits.did ∙ calls_of p.known.caller 0 seen))
     (own_all (λ e. is_work e ≡ false) p.known.caller seen (All-weaker (λ e. is_from_outside e ≡ true) (λ e. is_work e ≡ false) outside_no_work seen outside))
 
-pub race_ended : (meanings : Meanings) (d : Desk) (steps : List Event) (calls workers : ℕ) (ps : List Pass) (history : List Event) (kept : List Kept) (graph : State) → d.setting.callers ≡ workers + 1 → IsGrowing d.setting.plan → AreSteps d.setting.plan steps
-    → (o : RanOut meanings d ps history kept graph) → Ended meanings d steps calls ps o.ran.qs history → IsRaced meanings d.setting.plan steps workers graph
-race_ended meanings d steps calls workers ps history kept graph callers growing are o e =
+pub race_ended : (answers : Answers) (d : Desk) (steps : List Event) (calls workers : ℕ) (ps : List Pass) (history : List Event) (kept : List Kept) (graph : State) → d.setting.callers ≡ workers + 1 → IsGrowing d.setting.plan → AreSteps d.setting.plan steps
+    → (o : RanOut answers d ps history kept graph) → Ended answers d steps calls ps o.ran.qs history → IsRaced answers d.setting.plan steps workers graph
+race_ended answers d steps calls workers ps history kept graph callers growing are o e =
     let plan = d.setting.plan in
     let s = state_from plan e.seen in
     let is : history ≡ e.seen ++ e.work = e.whole.history_is in
     let last = last_plan d.setting (e.seen ++ e.work) in
-    let works : AllWork meanings last nobody (length e.seen) s e.work = λ c. (all_share meanings d.setting history e.seen e.work e.whole c).work in
+    let works : AllWork answers last nobody (length e.seen) s e.work = λ c. (all_share answers d.setting history e.seen e.work e.whole c).work in
     let outside : All (λ x. is_from_outside x ≡ true) e.seen = subst (All (λ x. is_from_outside x ≡ true)) (sym e.steps_are) (All-weaker IsStep (λ x. is_from_outside x ≡ true) (λ x h. h.0) steps are.0) in
     let state : graph ≡ state_after (start plan) (steps ++ e.work) = o.ran.graph_is ∙ ap (state_from plan) (is ∙ ap (λ l. l ++ e.work) e.steps_are) in
     let whole : state_from plan (e.seen ++ e.work) ≡ state_after s e.work = state_after-append (start plan) e.seen e.work in
     let joined : state_after s e.work ≡ graph = sym whole ∙ sym (ap (state_from plan) is) ∙ sym o.ran.graph_is in
-    let stays : (state_after s e.work).plan ≡ s.plan = work_leaves_plan meanings last nobody (length e.seen) s e.work works in
+    let stays : (state_after s e.work).plan ≡ s.plan = work_leaves_plan answers last nobody (length e.seen) s e.work works in
     let of_plan : graph.plan ≡ plan_after plan steps = ap (λ (t : State). t.plan) (sym joined) ∙ stays ∙ ap (plan_after plan) e.steps_are in
     record {
       of_plan = of_plan;
       built = subst IsBuilt (sym of_plan) (grown_growing (start plan) steps growing are.1).built;
       work = e.work;
-      done = subst (λ (l : List Event). IsWorkHistory meanings (grants_after nothing_granted (start plan) l) (state_after (start plan) l) e.work) e.steps_are
-          (is_work_then meanings last nobody (grants_after nothing_granted (start plan) e.seen) (length e.seen) s e.work (sym stays ∙ ap (λ (t : State). t.plan) (sym whole)) (λ c i args owed. (let nothing : ⊥ = cc in absurd nothing)) works);
+      done = subst (λ (l : List Event). IsWorkHistory answers (grants_after nothing_granted (start plan) l) (state_after (start plan) l) e.work) e.steps_are
+          (is_work_then answers last nobody (grants_after nothing_granted (start plan) e.seen) (length e.seen) s e.work (sym stays ∙ ap (λ (t : State). t.plan) (sym whole)) (λ c i args owed. (let nothing : ⊥ = cc in absurd nothing)) works);
       by = All-weaker (ByCaller d.setting.callers) (IsByWorker workers) (λ x h. (omega arith)) e.work (back_all (ByCaller d.setting.callers) e.seen e.work e.whole.by);
       state = state;
-      quiet = quiet meanings d ps history kept graph (All-weaker (HadBegun d.setting e.seen (length steps) calls) MadeNoWork (λ p begun. begun_no_work d.setting e.seen (length steps) calls p outside begun) ps e.begun) o;
+      quiet = quiet answers d ps history kept graph (All-weaker (HadBegun d.setting e.seen (length steps) calls) MadeNoWork (λ p begun. begun_no_work d.setting e.seen (length steps) calls p outside begun) ps e.begun) o;
     }
 
 -- ---- as the code has it
@@ -236,13 +236,13 @@ pub record IsSized (d : Desk) (plan : Planned) (steps : List Event) (workers cal
   pub calls_are : calls ≡ length steps + 2 * most_stages plan + 1
   pub are : AreSteps plan steps
 
-sized_ended : (meanings : Meanings) (d : Desk) (plan : Planned) (steps : List Event) (calls workers : ℕ) (ps : List Pass) (history : List Event) (kept : List Kept) (graph : State) → IsSized d plan steps workers calls → HaveBegun d steps calls ps
-    → (r : Ran meanings d ps history kept graph) → Ended meanings d steps calls ps r.qs history
-sized_ended meanings d plan steps calls workers ps history kept graph z b r =
+sized_ended : (answers : Answers) (d : Desk) (plan : Planned) (steps : List Event) (calls workers : ℕ) (ps : List Pass) (history : List Event) (kept : List Kept) (graph : State) → IsSized d plan steps workers calls → HaveBegun d steps calls ps
+    → (r : Ran answers d ps history kept graph) → Ended answers d steps calls ps r.qs history
+sized_ended answers d plan steps calls workers ps history kept graph z b r =
     let same : d.setting.plan ≡ plan = ap (λ (s : DeskConfig). s.plan) z.setting_is in
     let n : most_stages d.setting.plan ≡ most_stages plan = ap most_stages same in
     let calls_are = z.calls_are in
-    run_ended meanings d steps calls workers ps history kept graph b r (ap (λ (s : DeskConfig). s.callers) z.setting_is)
+    run_ended answers d steps calls workers ps history kept graph b r (ap (λ (s : DeskConfig). s.callers) z.setting_is)
     (z.words_are ∙ ap (λ (k : ℕ). log_words (length steps) k workers) (sym n))
     (record {
       functions = ap (λ (s : DeskConfig). s.functions) z.setting_is;
@@ -251,31 +251,31 @@ sized_ended meanings d plan steps calls workers ps history kept graph z b r =
     })
 
 -- what a run ends with is the race's state
-pub raced : (meanings : Meanings) (d : Desk) (plan : Planned) (steps : List Event) (calls workers : ℕ) (ps : List Pass) (history : List Event) (kept : List Kept) (graph : State) → IsSized d plan steps workers calls → HaveBegun d steps calls ps
-    → IsGrowing plan → RanOut meanings d ps history kept graph → IsRaced meanings plan steps workers graph
-raced meanings d plan steps calls workers ps history kept graph z b growing o =
+pub raced : (answers : Answers) (d : Desk) (plan : Planned) (steps : List Event) (calls workers : ℕ) (ps : List Pass) (history : List Event) (kept : List Kept) (graph : State) → IsSized d plan steps workers calls → HaveBegun d steps calls ps
+    → IsGrowing plan → RanOut answers d ps history kept graph → IsRaced answers plan steps workers graph
+raced answers d plan steps calls workers ps history kept graph z b growing o =
     let same : d.setting.plan ≡ plan = ap (λ (s : DeskConfig). s.plan) z.setting_is in
-    subst (λ (p : Planned). IsRaced meanings p steps workers graph) same
-    (race_ended meanings d steps calls workers ps history kept graph (ap (λ (s : DeskConfig). s.callers) z.setting_is) (subst IsGrowing (sym same) growing) (subst (λ (p : Planned). AreSteps p steps) (sym same) z.are) o
-    (sized_ended meanings d plan steps calls workers ps history kept graph z b o.ran))
+    subst (λ (p : Planned). IsRaced answers p steps workers graph) same
+    (race_ended answers d steps calls workers ps history kept graph (ap (λ (s : DeskConfig). s.callers) z.setting_is) (subst IsGrowing (sym same) growing) (subst (λ (p : Planned). AreSteps p steps) (sym same) z.are) o
+    (sized_ended answers d plan steps calls workers ps history kept graph z b o.ran))
 
 -- and it meets no fault of the desk
-pub never_full : (meanings : Meanings) (d : Desk) (plan : Planned) (steps : List Event) (calls workers : ℕ) (ps : List Pass) (history : List Event) (kept : List Kept) (graph : State) → IsSized d plan steps workers calls → HaveBegun d steps calls ps
-    → (fault : DeskFault) (r : Ran meanings d ps history kept graph) → IsDueToTell d.words r.qs history fault → ⊥
-never_full meanings d plan steps calls workers ps history kept graph z b NoStage r due = due
-never_full meanings d plan steps calls workers ps history kept graph z b BadAttach r due = due
-never_full meanings d plan steps calls workers ps history kept graph z b LogFull r due =
-    let short = (sized_ended meanings d plan steps calls workers ps history kept graph z b r).short in
+pub never_full : (answers : Answers) (d : Desk) (plan : Planned) (steps : List Event) (calls workers : ℕ) (ps : List Pass) (history : List Event) (kept : List Kept) (graph : State) → IsSized d plan steps workers calls → HaveBegun d steps calls ps
+    → (fault : DeskFault) (r : Ran answers d ps history kept graph) → IsDueToTell d.words r.qs history fault → ⊥
+never_full answers d plan steps calls workers ps history kept graph z b NoStage r due = due
+never_full answers d plan steps calls workers ps history kept graph z b BadAttach r due = due
+never_full answers d plan steps calls workers ps history kept graph z b LogFull r due =
+    let short = (sized_ended answers d plan steps calls workers ps history kept graph z b r).short in
     omega (arith, short, due)
-never_full meanings d plan steps calls workers ps history kept graph z b PassFull r due =
-    let room = All-contains (λ (q : Pass). length q.records < q.calls) r.qs due.0 (sized_ended meanings d plan steps calls workers ps history kept graph z b r).room due.1 in
+never_full answers d plan steps calls workers ps history kept graph z b PassFull r due =
+    let room = All-contains (λ (q : Pass). length q.records < q.calls) r.qs due.0 (sized_ended answers d plan steps calls workers ps history kept graph z b r).room due.1 in
     let full = due.2 in
     omega (arith, room, full)
 
 -- So the run of a race tells no desk's fault.
-pub only_for_room : {M : Type 0} (meanings : Meanings) (d : Desk) (plan : Planned) (steps : List Event) (calls workers : ℕ) (ps : List Pass) (tells : TellsOf M) (has_called : CallsOf M) (ms : List M) → IsSized d plan steps workers calls → HaveBegun d steps calls ps
-    → (fault : PoolFault M) → RunRefuses tells has_called meanings d ps ms fault → IsForRoom fault
-only_for_room meanings d plan steps calls workers ps tells has_called ms z b (NoMemory unbegun) refused = tt
-only_for_room meanings d plan steps calls workers ps tells has_called ms z b (NoThread left) refused = tt
-only_for_room meanings d plan steps calls workers ps tells has_called ms z b (ToldDesk fault left) refused =
-    never_full meanings d plan steps calls workers ps left.closed.history.items left.closed.passes.items left.closed.graph.state z b fault refused.0.ran refused.0.due
+pub only_for_room : {M : Type 0} (answers : Answers) (d : Desk) (plan : Planned) (steps : List Event) (calls workers : ℕ) (ps : List Pass) (tells : TellsOf M) (has_called : CallsOf M) (ms : List M) → IsSized d plan steps workers calls → HaveBegun d steps calls ps
+    → (fault : PoolFault M) → RunRefuses tells has_called answers d ps ms fault → IsForRoom fault
+only_for_room answers d plan steps calls workers ps tells has_called ms z b (NoMemory unbegun) refused = tt
+only_for_room answers d plan steps calls workers ps tells has_called ms z b (NoThread left) refused = tt
+only_for_room answers d plan steps calls workers ps tells has_called ms z b (ToldDesk fault left) refused =
+    never_full answers d plan steps calls workers ps left.closed.history.items left.closed.passes.items left.closed.graph.state z b fault refused.0.ran refused.0.due

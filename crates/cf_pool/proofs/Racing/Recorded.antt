@@ -10,7 +10,7 @@ use Rattle.cf_model.proofs.Histories.{state_after-append}
 use Rattle.cf_model.specs.States.{State, start}
 use Rattle.cf_model.specs.Events.{answered, state_after, state_at}
 use Rattle.cf_model.specs.Calls.{as_call, event_by, who_of}
-use Rattle.cf_forms.specs.Meanings.{Meanings}
+use Rattle.cf_pool.specs.Answering.{Answers}
 use Rattle.cf_model.specs.declared.calls.Call.{Call}
 use Rattle.cf_model.specs.declared.calls.Call.TheVariants.{Complete, Fail, FailAs, Cancel, Claim, Finish, Tick, Attach}
 use Rattle.cf_desk.specs.declared.calls.Rec.{Rec}
@@ -98,8 +98,8 @@ only_append (Did place call reply ∷ rs) qs = ap (λ l. Did place call reply �
 only_append (Saw place ask answer ∷ rs) qs = only_append rs qs
 
 -- work has no questions
-pub only_work : (meanings : Meanings) (plan : Planned) (owed : Owed) (rs : List Rec) → AreWork meanings plan owed rs → only_dids rs ≡ rs
-only_work meanings plan owed [] h = refl
-only_work meanings plan owed (Did place call reply ∷ rs) h = ap (λ l. Did place call reply ∷ l) (only_work meanings plan (owed_by (Did place call reply)) rs h.1)
-only_work meanings plan None (Saw place ask answer ∷ rs) h = absurd h.0
-only_work meanings plan (Some owed) (Saw place ask answer ∷ rs) h = absurd h.0
+pub only_work : (answers : Answers) (plan : Planned) (owed : Owed) (rs : List Rec) → AreWork answers plan owed rs → only_dids rs ≡ rs
+only_work answers plan owed [] h = refl
+only_work answers plan owed (Did place call reply ∷ rs) h = ap (λ l. Did place call reply ∷ l) (only_work answers plan (owed_by (Did place call reply)) rs h.1)
+only_work answers plan None (Saw place ask answer ∷ rs) h = absurd h.0
+only_work answers plan (Some owed) (Saw place ask answer ∷ rs) h = absurd h.0

@@ -21,7 +21,8 @@ enum Note {
     Called { number: u16, args: Args },
 }
 
-/// Keeps all that happens to it, and whether memory for it was refused. Its functions give nil.
+/// Keeps all that happens to it, and whether memory for it was refused. Its functions answer how many notes it has by then, which
+/// their arguments don't determine.
 #[derive(Drop)]
 struct Recorder {
     notes: Vec<Note>,
@@ -37,26 +38,22 @@ impl Recorder {
 }
 
 impl Functions for Recorder {
-    ghost use Rattle.cf_forms.specs.declared.forms.Answer.TheVariants.{Give};
-    ghost use Rattle.cf_outcome.specs.declared.outcome.Value.TheVariants.{Nil};
-
-    ghost calls = { λ m number args answer n. answer ≡ Give Nil };
+    ghost calls = { λ m number args answer n. Unit {0} };
 
     fn call(&mut self, number: u16, args: &Args) -> Answer {
         self.keep(Note::Called {
             number,
             args: *args,
         });
-        Answer::Give(Value::Nil)
+        answer_after(self.notes.len())
     }
 }
 
 impl Worker for Recorder {
+    ghost use Rattle.std.specs.Prelude.{None};
     ghost use Rattle.std.proofs.Common.{refl};
-    ghost use Rattle.cf_forms.specs.declared.forms.Answer.TheVariants.{Give};
-    ghost use Rattle.cf_outcome.specs.declared.outcome.Value.TheVariants.{Nil};
 
-    ghost meanings = { λ m number args. Give Nil };
+    ghost answers = { λ m number args. None };
 
     ghost tells = { λ m stage caller n. Unit {0} };
 
@@ -64,7 +61,12 @@ impl Worker for Recorder {
         self.keep(Note::Told { stage, caller });
     }
 
-    ghost means = { λ m n number args answer h. (h, refl) };
+    ghost means = { λ m n number args answer h. (tt, refl) };
+}
+
+/// What a function answers behind so many notes.
+fn answer_after(notes: usize) -> Answer {
+    Answer::Give(Value::Int(i32::try_from(notes).unwrap_or(0)))
 }
 
 /// Two supplies, each with a function of it. The function of stage i has the number 3 - i.
@@ -91,7 +93,7 @@ fn recorders(rt: &impl Abort, alloc: Global, count: u8) -> Vec<Recorder>
 }
 
 /// What a worker notes for a claim of this stage that was granted with these arguments: it is told, and then its function
-/// called.
+/// called. The finish that follows has what that call answered.
 fn are_of(notes: &[Note], at: usize, stage: u16, caller: u8, args: Args) -> bool {
     let told = Note::Told { stage, caller };
     let called = Note::Called {
@@ -101,7 +103,7 @@ fn are_of(notes: &[Note], at: usize, stage: u16, caller: u8, args: Args) -> bool
     notes.get(at) == Some(&told) && notes.get(at.wrapping_add(1)) == Some(&called)
 }
 
-/// Whether these are the notes for the claims that a pass was granted, and no others.
+/// Whether these are the notes for the claims that a pass was granted, and no others, and each finish has what was answered.
 fn are_noted(notes: &[Note], kept: &Kept) -> bool {
     let mut at = 0usize;
     for record in &kept.records {
@@ -115,6 +117,15 @@ fn are_noted(notes: &[Note], kept: &Kept) -> bool {
                 return false;
             }
             at = at.wrapping_add(2);
+        }
+        if let Rec::Did {
+            call: Call::Finish(_, answer),
+            ..
+        } = *record
+        {
+            if answer != answer_after(at) {
+                return false;
+            }
         }
     }
     at == notes.len()

@@ -5,7 +5,7 @@ use Rattle.std.proofs.lemmas.List.Elements.{All-head, All-tail, All-weaker}
 use Rattle.cf_desk.specs.Views.{IsOf, Pass}
 use Rattle.cf_pool.specs.declared.pool.Left.{Left}
 use Rattle.cf_pool.specs.declared.pool.Worked.{Worked}
-use Rattle.cf_pool.specs.Calling.{MeanAlike, first_meanings}
+use Rattle.cf_pool.specs.Calling.{AnswerAlike, first_answers}
 use Rattle.cf_pool.specs.Closings.{HadThreads, HaveCalled, RunRefuses, RanOut}
 use Rattle.cf_pool.specs.Runs.{IsFirst, IsWorkedFrom, first_with, is_any_alone, stop_of}
 use Rattle.cf_pool.proofs.Pools.{all_mapped}
@@ -22,8 +22,8 @@ split g c =
 of : (g : Over) (c : After-remove-one g) → All (IsOf c.args.desk) (c.remove-one.result.0 ∷ map (λ w. w.0) c.remove-one.new.self.items)
 of g c = subst (λ l. All (IsOf c.args.desk) (map (λ w. w.0) l)) (split g c) c.requires.passes
 
-alike : (g : Over) (c : After-remove-one g) → MeanAlike g.W.Worker.meanings (c.remove-one.result.1 ∷ map (λ w. w.1) c.remove-one.new.self.items)
-alike g c = subst (λ l. MeanAlike g.W.Worker.meanings (map (λ w. w.1) l)) (split g c) c.requires.alike
+alike : (g : Over) (c : After-remove-one g) → AnswerAlike g.W.Worker.answers (c.remove-one.result.1 ∷ map (λ w. w.1) c.remove-one.new.self.items)
+alike g c = subst (λ l. AnswerAlike g.W.Worker.answers (map (λ w. w.1) l)) (split g c) c.requires.alike
 
 all : (g : Over) (c : After-remove-one g) → length c.args.workers.items ≡ length c.remove-one.new.self.items + 1
 all g c = let n = ap length (split g c) in omega (arith, n)
@@ -40,11 +40,11 @@ spread-worked-requires-clause-room g c =
     let other : vec_len c.remove-one.new.self ≤ vec_capacity c.args.worked = omega arith in
     search (rules, one, other)
 
-work : (g : Over) (c : After-spread-worked g) → MeanAlike g.W.Worker.meanings (c.remove-one.result.1 ∷ map (λ w. w.1) c.remove-one.new.self.items)
-    → AllZip (IsWorkedFrom (g.W.Worker.meanings c.remove-one.result.1) c.args.desk 1000) (map (λ w. w.0) c.remove-one.new.self.items) c.spread-worked.result.items
+work : (g : Over) (c : After-spread-worked g) → AnswerAlike g.W.Worker.answers (c.remove-one.result.1 ∷ map (λ w. w.1) c.remove-one.new.self.items)
+    → AllZip (IsWorkedFrom (g.W.Worker.answers c.remove-one.result.1) c.args.desk 1000) (map (λ w. w.0) c.remove-one.new.self.items) c.spread-worked.result.items
 work g c same =
-    all_from g.W.Worker.tells g.W.Functions.calls g.W.Worker.meanings (g.W.Worker.meanings c.remove-one.result.1) c.args.desk c.remove-one.new.self.items c.spread-worked.result.items
-    (All-tail (λ m. g.W.Worker.meanings m ≡ g.W.Worker.meanings c.remove-one.result.1) c.remove-one.result.1 (map (λ w. w.1) c.remove-one.new.self.items) same) c.spread-worked.ensures
+    all_from g.W.Worker.tells g.W.Functions.calls g.W.Worker.answers (g.W.Worker.answers c.remove-one.result.1) c.args.desk c.remove-one.new.self.items c.spread-worked.result.items
+    (All-tail (λ m. g.W.Worker.answers m ≡ g.W.Worker.answers c.remove-one.result.1) c.remove-one.result.1 (map (λ w. w.1) c.remove-one.new.self.items) same) c.spread-worked.ensures
 
 -- as many have come back as there are others
 came : (g : Over) (c : After-spread-worked g) → length c.spread-worked.result.items ≡ length c.remove-one.new.self.items
@@ -55,7 +55,7 @@ meet_all-back-requires-clause-table g c =
     let at = goal.at.meet_all-back-requires-clause-table g c in
     let every = of g at.After-remove-one in (
       (All-head (IsOf c.args.desk) c.remove-one.result.0 (map (λ w. w.0) c.remove-one.new.self.items) every).0,
-      worked_of (g.W.Worker.meanings c.remove-one.result.1) c.args.desk (map (λ w. w.0) c.remove-one.new.self.items) c.spread-worked.result.items (All-tail (IsOf c.args.desk) c.remove-one.result.0 (map (λ w. w.0) c.remove-one.new.self.items) every) (work g at.After-spread-worked (alike g at.After-remove-one)),
+      worked_of (g.W.Worker.answers c.remove-one.result.1) c.args.desk (map (λ w. w.0) c.remove-one.new.self.items) c.spread-worked.result.items (All-tail (IsOf c.args.desk) c.remove-one.result.0 (map (λ w. w.0) c.remove-one.new.self.items) every) (work g at.After-spread-worked (alike g at.After-remove-one)),
     )
 
 pub meet_all-back-requires-clause-room : goal.meet_all-back-requires-clause-room
@@ -88,8 +88,8 @@ put_first-workers-requires g c =
     omega arith
 
 back : (g : Over) (c : After-put_first-workers g) → All (IsOf c.args.desk) (c.remove-one.result.0 ∷ map (λ w. w.0) c.remove-one.new.self.items)
-    → AllZip (IsWorkedFrom (g.W.Worker.meanings c.remove-one.result.1) c.args.desk 1000) (map (λ w. w.0) c.remove-one.new.self.items) c.spread-worked.result.items
-    → Back (g.W.Worker.meanings c.remove-one.result.1) c.args.desk c.remove-one.result.0 c.meet_all-back.new.mine c.work_on-done.result.pass (map (λ w. w.0) c.remove-one.new.self.items) c.meet_all-back.result.passes.items c.spread-worked.result.items c.first_fault-others.result c.work_on-done.result.fault
+    → AllZip (IsWorkedFrom (g.W.Worker.answers c.remove-one.result.1) c.args.desk 1000) (map (λ w. w.0) c.remove-one.new.self.items) c.spread-worked.result.items
+    → Back (g.W.Worker.answers c.remove-one.result.1) c.args.desk c.remove-one.result.0 c.meet_all-back.new.mine c.work_on-done.result.pass (map (λ w. w.0) c.remove-one.new.self.items) c.meet_all-back.result.passes.items c.spread-worked.result.items c.first_fault-others.result c.work_on-done.result.fault
 back g c every worked = record {
   worker = c.work_on-done.result.worker;
   of = every;
@@ -120,14 +120,14 @@ close-requires-clause-all g c =
 
 -- what is left of all
 leaves : (g : Over) (c : In-Ok g) → c.args.workers.items ≡ c.remove-one.result ∷ c.remove-one.new.self.items
-    → Back (g.W.Worker.meanings c.remove-one.result.1) c.args.desk c.remove-one.result.0 c.meet_all-back.new.mine c.work_on-done.result.pass (map (λ w. w.0) c.remove-one.new.self.items) c.meet_all-back.result.passes.items c.spread-worked.result.items c.first_fault-others.result c.work_on-done.result.fault
-    → Leaves g.W.Worker.tells g.W.Functions.calls (first_meanings g.W.Worker.meanings (map (λ w. w.1) c.args.workers.items)) c.args.desk (map (λ w. w.0) c.args.workers.items) (map (λ w. w.1) c.args.workers.items) c.is_any_alone-refused.result c.first_of-first.result
+    → Back (g.W.Worker.answers c.remove-one.result.1) c.args.desk c.remove-one.result.0 c.meet_all-back.new.mine c.work_on-done.result.pass (map (λ w. w.0) c.remove-one.new.self.items) c.meet_all-back.result.passes.items c.spread-worked.result.items c.first_fault-others.result c.work_on-done.result.fault
+    → Leaves g.W.Worker.tells g.W.Functions.calls (first_answers g.W.Worker.answers (map (λ w. w.1) c.args.workers.items)) c.args.desk (map (λ w. w.0) c.args.workers.items) (map (λ w. w.1) c.args.workers.items) c.is_any_alone-refused.result c.first_of-first.result
     (record { closed = c.in-Ok.closed; workers = c.put_first-workers.result })
 leaves g c parts came_back =
     let e = c.in-Ok.ensures in
     let left : Left g.row.W.Denot = record { closed = c.in-Ok.closed; workers = c.put_first-workers.result } in
-    subst (λ l. Leaves g.W.Worker.tells g.W.Functions.calls (first_meanings g.W.Worker.meanings (map (λ w. w.1) l)) c.args.desk (map (λ w. w.0) l) (map (λ w. w.1) l) c.is_any_alone-refused.result c.first_of-first.result left) (sym parts)
-    (back_leaves g.W.Worker.tells g.W.Functions.calls g.W.Worker.meanings _ c.args.desk c.remove-one.result.0 c.meet_all-back.new.mine c.work_on-done.result.pass c.remove-one.new.self.items c.meet_all-back.result.passes.items c.spread-worked.result.items c.first_fault-others.result c.work_on-done.result.fault c.remove-one.result.1 c.work_on-done.result.worker
+    subst (λ l. Leaves g.W.Worker.tells g.W.Functions.calls (first_answers g.W.Worker.answers (map (λ w. w.1) l)) c.args.desk (map (λ w. w.0) l) (map (λ w. w.1) l) c.is_any_alone-refused.result c.first_of-first.result left) (sym parts)
+    (back_leaves g.W.Worker.tells g.W.Functions.calls g.W.Worker.answers _ c.args.desk c.remove-one.result.0 c.meet_all-back.new.mine c.work_on-done.result.pass c.remove-one.new.self.items c.meet_all-back.result.passes.items c.spread-worked.result.items c.first_fault-others.result c.work_on-done.result.fault c.remove-one.result.1 c.work_on-done.result.worker
     came_back c.spread-worked.ensures c.work_on-done.ensures.worked.called c.is_any_alone-refused.result c.first_of-first.result left
     (shut_of _ _ _ _ _ _ c.put_first-passes.ensures e.history e.passes e.fit e.one e.graph)
     (c.put_first-workers.ensures ∙ ap (λ l. c.work_on-done.result.worker ∷ l) c.meet_all-back.ensures.workers)
@@ -138,7 +138,7 @@ pub returns-clause-ran : goal.returns-clause-ran
 returns-clause-ran g c =
     let at = goal.at.returns-clause-ran g c in
     let h = leaves g at.In-Ok (split g at.After-remove-one) (back g at.After-put_first-workers (of g at.After-remove-one) (work g at.After-spread-worked (alike g at.After-remove-one))) in
-    let P : Left g.row.W.Denot → Type 0 = (λ left. RanOut (first_meanings g.W.Worker.meanings (map (λ w. w.1) c.args.workers.items)) c.args.desk (map (λ w. w.0) c.args.workers.items) left.closed.history.items left.closed.passes.items left.closed.graph.state) in
+    let P : Left g.row.W.Denot → Type 0 = (λ left. RanOut (first_answers g.W.Worker.answers (map (λ w. w.1) c.args.workers.items)) c.args.desk (map (λ w. w.0) c.args.workers.items) left.closed.history.items left.closed.passes.items left.closed.graph.state) in
     subst (λ r. IfOk r P) (sym c.told.ensures) (told_left P c.is_any_alone-refused.result c.first_of-first.result (record { closed = c.in-Ok.closed; workers = c.put_first-workers.result }) (λ any none. h.out none))
 
 pub returns-clause-called : goal.returns-clause-called
@@ -152,11 +152,11 @@ pub returns-clause-threads : goal.returns-clause-threads
 returns-clause-threads g c =
     let at = goal.at.returns-clause-threads g c in
     let h = leaves g at.In-Ok (split g at.After-remove-one) (back g at.After-put_first-workers (of g at.After-remove-one) (work g at.After-spread-worked (alike g at.After-remove-one))) in
-    let P : Left g.row.W.Denot → Type 0 = (λ left. HadThreads (first_meanings g.W.Worker.meanings (map (λ w. w.1) c.args.workers.items)) c.args.desk (map (λ w. w.0) c.args.workers.items) left false) in
+    let P : Left g.row.W.Denot → Type 0 = (λ left. HadThreads (first_answers g.W.Worker.answers (map (λ w. w.1) c.args.workers.items)) c.args.desk (map (λ w. w.0) c.args.workers.items) left false) in
     subst (λ r. IfOk r P) (sym c.told.ensures) (told_left P c.is_any_alone-refused.result c.first_of-first.result (record { closed = c.in-Ok.closed; workers = c.put_first-workers.result }) (λ any none. subst (HadThreads _ c.args.desk _ _) any h.threads))
 
 pub returns-clause-refused : goal.returns-clause-refused
 returns-clause-refused g c =
     let at = goal.at.returns-clause-refused g c in
     let h = leaves g at.In-Ok (split g at.After-remove-one) (back g at.After-put_first-workers (of g at.After-remove-one) (work g at.After-spread-worked (alike g at.After-remove-one))) in
-    subst (λ r. IfErr r (RunRefuses g.W.Worker.tells g.W.Functions.calls (first_meanings g.W.Worker.meanings (map (λ w. w.1) c.args.workers.items)) c.args.desk (map (λ w. w.0) c.args.workers.items) (map (λ w. w.1) c.args.workers.items))) (sym c.told.ensures) (told_refused _ _ _ _ _ _ _ _ _ h)
+    subst (λ r. IfErr r (RunRefuses g.W.Worker.tells g.W.Functions.calls (first_answers g.W.Worker.answers (map (λ w. w.1) c.args.workers.items)) c.args.desk (map (λ w. w.0) c.args.workers.items) (map (λ w. w.1) c.args.workers.items))) (sym c.told.ensures) (told_refused _ _ _ _ _ _ _ _ _ h)

@@ -2,6 +2,7 @@ use Rattle.std.proofs.Common.{arith, rules, ℕ, true, ◌≡◌, ◌+◌, ◌�
 use Rattle.cf_model.specs.Graphs.{Graph}
 use Rattle.cf_forms.specs.Meanings.{meanings_of}
 use Rattle.cf_forms.specs.Plans.{Planned, has_place, with_room}
+use Rattle.cf_pool.specs.Answering.{as_meant}
 use Rattle.cf_pool.specs.Races.{AreSteps, IsRaced, log_words}
 use Rattle.cf_reading.specs.Functions.{func_answer}
 use Rattle.cf_reading.specs.Scripts.{opening}
@@ -36,9 +37,9 @@ returns-in-Ok-clause-ends g c =
     let opened = ap (λ p. with_room p c.into_parts-plan.result.1) parts.plan ∙ ap (λ n. with_room s.plan n) parts.room in
     let means = c.in_ok-hands.ensures.means (omega arith) in
     let with_list = subst (λ ms. IsRaced ms (with_room c.into_parts-plan.result.0 c.into_parts-plan.result.1) es c.args.workers end) means c.in-Ok.ensures.raced in
-    let raced : IsRaced (meanings_of func_answer s.functions) (opening s) es c.args.workers end =
-    subst (λ fs. IsRaced (meanings_of func_answer fs) (opening s) es c.args.workers end) fns
-    (subst (λ p. IsRaced (meanings_of func_answer c.deref-2.result.now) p es c.args.workers end) opened with_list) in
+    let raced : IsRaced (as_meant (meanings_of func_answer s.functions)) (opening s) es c.args.workers end =
+    subst (λ fs. IsRaced (as_meant (meanings_of func_answer fs)) (opening s) es c.args.workers end) fns
+    (subst (λ p. IsRaced (as_meant (meanings_of func_answer c.deref-2.result.now)) p es c.args.workers end) opened with_list) in
     let size : log_words (length es) (length s.plan.stages + s.room) c.args.workers ≤ 65535 = search rules in
     subst (λ (g : Graph). IsRaceEnd c.args.workers s g.state) (sym c.into_graph.ensures) (ends_of c.args.workers s es end evs c.requires.steps raced size)
 

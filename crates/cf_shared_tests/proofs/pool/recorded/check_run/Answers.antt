@@ -1,7 +1,6 @@
-use Rattle.cf_forms.specs.declared.forms.Answer.TheVariants.{Give}
-use Rattle.cf_outcome.specs.declared.outcome.Value.TheVariants.{Nil}
+use Rattle.std.specs.Prelude.{None}
 use Rattle.cf_shared_tests.proofs.Alike.{alike}
 use Rattle.cf_shared_tests.proofs.pool.recorded.check_run.Goals as goal
 
 pub run-requires-clause-alike : goal.run-requires-clause-alike
-run-requires-clause-alike g c κs within = alike (λ number args. Give Nil) _
+run-requires-clause-alike g c κs within = alike (λ number args. None) _

@@ -6,7 +6,7 @@ use Rattle.cf_pool.proofs.pool.fn.spread.scope.Goals as goal
 pub returns : goal.returns
 returns g c =
     zip_through _ _ _
-    (work_ended g.W.Worker.tells g.W.Functions.calls g.W.Worker.meanings (λ h. h.promise.was.value) (λ h. h.promise.desk.value) c.captures.desk.now)
+    (work_ended g.W.Worker.tells g.W.Functions.calls g.W.Worker.answers (λ h. h.promise.was.value) (λ h. h.promise.desk.value) c.captures.desk.now)
     c.captures.workers.items c.start_all-started.result.items c.join_all.result.items c.start_all-started.ensures c.join_all.ensures
 
 pub join_all-requires : goal.join_all-requires
