@@ -326,6 +326,8 @@ extern "C" {
     pub fn cf_desk_join(caller: *mut cf_handle, stage: u16, looks: u32, now: *mut cf_now) -> u32;
     pub fn cf_desk_ready(caller: *mut cf_handle, stage: *mut u16) -> u32;
     pub fn cf_desk_meet(caller: *mut cf_handle, other: *mut cf_handle) -> u32;
+    pub fn cf_desk_notice(caller: *mut cf_handle, notice: *mut cf_handle) -> u32;
+    pub fn cf_desk_heed(caller: *mut cf_handle, notice: *mut cf_handle) -> u32;
     pub fn cf_desk_seen(caller: *mut cf_handle, events: *mut u16) -> u32;
     pub fn cf_desk_left(caller: *mut cf_handle, calls: *mut u16) -> u32;
     pub fn cf_desk_function(caller: *mut cf_handle, stage: u16, function: *mut u16) -> u32;
