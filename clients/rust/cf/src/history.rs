@@ -387,7 +387,7 @@ impl History {
                 if parts.tag == TIMED_OUT {
                     format!("{who} times out {}{late}", stage())
                 } else {
-                    format!("{who} fails {} as a bad answer{late}", stage())
+                    format!("{who} fails {} with a bad answer{late}", stage())
                 }
             }
             (CANCEL, Reply::Flag(true)) => format!("{who} cancels {}", stage()),

@@ -76,10 +76,10 @@ fn a_bad_answer_is_told_as_one() {
     assert_eq!(
         told(&request)[2..],
         [
-            "caller fails 0 price as a bad answer",
+            "caller fails 0 price with a bad answer",
             "0 price ends: a bad answer",
             "1 behind ends: a bad answer, passed on",
-            "caller fails 0 price as a bad answer, too late",
+            "caller fails 0 price with a bad answer, too late",
             "caller times out 0 price, too late",
             "caller attaches 2 slow, source",
             "caller times out 2 slow",

@@ -278,7 +278,7 @@ public final class History {
             case Words.FAIL:
                 return who + " fails " + on + " with " + shown(errors[Words.low(word)]) + late(k);
             case Words.FAIL_AS:
-                return who + (Words.tag(word) == Words.TIMED_OUT ? " times out " + on : " fails " + on + " as a bad answer")
+                return who + (Words.tag(word) == Words.TIMED_OUT ? " times out " + on : " fails " + on + " with a bad answer")
                         + late(k);
             default:
                 return who + " cancels " + on + late(k);
