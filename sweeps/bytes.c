@@ -12,7 +12,7 @@
 #include <stdio.h>
 #include <stdlib.h>
 
-enum { STAGES = 100, ROOM = 50, CALLERS = 4, LOG = 1000, CALLS = 500 };
+enum { STAGES = 100, ROOM = 50, CALLERS = 4, LOG = 1000, CALLS = 500, FEW = 50 };
 
 static size_t asked;
 
@@ -96,6 +96,8 @@ int main(void) {
   takes("a graph with room", cf_graph_new(&plan, ROOM, &graph), 9404);
   takes("a desk", cf_desk_open(&plan, callers, CALLERS, LOG, CALLS), 143457);
   takes("its closing", close_all(callers), 1856);
+  for (int k = 0; k < CALLERS; ++k) cf_free(&callers[k]);
+  takes("a desk of few records", cf_desk_open(&plan, callers, CALLERS, LOG, FEW), 57057);
   for (int k = 0; k < CALLERS; ++k) cf_free(&callers[k]);
   takes("a desk with room", cf_desk_open_growing(&plan, callers, CALLERS, LOG, CALLS, ROOM, 8), 169457);
   takes("a ledger", cf_ledger_new(&plan, ROOM, &ledger), 9916);

@@ -51,6 +51,11 @@ const TICKED: [Turn; 3] = [
     READS,
 ];
 
+/// The callers meet behind that, or the second one heeds what the first has seen.
+const MET: [Turn; 2] = [COMPLETES, Turn::Meet];
+
+const HEEDED: [Turn; 2] = [COMPLETES, Turn::SecondHeeds(&[])];
+
 /// Nothing of the chain was treated, and all of it is then.
 const LEFT: [End; 2] = [End::Turns(0), End::Nudge(9, 3)];
 
@@ -59,6 +64,10 @@ fn leaves_what_nobody_asks_for(rt: HostRuntime) {
     play(&rt, rt.alloc(), CHAINED, &READ, &LEFT);
     play(&rt, rt.alloc(), SECOND_FIRST, &READ, &LEFT);
     play(&rt, rt.alloc(), CHAINED, &TICKED, &LEFT);
+    for opening in [CHAINED, SECOND_FIRST] {
+        play(&rt, rt.alloc(), opening, &MET, &LEFT);
+        play(&rt, rt.alloc(), opening, &HEEDED, &LEFT);
+    }
 }
 
 const OPEN_FAULTS: [(OpenFault, &str); 6] = [

@@ -103,10 +103,25 @@ fn are_of(notes: &[Note], at: usize, stage: u16, caller: u8, args: Args) -> bool
     notes.get(at) == Some(&told) && notes.get(at.wrapping_add(1)) == Some(&called)
 }
 
-/// Whether these are the notes for the claims that a pass was granted, and no others, and each finish has what was answered.
+/// Whether a record is of a claim or a finish.
+fn is_work(record: Rec) -> bool {
+    matches!(
+        record,
+        Rec::Did {
+            call: Call::Claim(_) | Call::Finish(_, _),
+            ..
+        }
+    )
+}
+
+/// Whether these are the notes for the claims that a pass was granted, and no others, each finish has what was answered, and the
+/// pass has no records beside.
 fn are_noted(notes: &[Note], kept: &Kept) -> bool {
     let mut at = 0usize;
     for record in &kept.records {
+        if !is_work(*record) {
+            return false;
+        }
         if let Rec::Did {
             call: Call::Claim(stage),
             reply: Reply::Claim(Claimed::Granted(args)),
