@@ -1,5 +1,5 @@
 -- What the passes of a run come to.
-use Rattle.std.proofs.Common.{◌≡◌, ℕ, zero, suc, ◌+◌, ◌<◌, ◌≤◌, ⊎_elim, Bool, true, false, Option, Some, None, IfErr, IfOk, List, [], ◌∷◌, ◌++◌, length, map, All, sym, refl, ap, ◌∙◌, subst, append-nil, append_assoc, length-append, take, drop, arith}
+use Rattle.std.proofs.Common.{◌≡◌, ℕ, zero, suc, ◌+◌, ◌<◌, ◌≤◌, inl, inr, ⊎_elim, Bool, true, false, Option, Some, None, IfErr, IfOk, List, [], ◌∷◌, ◌++◌, length, map, All, sym, refl, ap, ◌∙◌, subst, append-nil, append_assoc, length-append, take, drop, arith}
 use Rattle.std.specs.Prelude.{slice_index_or}
 use Rattle.std.proofs.lemmas.Simd.{map-map}
 use Rattle.std.specs.List.{AllZip, Contains, insert}
@@ -31,7 +31,7 @@ use Rattle.cf_pool.specs.declared.pool.Worked.{Worked}
 use Rattle.cf_model.specs.Calling.{CallsOf}
 use Rattle.cf_pool.specs.Calling.{CallsOnce, EachCalls, TellsOf, calls_of_all}
 use Rattle.cf_pool.specs.Closings.{HadThreads, HaveCalled, IsDueToTell, RunRefuses, RunTells, Ran, RanOut, told}
-use Rattle.cf_pool.specs.Runs.{EndsBelow, EndsIf, HasEnded, HasWorked, IsFirst, IsLowest, IsMet, IsWorkedBy, IsWorkedFrom, OfEach, SeesMore, SeesOn, Stop, WasStopped, first_with, is_any_alone, stop_of}
+use Rattle.cf_pool.specs.Runs.{EndsBelow, EndsIf, HasCome, HasEnded, HasWorked, IsFirst, IsLowest, IsMet, IsWorkedBy, IsWorkedFrom, OfEach, SeesMore, SeesOn, Stop, WasStopped, first_with, is_any_alone, stop_of}
 use Rattle.cf_pool.specs.Stops.{IsNextCall, Stops}
 use Rattle.cf_pool.specs.Waits.{Ends, Waits, last_place}
 use Rattle.cf_pool.specs.Works.{Owed, Works, WorksOut, owed_after}
@@ -132,6 +132,20 @@ all_ended answers d patience (p ∷ ps) (q ∷ qs) (w ∷ ws) f g h = (
   has_ended answers d patience p w.pass q w.fault f.0 g.0 (All-head (λ (x : Stop). x.1 ≡ None) (stop_of w) (map stop_of ws) h),
   all_ended answers d patience ps qs ws f.1 g.1 (All-tail (λ (x : Stop). x.1 ≡ None) (stop_of w) (map stop_of ws) h),
 )
+
+has_come : (answers : Answers) (d : Desk) (patience : ℕ) (p r q : Pass) (fault : Option DeskFault) → HasWorked answers d patience p r fault → SeesMore r q → HasCome answers d patience p q
+has_come answers d patience p r q None h s = (None, record { ended = r; ends = h.met; since = s })
+has_come answers d patience p r q (Some fault) h s = (Some fault, record { stopped = r; stops = h.met; since = s })
+
+all_come : {M : Type 0} (answers : Answers) (d : Desk) (patience : ℕ) (ps qs : List Pass) (ws : List (Worked M)) → AllZip (IsWorkedFrom answers d patience) ps ws → AllZip SeesOn ws qs → AllZip (HasCome answers d patience) ps qs
+all_come answers d patience [] [] [] f g = tt
+all_come answers d patience [] [] (w ∷ ws) f g = absurd f
+all_come answers d patience [] (q ∷ qs) [] f g = absurd g
+all_come answers d patience [] (q ∷ qs) (w ∷ ws) f g = absurd f
+all_come answers d patience (p ∷ ps) [] [] f g = absurd f
+all_come answers d patience (p ∷ ps) [] (w ∷ ws) f g = absurd g
+all_come answers d patience (p ∷ ps) (q ∷ qs) [] f g = absurd f
+all_come answers d patience (p ∷ ps) (q ∷ qs) (w ∷ ws) f g = (has_come answers d patience p w.pass q w.fault f.0 g.0, all_come answers d patience ps qs ws f.1 g.1)
 
 ends_below : (answers : Answers) (d : Desk) (caller patience : ℕ) (p r q : Pass) (fault : Option DeskFault) → HasWorked answers d patience p r fault → SeesMore r q → EndsIf caller (r.known.caller, fault) → EndsBelow answers d caller patience p q
 ends_below answers d caller patience p r q fault h s below l = has_ended answers d patience p r q fault h s (below (let same = s.same.2 in omega arith))
@@ -324,6 +338,7 @@ back_ran answers d mine met done ps qs ws others fault b history kept graph s = 
   closes = s.closes;
   kept_are = s.kept_are;
   works = back_works answers d mine met done ps qs ws others fault b;
+  each = (has_come answers d 1 mine done done fault (back_own answers d mine met done ps qs ws others fault b) (sees_itself done), all_come answers d 1000 ps qs ws b.work b.sees);
   fit = s.fit;
   once = λ i. subst (λ (l : List (ℕ × List Rec)). calls_of_all i l ≤ 1) (sym s.kept_are)
       (called_once d.setting.plan d.setting.callers history (done ∷ qs) i (subst (All (IsKeptFit d.setting.plan history)) s.kept_are s.fit.each) s.closes.each
@@ -497,7 +512,8 @@ told_left P false (Some met) left h = tt
 
 pub told_refused : {M : Type 0} (tells : TellsOf M) (calls : CallsOf M) (answers : Answers) (d : Desk) (ps : List Pass) (ms : List M) (refused : Bool) (first : Option Met) (left : Left M) → Leaves tells calls answers d ps ms refused first left
     → IfErr (told refused first left) (RunRefuses tells calls answers d ps ms)
-told_refused tells calls answers d ps ms true first left h = (h.ran, h.called, h.threads)
+told_refused tells calls answers d ps ms true None left h = (inl (h.out refl), h.called, h.threads)
+told_refused tells calls answers d ps ms true (Some met) left h = (inr (met.fault, h.stopped met refl), h.called, h.threads)
 told_refused tells calls answers d ps ms false None left h = tt
 told_refused tells calls answers d ps ms false (Some met) left h = (h.stopped met refl, h.called, h.threads)
 

@@ -13,7 +13,7 @@ use Rattle.cf_pool.specs.declared.pool.Left.{Left}
 use Rattle.cf_pool.specs.Answering.{Answers}
 use Rattle.cf_model.specs.Calling.{CallsOf}
 use Rattle.cf_pool.specs.Calling.{TellsOf}
-use Rattle.cf_pool.specs.Closings.{HadThreads, HaveCalled}
+use Rattle.cf_pool.specs.Closings.{HadThreads, HaveCalled, RanOut}
 
 -- caller 0 has done the first of the steps in order, so many of them
 pub record HasTaken (d : Desk) (steps : List Event) (taken : ℕ) (p : Pass) : Type 0 where
@@ -67,5 +67,6 @@ pub record HaveCalledInRace {M : Type 0} (tells : TellsOf M) (calls : CallsOf M)
   pub room : ℕ
   pub passes : List Pass
   pub begun : HaveBegun desk steps room passes
+  pub ran : RanOut answers desk passes left.closed.history.items left.closed.passes.items left.closed.graph.state
   pub called : HaveCalled tells calls passes ms left
   pub threads : HadThreads answers desk passes left false

@@ -1,8 +1,6 @@
 -- Which functions a worker calls, and what its gate is told.
 use Rattle.std.specs.Prelude.{◌≡◌, ℕ, ◌+◌, ◌<◌, ◌≤◌, ◌==◌, Some, None, List, [], ◌∷◌, ◌++◌, length, unwrap_or, if◌then◌else◌}
-use Rattle.cf_outcome.specs.declared.outcome.Value.TheVariants.{Nil}
 use Rattle.cf_forms.specs.declared.forms.Answer.{Answer}
-use Rattle.cf_forms.specs.declared.forms.Answer.TheVariants.{Give}
 use Rattle.std.specs.List.{All}
 use Rattle.cf_forms.specs.declared.forms.Args.{Args}
 use Rattle.cf_pool.specs.Answering.{Answers}

@@ -1,5 +1,5 @@
 -- What a run of workers leaves, and what it tells.
-use Rattle.std.specs.Prelude.{◌≡◌, ◌+◌, ◌<◌, ◌≤◌, ℕ, Bool, true, false, eqb, Option, Some, None, Result, Ok, Err, List, [], ◌∷◌, drop, length, map}
+use Rattle.std.specs.Prelude.{◌≡◌, ◌+◌, ◌<◌, ◌≤◌, ◌⊎◌, ℕ, Bool, true, false, eqb, Option, Some, None, Result, Ok, Err, List, [], ◌∷◌, drop, length, map}
 use Rattle.std.specs.List.{AllZip, Contains}
 use Rattle.cf_model.specs.declared.events.Event.{Event}
 use Rattle.cf_model.specs.States.{State, lowest_ready_of}
@@ -24,7 +24,7 @@ use Rattle.cf_pool.specs.declared.pool.Worked.{Worked}
 use Rattle.cf_model.specs.Calling.{CallsOf}
 use Rattle.cf_pool.specs.Calling.{EachCalls, TellsOf, calls_of_all}
 use Rattle.cf_pool.specs.Claims.{WereOpen}
-use Rattle.cf_pool.specs.Runs.{HasEnded, IsLowest, IsWorkedFrom, OfEach, is_any_alone}
+use Rattle.cf_pool.specs.Runs.{HasCome, HasEnded, IsLowest, IsWorkedFrom, OfEach, is_any_alone}
 use Rattle.cf_pool.specs.Works.{Works}
 
 -- the function of each stage is called at most once for the records of all these passes
@@ -46,6 +46,7 @@ pub record Ran (answers : Answers) (d : Desk) (ps : List Pass) (history : List E
   pub closes : Closes d qs history
   pub kept_are : AreKept kept qs
   pub works : AllZip (Works answers) ps qs
+  pub each : OfEach (HasCome answers d) ps qs
   pub fit : AllFit d.setting.plan history (map pass_kept kept)
   pub once : AreCalledOnce kept
   pub one : IsOneHistory d.setting.plan d.setting.functions history (map caller_kept kept)
@@ -76,6 +77,11 @@ pub record RunTells (answers : Answers) (d : Desk) (ps : List Pass) (fault : Des
   pub due : IsDueToTell d.words ran.qs closed.history.items fault
   pub caller : ℕ
   pub lowest : IsLowest answers d ps ran.qs caller fault
+
+-- what a run leaves, as it is told where no thread was refused
+abbrev pub IsLeft : {M : Type 0} → Answers → Desk → List Pass → Left M → Type 0
+IsLeft answers d ps left =
+    RanOut answers d ps left.closed.history.items left.closed.passes.items left.closed.graph.state ⊎ ((fault : DeskFault) × RunTells answers d ps fault left.closed)
 
 -- each worker has called its functions for the claims that its pass was granted
 abbrev pub HaveCalled : {M : Type 0} → TellsOf M → CallsOf M → List Pass → List M → Left M → Type 0
@@ -110,6 +116,6 @@ IsForRoom (ToldDesk fault left) = ⊥
 abbrev pub RunRefuses : {M : Type 0} → TellsOf M → CallsOf M → Answers → Desk → List Pass → List M → PoolFault M → Type 0
 RunRefuses tells calls answers d ps ms (NoMemory unbegun) = IsAsBefore d ps ms unbegun
 RunRefuses tells calls answers d ps ms (NoThread left) =
-    Ran answers d ps left.closed.history.items left.closed.passes.items left.closed.graph.state × HaveCalled tells calls ps ms left × HadThreads answers d ps left true
+    IsLeft answers d ps left × HaveCalled tells calls ps ms left × HadThreads answers d ps left true
 RunRefuses tells calls answers d ps ms (ToldDesk fault left) =
     RunTells answers d ps fault left.closed × HaveCalled tells calls ps ms left × HadThreads answers d ps left false

@@ -53,6 +53,10 @@ pub record WasStopped (answers : Answers) (d : Desk) (fault : DeskFault) (p q : 
   pub stops : Stops answers d p stopped fault
   pub since : SeesMore stopped q
 
+-- a worker has come to its end, or to this fault, which stopped it
+abbrev pub HasCome : Answers → Desk → ℕ → Pass → Pass → Type 0
+HasCome answers d patience p q = (stop : Option DeskFault) × MatchOption stop (HasEnded answers d patience p q) (λ fault. WasStopped answers d fault p q)
+
 -- The same of each pass, by how often it looks before it ends: the caller's own, which comes first, once, and each worker's 1,000
 -- times.
 abbrev pub OfEach : (ℕ → Pass → Pass → Type 0) → List Pass → List Pass → Type 0

@@ -31,6 +31,7 @@ returns-in-Ok-clause-called g c = record {
   room = c.in-Some.sizes.1;
   passes = c.in_ok-desk.passes.items;
   begun = c.in_ok-desk.ensures.begun;
+  ran = c.in-Ok.ensures.ran;
   called = c.in-Ok.ensures.called;
   threads = c.in-Ok.ensures.threads;
 }

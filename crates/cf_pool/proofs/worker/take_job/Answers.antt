@@ -1,8 +1,7 @@
 use Rattle.std.proofs.Common.{◌∙◌, sym, Some, rules}
 use Rattle.cf_model.specs.declared.calls.Call.TheVariants.{Claim}
 use Rattle.cf_desk.specs.Faults.{HasRoom}
-use Rattle.cf_desk.specs.Views.{Acts, state_of}
-use Rattle.cf_pool.specs.Answering.{MayAnswer}
+use Rattle.cf_desk.specs.Views.{Acts}
 use Rattle.cf_pool.proofs.Jobs.{adds_claim, adds_granted, adds_stops, claim_meets, does_both, does_claim, finish_meets, finish_stops, ready_is, still_there}
 use Rattle.cf_pool.proofs.Calling.{calls_both, calls_claim, calls_follows, calls_granted}
 use Rattle.cf_pool.proofs.Working.{acts_known, acts_looks, refuses_known}
