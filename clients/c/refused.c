@@ -214,6 +214,8 @@ static void by_handles(void) {
   ROW(cf_close_add(NULL, &other_caller), CF_NULL);
   ROW(cf_desk_meet(&held[CALLER], &held[GRAPH]), CF_WRONG_KIND);
   ROW(cf_desk_meet(&held[CALLER], NULL), CF_NULL);
+  ROW(cf_desk_notice(&held[CALLER], NULL), CF_NULL);
+  ROW(cf_desk_heed(&held[CALLER], NULL), CF_NULL);
   cf_free(NULL);
   cf_free(&empty);
   HOLDS(other_caller.full && held[CALLER].full && held[CLOSING].full);
