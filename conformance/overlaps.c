@@ -14,13 +14,14 @@
 #include "cf.h"
 #include <inttypes.h>
 #include <pthread.h>
+#include <sched.h>
 #include <stdatomic.h>
 #include <stdio.h>
 #include <stdlib.h>
 #include <string.h>
 
 enum { THREADS = 8, CALLS = 3, STAGES = 3, ROUNDS = 64, MOST = THREADS * CALLS, LOG = ROUNDS * MOST };
-enum { TRIES = 100, MOMENT = 20000, SHOWN = 3 };
+enum { TRIES = 100, SPINS = 200, MOMENT = 20000, SHOWN = 3 };
 
 static void must(bool is_so, const char *what) {
   if (is_so) return;
@@ -328,7 +329,7 @@ static void make(cf_handle *caller, uint16_t first, struct call *c) {
 struct person { uint32_t number; uint64_t chance; struct judge judge; uint64_t wrong, rounds, overlapped, calls, beside; };
 static struct person people[THREADS];
 static uint64_t wanted, served, wrong_histories;
-static pthread_barrier_t barrier;
+static atomic_uint arrived, turn;
 static bool is_over;
 
 static uint64_t chance(struct person *me, uint64_t below) {
@@ -336,7 +337,17 @@ static uint64_t chance(struct person *me, uint64_t below) {
   return (me->chance >> 20) % below;
 }
 
-static void meet(void) { pthread_barrier_wait(&barrier); }
+/* Waits until all threads are here. It yields and doesn't sleep, so that threads go on together where processors are rare. */
+static void meet(void) {
+  const unsigned now = atomic_load(&turn);
+  if (atomic_fetch_add(&arrived, 1) == THREADS - 1) {
+    atomic_store(&arrived, 0);
+    atomic_store(&turn, now + 1);
+    return;
+  }
+  for (uint32_t spins = 1; atomic_load(&turn) == now; spins++)
+    if (spins % SPINS == 0) sched_yield();
+}
 
 /* Waits a moment for another thread, so that two begin a round together, where the machine has processors for both. */
 static void begin(atomic_uint *begun) {
@@ -490,7 +501,6 @@ int main(int n, char **words) {
     people[t].number = t, people[t].judge = new_judge();
     people[t].chance = (seed + 1) * 0x9e3779b97f4a7c15u + (t + 1) * 0xbf58476d1ce4e5b9u;
   }
-  must(pthread_barrier_init(&barrier, NULL, THREADS) == 0, "no barrier");
   open_desk(&people[0]);
   for (uint32_t t = 0; t < THREADS; t++) must(pthread_create(&threads[t], NULL, take_part, &people[t]) == 0, "no thread");
   for (uint32_t t = 0; t < THREADS; t++) {
