@@ -209,7 +209,7 @@ fn one_bit_off_is_another_event_or_none(rt: HostRuntime) {
     for (_, word) in &ROWS {
         good = good.saturating_add(count_near(&rt, *word));
     }
-    same(&rt, good, 468);
+    same(&rt, good, 506);
 }
 
 /// The plan of one supply.

@@ -165,7 +165,7 @@ fn fitting_room_is_taken(rt: HostRuntime) {
 
 const IN_PLACE: [Refused; 8] = [
     (
-        r#"{"cf":3,"room":-1,"stages":[]}"#,
+        r#"{"cf":4,"room":-1,"stages":[]}"#,
         ReadingFault::Shape(Part::Version),
     ),
     (
