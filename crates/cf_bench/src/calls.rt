@@ -6,7 +6,7 @@ use crate::graphs::graph_of;
 use crate::shape::{Shape, no_plan, plan_of};
 use crate::times::{Shown, Times, Work, measured};
 use cf_core::Graph;
-use cf_desk::{Ask, Call, Desk, Pass};
+use cf_desk::{Ask, Call, Desk, DeskSizes, Pass};
 use cf_forms::Answer;
 use cf_model::{Claimed, Finished, Reply, Told};
 use cf_outcome::{Outcome, Value};
@@ -346,7 +346,12 @@ fn open(alloc: Global) -> Result<(Desk, Vec<Pass>)>
 fn open_of(alloc: Global, plan: Plan) -> Result<(Desk, Vec<Pass>)>
     ensures table { IfOk result (λ r. All (λ p. p.table ≡ r.0.table) r.1.items) }
 {
-    match Desk::open(alloc, plan, 1, 2 * STAGES, 3 * STAGES) {
+    let sizes = DeskSizes {
+        callers: 1,
+        log: 2 * STAGES,
+        calls: 3 * STAGES,
+    };
+    match Desk::open(alloc, plan, sizes) {
         Ok(opened) => Ok(opened),
         Err(_) => Err(no_desk()),
     }

@@ -5,7 +5,7 @@ ghost use Rattle.cf_desk.specs.Views.{IsOf};
 use crate::shape::{Shape, no_plan, plan_of};
 use crate::times::{Shown, Times, Work, measured};
 use crate::work::{OneMore, checksum};
-use cf_desk::{Call, Closed, Desk, Pass};
+use cf_desk::{Call, Closed, Desk, DeskSizes, Pass};
 use cf_outcome::Value;
 use cf_plan::Plan;
 use cf_pool::{NoGate, Shared, work};
@@ -59,7 +59,12 @@ fn used(alloc: Global, plan: &Plan, callers: u8) -> Result<Closed> {
 }
 
 fn used_of(alloc: Global, plan: Plan, callers: u8) -> Result<Closed> {
-    match Desk::open(alloc, plan, callers, ROOM, ROOM) {
+    let sizes = DeskSizes {
+        callers,
+        log: ROOM,
+        calls: ROOM,
+    };
+    match Desk::open(alloc, plan, sizes) {
         Ok((desk, passes)) => closed(desk, passes),
         Err(_) => Err(no_desk()),
     }

@@ -1,23 +1,24 @@
-//! Builds and settles graphs of five shapes at three sizes, and what else takes time.
+//! Builds and settles graphs of five shapes at three sizes, and measures other calls that take time.
 //!
-//! Without words it prints checksums of the outcomes of each, which don't depend on the machine: settled by a claim and a
-//! finish for each stage, by one call of `work`, and by one call of `work` after a restart. Then those of the report of a
-//! script of 1 MiB, of stages that are attached one by one, of 1, 2 and 4 threads that complete the same 4,095 stages
-//! through one desk, and of a desk over a chain of 16 stages.
+//! Without arguments it prints checksums of the outcomes, which don't depend on the machine. Each graph is settled in three
+//! ways: by a claim and a finish for each stage, by one call of `work`, and by one call of `work` after a restart. Then come
+//! the checksums of the report of a script of 1 MiB, of stages that are attached one by one, of 1, 2 and 4 threads that
+//! complete the same 4,095 stages through one desk, and of a desk over a chain of 16 stages.
 //!
-//! With the word `time` it prints how long each takes: the best and the median of many rounds, in picoseconds, and how
-//! many rounds there were.
+//! With the argument `time` it prints how long each takes: the best and the median of many rounds, in picoseconds, and the
+//! number of rounds.
 //!
-//! - `from scratch`: a plan is built with its room, and a graph of it, and the graph is settled; a stage of it.
-//! - `per request`: a graph that is there is restarted and settled; a stage of it.
-//! - `json`: the bytes of the script are read as JSON, and the value is let go.
-//! - `script`: the script is run.
-//! - `attach`: a stage is attached.
-//! - `race`: so many threads complete the same stages, from when all are there to the end of the last; a stage of it.
-//! - `desk`: a desk for so many callers is opened of a plan that is there, its 16 stages are settled and seen by each
-//!   caller, and it is closed; all of it.
+//! - `from scratch`: building a plan with its room and a graph of it, and settling the graph; per stage.
+//! - `per request`: restarting a graph and settling it; per stage.
+//! - `json`: reading the bytes of the script as JSON, and dropping the value.
+//! - `script`: running the script.
+//! - `attach`: attaching a stage.
+//! - `race`: completing the same stages by several threads, from when all threads are there to the end of the last; per
+//!   stage.
+//! - `desk`: opening a desk for several callers over a plan, settling its 16 stages, letting each caller see them, and
+//!   closing the desk; all of it together.
 //! - `read`: a read that finds nothing new.
-//! - `call graph`, `call desk`: a call of each kind over a fan-out of 512, of a graph and of a desk's one caller; and a
+//! - `call graph`, `call desk`: a call of each kind over a fan-out of 512, on a graph and on a desk with one caller; and a
 //!   completion of a source of an allOf of 512.
 #![tactic(auto)]
 

@@ -5,7 +5,7 @@ use crate::desk::{checksum_of, no_desk, not_closed};
 use crate::gate::Gate;
 use crate::shape::no_plan;
 use crate::times::{Shown, Times, Work, measured};
-use cf_desk::{Ask, Call, Closed, Desk, Pass};
+use cf_desk::{Ask, Call, Closed, Desk, DeskSizes, Pass};
 use cf_forms::Form;
 use cf_outcome::Value;
 use cf_plan::{Plan, PlanBuilder, PlanFault};
@@ -43,12 +43,12 @@ fn add_sources(builder: &mut PlanBuilder) -> Result<(), PlanFault> {
 }
 
 /// A desk over sources, and its passes.
-fn open(alloc: Global, callers: u8, log: u16, calls: u16) -> io::Result<(Desk, Vec<Pass>)>
+fn open(alloc: Global, sizes: DeskSizes) -> io::Result<(Desk, Vec<Pass>)>
     ensures table { IfOk result (λ r. All (λ p. p.table ≡ r.0.table) r.1.items) }
     ensures count { IfOk result (λ r. vec_len r.1 ≡ r.0.setting.callers) }
 {
     let plan = sources(alloc)?;
-    match Desk::open(alloc, plan, callers, log, calls) {
+    match Desk::open(alloc, plan, sizes) {
         Ok(opened) => Ok(opened),
         Err(_) => Err(no_desk()),
     }
@@ -96,8 +96,12 @@ fn raced_through<R: Clock + Threads + Sync>(
     gate: &Gate,
     callers: u8,
 ) -> io::Result<Closed> {
-    let log = u16::from(callers).saturating_mul(STAGES);
-    let (desk, mut passes) = open(alloc, callers, log, STAGES)?;
+    let sizes = DeskSizes {
+        callers,
+        log: u16::from(callers).saturating_mul(STAGES),
+        calls: STAGES,
+    };
+    let (desk, mut passes) = open(alloc, sizes)?;
     race(rt, gate, &desk, passes.as_mut_slice());
     match desk.close(passes) {
         Ok(closed) => Ok(closed),
@@ -176,7 +180,12 @@ struct Reads {
 
 impl<R: Clock> Work<R> for Reads {
     fn round(&mut self, rt: &R, times: &mut Times) -> io::Result<()> {
-        let (desk, mut passes) = open(self.alloc, 1, 1, READS)?;
+        let sizes = DeskSizes {
+            callers: 1,
+            log: 1,
+            calls: READS,
+        };
+        let (desk, mut passes) = open(self.alloc, sizes)?;
         let added = read_timed(rt, &desk, passes.as_mut_slice(), times);
         drop(passes);
         drop(desk);

@@ -38,7 +38,7 @@ impl BitSet {
         })
     }
 
-    /// Below which its numbers are, at most 4,096.
+    /// The bound below which all of its numbers are. It is at most 4,096.
     pub fn bound(&self) -> u16
         ensures bound { result ≡ length self.now }
         ensures few { result ≤ 4096 }

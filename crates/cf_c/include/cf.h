@@ -1,30 +1,90 @@
 /* Completable futures that are proved, for C.
  *
- * Java's CompletableFuture (Java SE 17) over numbered stages: callers complete, fail and cancel stages, claim the function of a ready
- * one and finish it with what the function answered; limits fire when a moment is handed in.
+ * The library does what Java's CompletableFuture (Java SE 17) does, over stages that have numbers. Your program
+ * completes, fails and cancels stages. It claims the function of a stage that is ready, calls this function itself,
+ * and finishes the stage with what the function answered. Time limits fire when your program hands in a moment. The
+ * library starts no thread and reads no clock. No call sleeps or waits for another thread.
  *
- * A handle is a builder (cf_builder_new), a plan (cf_build), a graph that one thread has alone (cf_graph_new), a sweep of one
- * (cf_sweep_begin), a ledger, which is a graph under one lock with the words of all that was done to it (cf_ledger_new), or one of the
- * callers of a desk (cf_desk_open), which is a graph that several threads share without a lock: each thread has a caller's handle of its
- * own. A desk ends as a closing (cf_close_begin) and a closed desk (cf_close_end). An empty handle is all bytes 0: `cf_handle h = {0};`.
+ * docs/C.md has a first program, the life of a desk step by step, and what is proved of each call. clients/c has
+ * programs for each group of calls.
  *
- * What C owes, and nothing can check (docs/C.md has more):
- *   - a handle isn't copied and then used twice; it may be moved, by memcpy too, if the old one isn't used again;
- *   - one call at a time has a handle, and the handles of one call are different ones; no handle is another thread's meanwhile;
- *   - the callers of cf_desk_meet, the caller and the notice of cf_desk_heed, and the callers given to one closing, are of one desk; where they
- *     are seen not to be, CF_OTHER_DESK is told;
- *   - each pointer is aligned, and to as many elements as said, in memory that no other call uses meanwhile.
- * A null pointer is answered CF_NULL, unless a count or a room follows it that is 0; cf_free of one does nothing.
+ * Terms of this header:
+ *   - A stage is one completable future. It is known by its number, counted from 0.
+ *   - A stage's sources are the stages from which it takes an outcome. They have lower numbers. One mention of a source
+ *     by a stage is an edge.
+ *   - A stage is settled once it has an outcome, which is a value or a fault. It keeps this outcome.
+ *   - A stage's function is known to the library by a number alone. Your program has the code.
+ *   - A stage is ready once its sources have given what its function is for, until it is claimed or settled.
+ *   - A claim is the right to call the function of a ready stage. It stays open until its caller finishes the stage.
+ *   - A caller is whoever makes calls. In a graph or a ledger it is a number that you choose. On a desk it has a
+ *     handle.
+ *   - The changing calls are complete, fail, fail as, cancel, claim, finish, tick and attach. A changing call together
+ *     with its caller is an event. A history is the events of one graph, in their one order.
+ *   - A word is a number of 64 bits that stands for an event.
+ *   - To attach a stage is to add it to a graph that was opened before. Room is the number of stages that may be
+ *     attached. A parameter `room` after a buffer is something else: the number of elements that the buffer can take.
  *
- * Each call answers a cf_code: 0 where it did what it was asked. What it tells goes through its last pointer then; after any other
- * code that is left as it was, and so is what stands behind the handle, but as cf_build, cf_next, cf_round, cf_work, cf_sweep_next,
- * cf_desk_next, cf_desk_complete_many, cf_ledger_of, cf_ledger_step, cf_ledger_apply_all and cf_run_script say, and a desk's caller may
- * have looked. Every call on an empty handle answers CF_EMPTY, and one on a handle of another kind CF_WRONG_KIND; neither changes anything.
+ * All that the library makes stands behind handles. These are the kinds:
+ *   - a builder: a plan that is being built (cf_builder_new);
+ *   - a plan: a list of stages, and of time limits (cf_build);
+ *   - a graph: the stages of a plan with how far each has come, for one thread alone (cf_graph_new);
+ *   - a sweep: a graph while one walk up through all its stages is under way (cf_sweep_begin);
+ *   - a ledger: a graph that also keeps the word of each event, for one thread or for several under a lock of yours
+ *     (cf_ledger_new);
+ *   - a caller of a desk: a desk is a graph that several threads share without a lock, and each thread has a caller's
+ *     handle of its own (cf_desk_open);
+ *   - a notice: what a caller of a desk has seen, for another thread (cf_desk_notice);
+ *   - a closing: a desk whose callers are being given back (cf_close_begin);
+ *   - a closed desk (cf_close_end).
  *
- * A function in this header stands for the call before it, which takes by pointer what the function takes by value.
+ * Your program has to keep these rules, which the library can't check (docs/C.md has more):
+ *   - A handle isn't copied and then used twice. It may be moved, by memcpy too, if the old one isn't used again.
+ *   - Only one call at a time uses a handle, and no other thread uses it meanwhile. The handles of one call are
+ *     different ones.
+ *   - The two callers of a cf_desk_meet are of one desk. So are the caller and the notice of a cf_desk_heed, and all
+ *     callers that are given to one closing. If they aren't, the call answers CF_OTHER_DESK and does nothing. It can
+ *     miss this if another thread makes such a call, or a notice, with a caller of the second desk at the same moment.
+ *     Then nothing is promised of the two desks.
+ *   - Each pointer is aligned. It leads to as many elements as the call is told, in memory that no other call uses
+ *     meanwhile.
  *
- * Building and opening take memory, and so do cf_ledger_apply, cf_ledger_step, cf_ledger_apply_all, cf_ledger_grow, cf_close_begin and
- * cf_run_script; no other call takes any. */
+ * Threads. Any thread may make a call, if it keeps these rules. A handle may go to another thread if the move is
+ * ordered by a lock, by the start or the end of a thread, or by a sequentially consistent atomic. Calls with
+ * different handles may run at the same time. This goes also for the callers of one desk, and for a plan and what
+ * was opened from it. Calls without a handle may be made at any time.
+ *
+ * Memory. What stands behind a handle is freed by cf_free. What you pass by a pointer stays yours: the library
+ * copies what it needs, and keeps no pointer of yours once the call has returned. These calls take memory, and
+ * answer CF_NO_MEMORY if it is refused: cf_builder_new, cf_builder_stage, cf_builder_limit, cf_build, cf_graph_new,
+ * cf_plan_of, cf_desk_open, cf_desk_open_with, cf_desk_notice, cf_close_begin, cf_ledger_new, cf_ledger_of,
+ * cf_ledger_apply, cf_ledger_step, cf_ledger_apply_all, cf_ledger_grow and cf_run_script. No other call takes any.
+ *
+ * Codes. Each call answers a cf_code, except cf_free and the last four calls of this header. The code is CF_OK (0)
+ * if the call did what it was asked. The comments list the other codes of each call. If several apply, the call
+ * answers the first of them in the order of the list. These three may come from any call with a pointer or a handle,
+ * so the lists leave them out:
+ *   - CF_NULL: a pointer is null that may not be. It comes before all other codes. A pointer to an array or a buffer
+ *     may be null if the count `n` or the `room` that follows it is 0. The comments name the other pointers that may be
+ *     null.
+ *   - CF_EMPTY: nothing stands behind the handle.
+ *   - CF_WRONG_KIND: something of another kind stands behind the handle. Like CF_EMPTY it comes before the codes of the
+ *     list, unless the list has it in another place.
+ *
+ * Results. A call writes its results through pointers, if it answers CF_OK. If it answers another code, it has
+ * written nothing, and nothing behind a handle has changed. These are the exceptions:
+ *   - cf_next, cf_round, cf_sweep_next and cf_ledger_step have done their work also if they answer CF_NOTHING. This
+ *     code says that no ready stage was left to claim.
+ *   - cf_desk_next may have done a part of its work.
+ *   - cf_work, cf_desk_complete_many and cf_ledger_apply_all have done their work up to the point where they stopped,
+ *     and tell how far they came.
+ *   - cf_build leaves an empty builder behind the handle if it answers CF_NO_MEMORY.
+ *   - cf_ledger_of tells the place of a word that can't be done.
+ *   - cf_run_script writes the report also if it answers CF_BAD_SCRIPT.
+ *   - A caller of a desk may have looked, and so have seen more events.
+ *   - A graph may have taken turns, which only cf_turns shows.
+ *
+ * Each `static inline` function of this header calls the function above it, which takes a struct by a pointer. The
+ * inline function takes this struct by value, or its fields. The library doesn't export it. */
 #ifndef CF_H
 #define CF_H
 #include <stdbool.h>
@@ -34,48 +94,51 @@
 extern "C" {
 #endif
 
+/* A handle. An empty one has only bytes of 0: `cf_handle h = {0};` makes one. Your program keeps the 16 bytes of a
+ * handle. It never reads them, and writes nothing into them but the 0 of an empty handle. */
 typedef struct { void *at; bool full; } cf_handle;
 
-/* What a call answers. 1 to 9 are the faults of plans, by their numbers. */
+/* What a call answers. 1 to 9 are the reasons for which a builder refuses a stage or a limit. Where docs/FORMATS.md
+ * numbers such reasons, it uses the same numbers. */
 typedef enum {
-  CF_OK = 0,
+  CF_OK = 0,                  /* the call did what it was asked */
   CF_TOO_MANY_STAGES = 1,     /* the plan has 4,096 stages already */
-  CF_SOURCE_NOT_LOWER = 2,    /* a source isn't below the new stage's number */
-  CF_WRONG_SOURCE_COUNT = 3,  /* the number of sources isn't the form's */
-  CF_FUNCTION_MISSING = 4,    /* the form has a function and none is given */
-  CF_FUNCTION_UNWANTED = 5,   /* the form has no function and one is given */
-  CF_TOO_MANY_EDGES = 6,      /* there would be more than 16,384 mentions of sources */
+  CF_SOURCE_NOT_LOWER = 2,    /* the number of a source isn't below the new stage's number */
+  CF_WRONG_SOURCE_COUNT = 3,  /* the form takes another number of sources, or an attached stage has more than two */
+  CF_FUNCTION_MISSING = 4,    /* the form has a function, and none is given */
+  CF_FUNCTION_UNWANTED = 5,   /* the form has no function, and one is given */
+  CF_TOO_MANY_EDGES = 6,      /* the plan would have more than 16,384 edges */
   CF_NO_SUCH_STAGE = 7,       /* a limit names a stage that isn't in the plan yet */
   CF_NO_MEMORY = 8,           /* memory was refused */
   CF_TOO_MANY_LIMITS = 9,     /* the plan has 4,096 limits already */
   CF_EMPTY = 10,              /* nothing stands behind the handle */
   CF_FULL = 11,               /* something stands behind a handle that has to be empty */
   CF_WRONG_KIND = 12,         /* something of another kind stands behind the handle */
-  CF_NO_SUCH_NUMBER = 13,     /* no form, no call of an event and no code has this number */
+  CF_NO_SUCH_NUMBER = 13,     /* no form, call of an event, kind of failure or code has this number */
   CF_NO_STAGE = 14,           /* a stage that the call names isn't there */
-  CF_BAD_ATTACH = 15,         /* an attached stage doesn't fit its form */
-  CF_ROOM = 16,               /* with the room there would be over 4,096 stages, or, two for each place, over 16,384 edges */
-  CF_NOTHING = 17,            /* there is none: no ready stage, no function, no event or record at a place */
-  CF_CALLERS = 18,            /* a desk is to have no caller, or more than 64 */
-  CF_LOG = 19,                /* a desk's log is to hold nothing */
-  CF_CALLS = 20,              /* a desk's callers are to hold no record */
-  CF_FUNCTIONS = 21,          /* a function of the plan isn't below the number of functions */
+  CF_BAD_ATTACH = 15,         /* an attached stage doesn't fit its form, or its function isn't one of the desk's */
+  CF_ROOM = 16,               /* stages plus room would be over 4,096, or edges plus twice the room over 16,384 */
+  CF_NOTHING = 17,            /* there is none: no ready stage, no function, or no event or record at this place */
+  CF_CALLERS = 18,            /* a desk has to have 1 to 64 callers */
+  CF_LOG = 19,                /* a desk's log has to hold at least one event */
+  CF_CALLS = 20,              /* a desk's callers have to hold at least one record each */
+  CF_FUNCTIONS = 21,          /* a stage's function isn't below the number of functions, or the pointer to it is null */
   CF_PASS_FULL = 22,          /* the caller holds as many records as it may */
-  CF_LOG_FULL = 23,           /* the desk's log is full */
-  CF_OTHER_DESK = 24,         /* the two callers aren't of one desk */
-  CF_NOT_ALL = 25,            /* callers of the desk weren't given back yet */
-  CF_NO_WORD = 26,            /* the word is no event's, or the event has no word */
-  CF_BAD_SCRIPT = 27,         /* the script has a fault, whose line stands in the report */
-  CF_STILL_SHARED = 28,       /* all callers were given back, and the desk is held all the same */
-  CF_NOT_HELD = 29,           /* the caller hasn't claimed the stage that its task holds */
+  CF_LOG_FULL = 23,           /* the desk's log is full, and stays so */
+  CF_OTHER_DESK = 24,         /* the two handles aren't of one desk */
+  CF_NOT_ALL = 25,            /* not all callers of the desk were given back */
+  CF_NO_WORD = 26,            /* the word stands for no event, or the event has no word */
+  CF_BAD_SCRIPT = 27,         /* the script has a fault, whose line is in the report */
+  CF_STILL_SHARED = 28,       /* all callers were given back, but something still holds the desk */
+  CF_NOT_HELD = 29,           /* the caller has no open claim of the stage in its task; for sweeps see cf_sweep_next */
   CF_NO_ROOM = 30,            /* a ledger has no room for the stage that a word attaches */
   CF_LOST = 31,               /* another caller of the desk claimed or settled the stage first */
-  CF_NOT_OVER = 32,           /* a sweep hasn't all stages behind it yet */
+  CF_NOT_OVER = 32,           /* not all stages are behind the sweep yet */
   CF_NULL = 255               /* a pointer is null that may not be; nothing was done */
 } cf_code;
 
-/* Forms of stages, for the methods of Java's CompletionStage, with how many sources each takes. All but CF_SOURCE, CF_ALL_OF and
- * CF_ANY_OF have a function. */
+/* The forms of stages. After each stands how many sources it takes, and which method of Java it is. All but
+ * CF_SOURCE, CF_ALL_OF and CF_ANY_OF have a function. docs/FORMATS.md says what each form does. */
 enum {
   CF_SOURCE = 0,               /* none: a new CompletableFuture */
   CF_SUPPLY = 1,               /* none: supplyAsync */
@@ -98,170 +161,390 @@ enum {
   CF_EXCEPTIONALLY_COMPOSE = 18 /* one: exceptionallyCompose */
 };
 
-/* No function: any number above 65,535. */
+/* Stands for no function, in the calls that take the number of a function. Any other number above 65,535 means the
+ * same. */
 #define CF_NO_FUNCTION UINT32_MAX
 
-/* A value: nothing (Java's null), or a number. Any kind but CF_NIL is a number. */
+/* A value: nothing (Java's null), or a number.
+ *   - kind: CF_NIL for nothing. Any other kind is read as CF_INT.
+ *   - number: the number. It is ignored for CF_NIL, and the library writes 0 there. */
 enum { CF_NIL = 0, CF_INT = 1 };
 typedef struct { uint32_t kind; int32_t number; } cf_value;
 
-/* What a stage's function answers: the value, a throw of the code, or, of CF_COMPOSE and CF_EXCEPTIONALLY_COMPOSE, the stage, whose
- * outcome the stage then takes over. Any kind but the first two is a link. It links to a stage below its own, so a planned stage
- * never to an attached one. Another link, a link of another form, and a value of these two end in CF_BAD_ANSWER. The value is left
- * aside of forms that give none (accept .., run ..), and of CF_WHEN_COMPLETE, which keeps its source's; its throw counts where
- * its source has no fault. */
+/* What a stage's function answered. Your program writes it.
+ *   - kind: CF_GIVE for a value, CF_THROW for an exception. Any other kind is read as CF_LINK, which names another
+ *     stage.
+ *   - code: the code of the exception, if the kind is CF_THROW.
+ *   - value: the value, if the kind is CF_GIVE.
+ *   - stage: the other stage, if the kind is CF_LINK.
+ *
+ * What the stage ends as by this answer:
+ *   - CF_GIVE: the value. CF_RUN_ASYNC, CF_ACCEPT, CF_THEN_RUN, CF_ACCEPT_BOTH, CF_RUN_BOTH, CF_ACCEPT_EITHER and
+ *     CF_RUN_EITHER ignore the value and end as CF_NIL. CF_WHEN_COMPLETE ignores it, too, and takes over its source's
+ *     outcome.
+ *   - CF_THROW: a fault of the kind CF_THROWN with this code. But a CF_WHEN_COMPLETE whose source has a fault takes
+ *     over that fault.
+ *   - CF_LINK: the stage waits for the other stage and takes over its outcome. Only CF_COMPOSE and
+ *     CF_EXCEPTIONALLY_COMPOSE can link. The other stage's number has to be below the stage's own. So a planned stage
+ *     never links to an attached one.
+ *   - Three answers make it end as CF_BAD_ANSWER: a link to any other stage, a link by any other form, and a value
+ *     given by CF_COMPOSE or CF_EXCEPTIONALLY_COMPOSE. */
 enum { CF_GIVE = 0, CF_THROW = 1, CF_LINK = 2 };
 typedef struct { uint32_t kind; uint32_t code; cf_value value; uint16_t stage; } cf_answer;
 
-/* An outcome, or that there is none yet. `wrapped` (0 or 1): the fault stands inside a CompletionException. `code` is a throw's. */
+/* The outcome of a stage, or that it has none yet. What an outcome doesn't have is 0.
+ *   - kind: CF_PENDING if there is none yet, CF_VALUE, or a fault: CF_THROWN, CF_CANCELLED, CF_TIMED_OUT or
+ *     CF_BAD_ANSWER.
+ *   - wrapped: 1 if it is a fault inside a CompletionException, as Java has it, else 0. On the stage that a call
+ *     failed, timed out or cancelled, or that a limit timed out, the fault isn't wrapped. On every other stage it is.
+ *   - code: the code of the exception, if the kind is CF_THROWN.
+ *   - value: the value, if the kind is CF_VALUE. */
 enum { CF_PENDING = 0, CF_VALUE = 1, CF_THROWN = 2, CF_CANCELLED = 3, CF_TIMED_OUT = 4, CF_BAD_ANSWER = 5 };
 typedef struct { uint32_t kind; uint32_t wrapped; uint32_t code; cf_value value; } cf_outcome;
 
-/* What a stage's function is called with: nothing (supply, run ..), `first`, `first` and `second` (CF_COMBINE, CF_ACCEPT_BOTH), or
- * `outcome` (CF_HANDLE, CF_WHEN_COMPLETE: any; CF_EXCEPTIONALLY, CF_EXCEPTIONALLY_COMPOSE: a fault). Where its sources gave what its
- * function isn't for, such as a fault to CF_APPLY or a value to CF_EXCEPTIONALLY, a stage is settled without it. */
+/* What a stage's function is to be called with, by the kind. What a kind doesn't have is 0.
+ *   - CF_NO_ARGS: nothing (CF_SUPPLY, CF_RUN_ASYNC, CF_THEN_RUN, CF_RUN_BOTH, CF_RUN_EITHER).
+ *   - CF_ONE: the value `first` (CF_APPLY, CF_ACCEPT, CF_COMPOSE, CF_APPLY_EITHER, CF_ACCEPT_EITHER).
+ *   - CF_TWO: the values `first` and `second` (CF_COMBINE, CF_ACCEPT_BOTH).
+ *   - CF_GOT: an outcome. For CF_HANDLE and CF_WHEN_COMPLETE it is any outcome, for CF_EXCEPTIONALLY and
+ *     CF_EXCEPTIONALLY_COMPOSE a fault.
+ *
+ * If the sources gave what the function isn't for, such as a fault to CF_APPLY or a value to CF_EXCEPTIONALLY, the
+ * stage is settled without its function. */
 enum { CF_NO_ARGS = 0, CF_ONE = 1, CF_TWO = 2, CF_GOT = 3 };
 typedef struct { uint32_t kind; cf_value first, second; cf_outcome outcome; } cf_args;
 
-/* What is told of a stage at present: not settled (then `outcome` is the value handed in), its value, its fault
- * as a CompletionException, or a CancellationException. */
+/* What a stage gives at present, as Java's getNow and join tell it.
+ *   - CF_ABSENT: the stage isn't settled. `outcome` is the value that was handed in for this case. cf_desk_join takes
+ *     no such value: there `outcome` is pending.
+ *   - CF_GOT_VALUE: `outcome` is its value.
+ *   - CF_COMPLETION: `outcome` is its fault, as a CompletionException.
+ *   - CF_CANCELLATION: the stage itself was cancelled, for which Java throws a CancellationException. */
 enum { CF_ABSENT = 0, CF_GOT_VALUE = 1, CF_COMPLETION = 2, CF_CANCELLATION = 3 };
 typedef struct { uint32_t kind; cf_outcome outcome; } cf_now;
 
-/* What a changing call is answered. What a call doesn't have is 0.
- *   complete, fail, fail as: `answer` is 1 where the stage was settled by it, else 0; cancel: 1 where the stage is cancelled then, else 0
- *   claim: a CF_GRANTED .., and where granted the `args` of the function; CF_TAKEN also where it waits for the stage it links to
- *   finish: CF_WON where the answer was taken, and with a link the stage waits for that stage then; CF_LATE where the stage was settled
- *     after its claim; CF_NOT_YOURS where this caller hasn't claimed it, or has finished it already
- *   tick: CF_FIRED, and `number` of limits that settled their stage, or CF_PAST, where the moment is before the last
- *   attach: CF_AT, and the `number` of the new stage, which is the next one, or CF_STAGES_FULL */
+/* How a claim went: the `answer` of its reply.
+ *   - CF_GRANTED: the stage was ready, and the caller has claimed it. The `args` of the reply are what its function is
+ *     to be called with.
+ *   - CF_SETTLED: the stage is settled already.
+ *   - CF_TAKEN: the stage is claimed already, or it waits for the stage to which it was linked.
+ *   - CF_NOT_READY: the stage isn't ready yet. */
 enum { CF_GRANTED = 0, CF_SETTLED = 1, CF_TAKEN = 2, CF_NOT_READY = 3 };
+
+/* How a finish went: the `answer` of its reply.
+ *   - CF_WON: the answer was taken. If it was a link, the stage now waits for the other stage, unless that is settled
+ *     already.
+ *   - CF_LATE: the stage was settled after its claim, for instance cancelled. The answer is dropped.
+ *   - CF_NOT_YOURS: this caller hasn't claimed the stage, or has finished it already. */
 enum { CF_WON = 0, CF_LATE = 1, CF_NOT_YOURS = 2 };
+
+/* How a tick went: the `answer` of its reply.
+ *   - CF_FIRED: it is this moment now. The `number` of the reply is how many limits settled their stage.
+ *   - CF_PAST: the moment is before the last one. Nothing has changed. */
 enum { CF_FIRED = 0, CF_PAST = 1 };
+
+/* How an attach went: the `answer` of its reply.
+ *   - CF_AT: the stage was attached. The `number` of the reply is its number, which is the next one.
+ *   - CF_STAGES_FULL: there is no room left. Nothing has changed. */
 enum { CF_AT = 0, CF_STAGES_FULL = 1 };
+
+/* The reply to a changing call. What a reply doesn't have is 0.
+ *   - answer: for claim, finish, tick and attach one of the four lists above. For complete, fail and fail as it is 1 if
+ *     the call settled the stage, else 0. For cancel it is 1 if the stage itself is cancelled then, by this call or by
+ *     an earlier one, else 0.
+ *   - number: for tick and attach, as said above.
+ *   - args: for a claim that was granted, what the function is to be called with. */
 typedef struct { uint32_t answer; uint32_t number; cf_args args; } cf_reply;
 
-/* What a caller has to do: where `held` isn't 0, the stage that it has claimed, with the number of its function and what that is to be
- * called with. `answer` is for what the function answered; the calls that fill the task leave it alone. `finished` is what the finish in the
- * last step was answered: CF_WON, also where nothing was held, or CF_LATE. All bytes 0 is a task that holds nothing. */
+/* What a caller has to do. cf_next and the calls like it fill a task, and take it back at the next step. A task that
+ * has only bytes of 0 holds nothing.
+ *   - held: 0 if the task holds no stage. Otherwise it holds a stage that was claimed for it, and the next three fields
+ *     say which.
+ *   - stage: the number of the stage.
+ *   - function: the number of its function.
+ *   - args: what the function is to be called with.
+ *   - answer: your program writes here what the function answered. The library only reads it.
+ *   - finished: the library writes here how the finish of the last step went: CF_WON, also if nothing was held, or
+ *     CF_LATE. cf_round may write CF_NOT_YOURS, too. */
 typedef struct { uint32_t held; uint16_t stage; uint16_t function; cf_args args; cf_answer answer; uint32_t finished; } cf_task;
 
 /* ---- Any handle ---- */
 
-/* Frees what stands behind a handle, and leaves it empty. A null pointer is left alone. A plan may be freed before its graphs and
- * desks. Callers are freed in any order, each by its thread; the others go on, but the desk can't be closed then. */
+/* Frees what stands behind a handle, and leaves the handle empty. A null pointer and an empty handle are left alone.
+ *   - A plan may be freed before the graphs, ledgers and desks that were opened from it.
+ *   - The callers of a desk may be freed in any order, each by the thread that has its handle. A caller takes its
+ *     records with it. The other callers go on, but their desk can't be closed any more: cf_close_end answers
+ *     CF_NOT_ALL for good. So keep the handle of a thread that has ended, and give it to the closing.
+ *   - A desk is freed with the last of its callers and notices. Freeing a closing frees the callers that it was given,
+ *     too. */
 void cf_free(cf_handle *h);
 
 /* ---- Plans ---- */
 
-/* Puts an empty builder behind an empty handle, with room for so many stages and edges: 0 and 0 will do. CF_FULL, CF_NO_MEMORY. */
+/* A plan is a list of stages, each with its form, its sources and the number of its function, and a list of time
+ * limits. A builder takes them one by one. A plan doesn't change once it is built. Any number of graphs, ledgers and
+ * desks may be opened from it. They share its memory. */
+
+/* Puts an empty builder behind an empty handle.
+ *   - stages, edges: for how many stages and edges the builder takes memory at once. 0 and 0 will do, since it takes
+ *     more when it needs it.
+ *
+ * Codes: CF_FULL, CF_NO_MEMORY. */
 uint32_t cf_builder_new(cf_handle *builder, uint16_t stages, uint16_t edges);
 
-/* Adds a stage of a form to n sources, each below it, and tells its number: 0, 1, .. `of` may be null where n is 0. `function` is the
- * number, up to 65,535, by which you know its function, or CF_NO_FUNCTION. CF_NO_SUCH_NUMBER of a form,
- * CF_TOO_MANY_STAGES, CF_WRONG_SOURCE_COUNT, CF_SOURCE_NOT_LOWER, CF_FUNCTION_MISSING, CF_FUNCTION_UNWANTED, CF_TOO_MANY_EDGES,
- * CF_NO_MEMORY, the first that holds in this order. */
+/* Adds a stage.
+ *   - form: one of the forms, CF_SOURCE to CF_EXCEPTIONALLY_COMPOSE.
+ *   - of, n: the numbers of its n sources. Each is a stage that was added before. A stage may stand there twice.
+ *   - function: the number by which you know its function, at most 65,535, or CF_NO_FUNCTION if the form has none.
+ *     Several stages may have one function.
+ *   - stage: gets the number of the new stage: 0 for the first, then 1, 2, ..
+ *
+ * Codes:
+ *   - CF_NO_SUCH_NUMBER: no form has this number.
+ *   - CF_TOO_MANY_STAGES, CF_WRONG_SOURCE_COUNT, CF_SOURCE_NOT_LOWER, CF_FUNCTION_MISSING, CF_FUNCTION_UNWANTED,
+ *     CF_TOO_MANY_EDGES, CF_NO_MEMORY: as cf_code says. */
 uint32_t cf_builder_stage(cf_handle *builder, uint32_t form, const uint16_t *of, size_t n, uint32_t function, uint16_t *stage);
 
-/* Adds a limit: by the first cf_tick at this moment or later the stage times out (kind 0), or gets the value (any other kind), if it isn't
- * settled by then. CF_NO_SUCH_STAGE, CF_TOO_MANY_LIMITS, CF_NO_MEMORY. */
+/* Adds a time limit to a stage. The limit fires by the first tick at its moment or later. If the stage isn't settled
+ * by then, it times out, or gets a value. If one tick fires several limits, they fire in the order of their moments,
+ * and those of one moment in the order in which they were added.
+ *   - stage: a stage that was added before.
+ *   - at: the moment, in a unit of your choice.
+ *   - kind: CF_TIMEOUT if the stage is to time out. Any other kind is read as CF_GIVE_VALUE.
+ *   - value: the value that the stage gets. It is ignored for CF_TIMEOUT.
+ *
+ * Codes: CF_NO_SUCH_STAGE, CF_TOO_MANY_LIMITS, CF_NO_MEMORY. */
 enum { CF_TIMEOUT = 0, CF_GIVE_VALUE = 1 };
 uint32_t cf_builder_limit(cf_handle *builder, uint16_t stage, uint32_t at, uint32_t kind, cf_value value);
 
-/* Makes the builder behind the handle a plan, of which any number of graphs may be opened. CF_NO_MEMORY leaves an empty
- * builder. */
+/* Makes the builder behind the handle a plan.
+ *
+ * Code: CF_NO_MEMORY. Then an empty builder stands behind the handle, and the plan has to be built again. */
 uint32_t cf_build(cf_handle *builder);
 
-/* ---- Graphs: one thread has one alone ---- */
+/* ---- Graphs: for one thread alone ---- */
 
-/* Puts a graph of the plan behind an empty handle, with room for so many stages that are attached later. The plan stays. CF_FULL,
- * CF_ROOM, CF_NO_MEMORY, in this order. */
+/* A graph is the stages of a plan with how far each has come, and the stages that are attached later. Each call is
+ * answered as if all that follows from the calls before it had been settled at once. So stages whose functions
+ * aren't called, such as CF_ANY_OF, or CF_APPLY of a fault, need no caller.
+ *
+ * `who` is the number of the caller that claims and finishes stages. It may be any number from 0 to 255, but only
+ * events of the callers 0 to 63 have words. */
+
+/* Opens a graph of a plan.
+ *   - plan: the plan. It stays behind its handle.
+ *   - room: how many stages may be attached later.
+ *   - graph: an empty handle, behind which the graph is put.
+ *
+ * Codes:
+ *   - CF_FULL: something stands behind `graph` already.
+ *   - CF_EMPTY, CF_WRONG_KIND: nothing, or something that isn't a plan, stands behind `plan`.
+ *   - CF_ROOM: with so much room there could be over 4,096 stages or 16,384 edges.
+ *   - CF_NO_MEMORY. */
 uint32_t cf_graph_new(cf_handle *plan, uint16_t room, cf_handle *graph);
 
-/* Settle a stage of any form, unless it is settled. cf_fail_as has the kind of an outcome: CF_TIMED_OUT, or, of a stage that stands in
- * for another, CF_BAD_ANSWER; CF_NO_SUCH_NUMBER of any other. CF_NO_STAGE. */
+/* Each of the next four calls settles a stage of any form, unless it is settled already. The reply tells whether it
+ * did. If the stage is claimed, its function may be running in your program. The library can't stop it, and its
+ * finish will be answered CF_LATE.
+ *
+ * Code: CF_NO_STAGE if there is no such stage. */
+
+/* Completes a stage with a value. */
 uint32_t cf_complete(cf_handle *graph, uint16_t stage, cf_value value, cf_reply *reply);
+
+/* Fails a stage with the code of an exception, which may be any number. */
 uint32_t cf_fail(cf_handle *graph, uint16_t stage, uint32_t code, cf_reply *reply);
+
+/* Fails a stage as timed out, or with a bad answer.
+ *   - kind: the kind of the outcome, which is CF_TIMED_OUT or CF_BAD_ANSWER. CF_BAD_ANSWER is meant for a stage that
+ *     stands in for another one, such as one of another graph: your program ends it as the other one has ended.
+ *
+ * Codes: CF_NO_SUCH_NUMBER for any other kind, and then CF_NO_STAGE. */
 uint32_t cf_fail_as(cf_handle *graph, uint16_t stage, uint32_t kind, cf_reply *reply);
+
+/* Cancels a stage. */
 uint32_t cf_cancel(cf_handle *graph, uint16_t stage, cf_reply *reply);
 
-/* Takes a ready stage for a caller of any number, who then runs its function and finishes the stage. A stage is ready once its sources
- * gave what its function is for, until it is claimed or settled. Stages whose functions aren't called, such as anyOf, or apply of a fault,
- * need no caller: each call is answered as if all that follows from the calls before it had been settled at once. CF_NO_STAGE. */
+/* Claims a stage for the caller `who`. If the reply is CF_GRANTED, the caller calls the stage's function with the
+ * `args` of the reply, and then finishes the stage.
+ *
+ * Code: CF_NO_STAGE if there is no such stage. */
 uint32_t cf_claim(cf_handle *graph, uint8_t who, uint16_t stage, cf_reply *reply);
+
+/* Finishes a stage that the caller `who` has claimed, with what the function answered.
+ *
+ * Code: CF_NO_STAGE if there is no such stage. */
 uint32_t cf_finish_with(cf_handle *graph, uint8_t who, uint16_t stage, const cf_answer *answer, cf_reply *reply);
 static inline uint32_t cf_finish(cf_handle *graph, uint8_t who, uint16_t stage, cf_answer answer, cf_reply *reply) {
   return cf_finish_with(graph, who, stage, &answer, reply);
 }
 
-/* One step of a caller's loop: finishes the stage that the task holds with the answer in it, claims the lowest ready stage, and writes it
- * into the task. CF_NOTHING where none is ready then: the task holds nothing, and tells how the finish went. CF_NO_STAGE where the task's
- * stage isn't there, and CF_NOT_HELD where this caller hasn't claimed it, or has finished it already: nothing is changed then, the task
- * neither. */
+/* One step of a caller's loop. It finishes the stage that the task holds, if there is one, with the answer in the
+ * task. Then it claims the lowest ready stage, and writes it into the task. Your program calls the function of this
+ * stage, writes what it answers into the task, and makes the next step.
+ *   - task: all bytes 0 for the first step.
+ *
+ * Codes:
+ *   - CF_NO_STAGE: the stage that the task holds isn't there.
+ *   - CF_NOT_HELD: the caller `who` hasn't claimed the stage that the task holds, or has finished it already.
+ *   - CF_NOTHING: no stage is ready. The finish was done, if there was one. The task holds nothing, and tells how the
+ *     finish went. */
 uint32_t cf_next(cf_handle *graph, uint8_t who, cf_task *task);
 
-/* A step for several tasks of one caller: finishes what they hold, one after another, and then each in turn gets the lowest ready stage,
- * claimed, or holds nothing. `finished` of each tells how its finish went: CF_NOT_YOURS where a task before it held the same stage.
- * CF_NOTHING where no task holds a stage then. CF_NO_STAGE and CF_NOT_HELD as of cf_next, of the first task that can't be finished: nothing
- * is changed then, no task either. `tasks` may be null where n is 0. */
+/* The same step for several tasks of one caller. It finishes what the tasks hold, one after another. Then each task
+ * in turn gets the lowest ready stage, which is claimed for it, or holds nothing if none is ready. Each task tells
+ * how its finish went. That is CF_NOT_YOURS if a task before it held the same stage.
+ *   - tasks, n: the n tasks, all bytes 0 for the first step.
+ *
+ * Codes:
+ *   - CF_NO_STAGE, CF_NOT_HELD: as for cf_next, for the first task whose stage can't be finished. No other task is
+ *     finished, either.
+ *   - CF_NOTHING: no task holds a stage now. All finishes were done. */
 uint32_t cf_round(cf_handle *graph, uint8_t who, cf_task *tasks, size_t n);
 
-/* The whole loop for the caller `who`: as long as a stage is ready it claims the lowest, calls the function that stands at its number among
- * these n, with the context, which may be null, and the task, and finishes it with the answer, which is CF_GIVE of CF_NIL unless the
- * function writes it. `calls` tells how many were called, also with a code of cf_next or CF_FUNCTIONS. CF_FUNCTIONS where the function of a
- * stage isn't there: before any is called, and else once it was attached by a function that was called; its stage isn't claimed. */
+/* A function of yours, as cf_work calls it.
+ *   - context: the pointer that cf_work was given.
+ *   - task: the claimed stage, and what its function is to be called with.
+ *   - answer: the function writes its answer here. It is CF_GIVE of CF_NIL until then. */
 typedef void (*cf_stage_function)(void *context, const cf_task *task, cf_answer *answer);
+
+/* The whole loop of the caller `who`. As long as a stage is ready, it claims the lowest one, calls its function, and
+ * finishes the stage with the answer.
+ *   - functions, n: n pointers to functions. The function with the number k stands at index k. A pointer that no stage
+ *     needs may be null.
+ *   - context: handed on to each function. It may be null.
+ *   - calls: gets how many functions were called, also with the codes below.
+ *
+ * Codes:
+ *   - CF_FUNCTIONS: the function of a stage isn't there. If it is missing at the start, no function is called. If a
+ *     function that was called has attached the stage, that function's own stage is still finished, and the attached
+ *     one isn't claimed.
+ *   - A code of cf_next, if a function has changed the graph so that its own stage can't be finished. */
 uint32_t cf_work(cf_handle *graph, uint8_t who, const cf_stage_function *functions, size_t n, void *context, uint32_t *calls);
 
-/* The loop in one sweep over all stages, which takes the least time a stage. cf_sweep_begin makes the graph behind the handle a sweep, which
- * takes no call but the other two and cf_free, until cf_sweep_end makes it a graph again.
- * cf_sweep_next: the stage that the task holds is settled by the answer in it, as if any caller had claimed and finished it; then the sweep
- * goes on to the lowest ready stage, and writes it into the task, as cf_next does. CF_NOTHING where none is ready then: all stages are behind
- * the sweep, and the task holds nothing. CF_NOT_HELD where the sweep stands at a stage and the task holds another or none, or where the sweep
- * stands at none and the task holds one: nothing is changed then, the task neither.
- * cf_sweep_end: CF_NOT_OVER where stages aren't behind it yet: go on until cf_sweep_next answers CF_NOTHING, or free it. */
+/* Makes the graph behind the handle a sweep. A sweep is a caller's loop in one walk up through all stages. It takes
+ * the least time for each stage. Until cf_sweep_end makes it a graph again, the handle takes only cf_sweep_next,
+ * cf_sweep_end and cf_free. */
 uint32_t cf_sweep_begin(cf_handle *graph);
+
+/* One step of a sweep. The stage that the task holds is settled by the answer in the task, as if any caller had
+ * claimed and finished it. Then the sweep goes on to the lowest ready stage, and writes it into the task, as cf_next
+ * does.
+ *
+ * Codes:
+ *   - CF_NOT_HELD: the sweep stands at a stage and the task doesn't hold it, or the sweep stands at none and the task
+ *     holds one.
+ *   - CF_NOTHING: no stage is ready. If the task held a stage, that was settled. All stages are behind the sweep now,
+ *     and the task holds nothing. */
 uint32_t cf_sweep_next(cf_handle *sweep, cf_task *task);
+
+/* Makes a sweep its graph again.
+ *
+ * Code: CF_NOT_OVER if not all stages are behind the sweep. Go on until cf_sweep_next answers CF_NOTHING, or free
+ * the sweep. */
 uint32_t cf_sweep_end(cf_handle *sweep);
 
-/* Lets it be this moment, in the unit of the plan's limits; limits fire by this alone. A graph is opened, and starts again, at 0. */
+/* Hands in the moment, in the unit of the plan's limits. The limits that are due fire. A limit fires by a tick
+ * alone. The moment of a graph is 0 when it is opened or started again. */
 uint32_t cf_tick(cf_handle *graph, uint32_t now, cf_reply *reply);
 
-/* Attaches a stage to n sources, at most two. CF_NO_SUCH_NUMBER, CF_WRONG_SOURCE_COUNT, CF_NO_STAGE, CF_BAD_ATTACH. */
+/* Attaches a stage, if there is room for it. The reply tells its number. The new stage takes at once what its
+ * settled sources give. It has no time limit, but cf_fail_as can time it out.
+ *   - form, function: as for cf_builder_stage.
+ *   - of, n: the numbers of its n sources, at most two.
+ *
+ * Codes:
+ *   - CF_NO_SUCH_NUMBER: no form has this number.
+ *   - CF_WRONG_SOURCE_COUNT: there are more than two sources.
+ *   - CF_NO_STAGE: a source isn't there.
+ *   - CF_BAD_ATTACH: the form takes another number of sources, or its function is missing or unwanted. */
 uint32_t cf_attach(cf_handle *graph, uint32_t form, const uint16_t *of, size_t n, uint32_t function, cf_reply *reply);
 
-/* The outcome of a stage; what it gives at present; the lowest ready stage, or CF_NOTHING; a stage's function, or CF_NOTHING; how many
- * stages there are by now; how many turns were taken. CF_NO_STAGE. */
+/* Tells the outcome of a stage, or that it is pending.
+ *
+ * Code: CF_NO_STAGE if there is no such stage. */
 uint32_t cf_get(cf_handle *graph, uint16_t stage, cf_outcome *outcome);
+
+/* Tells what a stage gives at present.
+ *   - absent: the value that is told if the stage isn't settled.
+ *
+ * Code: CF_NO_STAGE if there is no such stage. */
 uint32_t cf_get_now(cf_handle *graph, uint16_t stage, cf_value absent, cf_now *now);
+
+/* Tells the lowest ready stage.
+ *
+ * Code: CF_NOTHING if no stage is ready. */
 uint32_t cf_lowest_ready(cf_handle *graph, uint16_t *stage);
+
+/* Tells the number of a stage's function.
+ *
+ * Codes: CF_NO_STAGE if there is no such stage, and CF_NOTHING if it has no function. */
 uint32_t cf_function(cf_handle *graph, uint16_t stage, uint16_t *function);
+
+/* Tells how many stages there are by now, with those that were attached. */
 uint32_t cf_stages(cf_handle *graph, uint16_t *stages);
+
+/* Tells how many turns were taken since the graph was opened or last started again. In a turn a stage takes what its
+ * sources, or the stage to which it is linked, have by then. */
 uint32_t cf_turns(cf_handle *graph, uint64_t *turns);
 
-/* Starts again: the graph is as it was opened, with its room free. It takes no memory. */
+/* Starts the graph again. It is then as it was opened: the attached stages are gone, and all its room is free. */
 uint32_t cf_restart(cf_handle *graph);
 
-/* The same, and then completes these stages with their values, one after another: a request by a plan that is there. CF_NO_STAGE where
- * one of them isn't a stage of the plan: nothing is done then. */
+/* Starts the graph again, and then completes stages with values, one after another. So one call begins the next
+ * request.
+ *   - given, n: n stages of the plan, each with its value.
+ *
+ * Code: CF_NO_STAGE if one of them isn't a stage of the plan. The graph isn't started again then, either. */
 typedef struct { uint16_t stage; cf_value value; } cf_given;
 uint32_t cf_restart_with(cf_handle *graph, const cf_given *given, size_t n);
 
-/* Puts the plan that the graph was opened of behind an empty handle; they share its memory. CF_FULL, CF_EMPTY, CF_WRONG_KIND,
- * CF_NO_MEMORY, the first that holds in this order. */
+/* Puts the plan from which the graph was opened behind an empty handle. The plan and the graph share memory.
+ *
+ * Codes:
+ *   - CF_FULL: something stands behind `plan` already.
+ *   - CF_EMPTY, CF_WRONG_KIND: nothing, or something that isn't a graph, stands behind `graph`.
+ *   - CF_NO_MEMORY. */
 uint32_t cf_plan_of(cf_handle *graph, cf_handle *plan);
 
 /* ---- Desks: a graph that callers on several threads share without a lock ---- */
 
-/* Opens a desk of the plan, and puts its callers 0, 1, .. behind these n empty handles: 1 to 64, each one thread's. `log` is how many
- * changing calls of all callers the desk takes, also those that change nothing, and `calls` how many records each caller holds: one for
- * each of its changing calls that is done, each cf_desk_read, cf_desk_read_now and cf_desk_join. The plan stays. There is no room for
- * more stages: the reply to cf_desk_attach is CF_STAGES_FULL. CF_EMPTY and CF_WRONG_KIND of the plan, CF_FULL where one of the handles
- * isn't empty, CF_CALLERS, CF_LOG, CF_CALLS, CF_NO_MEMORY, the first that holds in this order; all handles are then as they were. */
+/* A desk is a graph that 1 to 64 callers share. Each caller has a handle of its own, which one thread uses at a
+ * time. Calls of different callers may run at the same time.
+ *
+ * The changing calls of all callers stand in one order, the history of the desk. The desk keeps it in its log, which
+ * has a fixed length. Each caller has seen the history up to some place. A look takes the caller from there to the
+ * end of what the log has by then. Each caller also keeps records, which say what it did or asked, and what it was
+ * told. Once the desk is closed, the history, the records and the graph can be read. */
+
+/* Opens a desk of a plan.
+ *   - plan: the plan. It stays behind its handle.
+ *   - callers, n: n empty handles, 1 to 64. The callers 0, 1, .. are put behind them, each for one thread.
+ *   - log: how many changing calls the desk takes from all callers together, 1 to 65,535. Calls that change nothing
+ *     count, too. n times `calls` is always enough.
+ *   - calls: how many records each caller may hold, 1 to 65,535. Each of its changing calls that is done takes one. So
+ *     does each cf_desk_read, cf_desk_read_now and cf_desk_join, so a caller that asks again and again uses its records
+ *     up.
+ *
+ * There is no room for more stages: the reply to cf_desk_attach is CF_STAGES_FULL.
+ *
+ * Codes, which all leave the handles as they were:
+ *   - CF_EMPTY, CF_WRONG_KIND: nothing, or something that isn't a plan, stands behind `plan`.
+ *   - CF_FULL: one of the n handles isn't empty.
+ *   - CF_CALLERS, CF_LOG, CF_CALLS: n, `log` or `calls` is out of its bounds.
+ *   - CF_NO_MEMORY. */
 uint32_t cf_desk_open(cf_handle *plan, cf_handle *callers, size_t n, uint16_t log, uint16_t calls);
 
-/* The same with room for so many stages that callers attach later, whose functions have numbers below `functions`, and at most 4,095;
- * those of the plan have to be below it, too. After CF_CALLS: CF_ROOM, CF_FUNCTIONS, CF_NO_MEMORY, the first that holds in this order. */
+/* Opens a desk to which stages may be attached.
+ *   - plan, callers, n, sizes->log, sizes->calls: as for cf_desk_open.
+ *   - sizes->room: how many stages may be attached.
+ *   - sizes->functions: how many functions there are. The numbers of the plan's functions have to be below it. Those of
+ *     attached stages have to be below it, too, and at most 4,095.
+ *
+ * Codes, which all leave the handles as they were: first those of cf_desk_open up to CF_CALLS, and then these:
+ *   - CF_ROOM: with so much room there could be over 4,096 stages or 16,384 edges.
+ *   - CF_FUNCTIONS: a function of the plan has a number that isn't below sizes->functions.
+ *   - CF_NO_MEMORY. */
 typedef struct { uint16_t log; uint16_t calls; uint16_t room; uint32_t functions; } cf_desk_sizes;
 uint32_t cf_desk_open_with(cf_handle *plan, cf_handle *callers, size_t n, const cf_desk_sizes *sizes);
 static inline uint32_t cf_desk_open_growing(cf_handle *plan, cf_handle *callers, size_t n, uint16_t log, uint16_t calls, uint16_t room,
@@ -271,81 +554,166 @@ static inline uint32_t cf_desk_open_growing(cf_handle *plan, cf_handle *callers,
   return cf_desk_open_with(plan, callers, n, &sizes);
 }
 
-/* The calls of a graph, done by the caller behind the handle and told to all: each has a place in the desk's one history, and its reply
- * is the graph's after the events before that place. A stage that another caller has attached is there for this one once it has looked,
- * and a call that names one that isn't there yet looks first. CF_NO_SUCH_NUMBER of the kind of cf_desk_fail_as and of the form of
- * cf_desk_attach; of that, CF_WRONG_SOURCE_COUNT above two sources; then CF_NO_STAGE, CF_BAD_ATTACH where it doesn't fit its form or its
- * function isn't one of the desk's, CF_PASS_FULL, CF_LOG_FULL, the first that holds. */
+/* The calls from here to cf_desk_attach are the changing calls of a graph, made by the caller behind the handle.
+ * Each call gets a place in the history. Its reply is the one that the graph gives after all events before this
+ * place. A stage that another caller has attached is there for this caller once it has looked. If a call names a
+ * stage that isn't there yet, it looks first.
+ *
+ * These are their codes, of which each call has those that concern it:
+ *   - CF_NO_SUCH_NUMBER: for cf_desk_fail_as, there is no such kind of failure; for cf_desk_attach, no form has this
+ *     number.
+ *   - CF_WRONG_SOURCE_COUNT: for cf_desk_attach, there are more than two sources.
+ *   - CF_NO_STAGE: a stage that the call names isn't there.
+ *   - CF_BAD_ATTACH: for cf_desk_attach, the stage doesn't fit its form, or its function isn't one of the desk's.
+ *   - CF_PASS_FULL: the caller holds as many records as it may.
+ *   - CF_LOG_FULL: the log is full, and stays so. No changing call is done any more. Looks go on, and the desk can be
+ *     closed. */
+
+/* Completes a stage, as cf_complete does. */
 uint32_t cf_desk_complete(cf_handle *caller, uint16_t stage, cf_value value, cf_reply *reply);
+
+/* Fails a stage, as cf_fail does. */
 uint32_t cf_desk_fail(cf_handle *caller, uint16_t stage, uint32_t code, cf_reply *reply);
+
+/* Fails a stage as timed out, or with a bad answer, as cf_fail_as does. */
 uint32_t cf_desk_fail_as(cf_handle *caller, uint16_t stage, uint32_t kind, cf_reply *reply);
+
+/* Cancels a stage, as cf_cancel does. A function that runs for this stage isn't stopped. Its caller can learn of it
+ * by reading the stage. */
 uint32_t cf_desk_cancel(cf_handle *caller, uint16_t stage, cf_reply *reply);
+
+/* Claims a stage for this caller, as cf_claim does. */
 uint32_t cf_desk_claim(cf_handle *caller, uint16_t stage, cf_reply *reply);
+
+/* Finishes a stage that this caller has claimed, as cf_finish_with does. */
 uint32_t cf_desk_finish_with(cf_handle *caller, uint16_t stage, const cf_answer *answer, cf_reply *reply);
 static inline uint32_t cf_desk_finish(cf_handle *caller, uint16_t stage, cf_answer answer, cf_reply *reply) {
   return cf_desk_finish_with(caller, stage, &answer, reply);
 }
+
+/* Hands in the moment, as cf_tick does. */
 uint32_t cf_desk_tick(cf_handle *caller, uint32_t now, cf_reply *reply);
+
+/* Attaches a stage, as cf_attach does. */
 uint32_t cf_desk_attach(cf_handle *caller, uint32_t form, const uint16_t *of, size_t n, uint32_t function, cf_reply *reply);
 
-/* Completes stages one after another, as cf_desk_complete does each, up to the first that is refused, and tells how many were answered, also
- * with the code of the one that is refused: CF_NO_STAGE, CF_PASS_FULL, CF_LOG_FULL. */
+/* Completes stages one after another, as cf_desk_complete does each, up to the first that is refused.
+ *   - given, n: n stages, each with its value.
+ *   - done: gets how many calls were done, also with the codes below.
+ *
+ * Codes: CF_NO_STAGE, CF_PASS_FULL or CF_LOG_FULL, for which the next one was refused. */
 uint32_t cf_desk_complete_many(cf_handle *caller, const cf_given *given, size_t n, size_t *done);
 
-/* One step of a caller's loop, as cf_next does it: finishes the stage that the task holds, looks as cf_desk_ready does, claims the lowest
- * stage that is ready then, and writes it into the task. CF_NOTHING where none is ready then, and CF_LOST where another caller claimed or
- * settled it first: ask again. The finish and the claim take a record and a place of the log each: CF_PASS_FULL and CF_LOG_FULL where
- * there is none. After each of these codes a task that holds nothing is finished, and one that holds a stage is as it was, and so is its
- * claim. CF_NO_STAGE and CF_NOT_HELD, where the task's stage isn't there or this caller has no open claim of it, in what it has seen:
- * nothing is changed then. */
+/* One step of a caller's loop, as cf_next does it. It finishes the stage that the task holds, if there is one. Then
+ * it looks, claims the lowest stage that is ready then, and writes it into the task. The finish and the claim each
+ * take a record and a place of the log.
+ *   - task: all bytes 0 for the first step.
+ *
+ * Codes:
+ *   - CF_NO_STAGE: the stage that the task holds isn't there, in what the caller has seen. Nothing is changed.
+ *   - CF_NOT_HELD: the caller has no open claim of the stage that the task holds, in what it has seen. Nothing is
+ *     changed.
+ *   - CF_PASS_FULL, CF_LOG_FULL: there is no record, or no place of the log, for the finish or for the claim.
+ *   - CF_NOTHING: no stage is ready after the look.
+ *   - CF_LOST: another caller claimed or settled the stage first. The claim has taken a record and a place all the
+ *     same. Ask again.
+ *
+ * After one of the last four codes, look at task->held. If it is 0, the finish was done, and task->finished tells
+ * how it went. Otherwise the finish wasn't done: the task is as it was, and its claim is still open. */
 uint32_t cf_desk_next(cf_handle *caller, cf_task *task);
 
-/* One look at all that is there, and what it tells of the stage, as cf_get and cf_get_now; recorded. CF_NO_STAGE, CF_PASS_FULL. */
+/* Looks once, and tells the outcome of a stage, as cf_get does. It takes a record.
+ *
+ * Codes: CF_NO_STAGE if there is no such stage, and CF_PASS_FULL if the caller holds as many records as it may. */
 uint32_t cf_desk_read(cf_handle *caller, uint16_t stage, cf_outcome *outcome);
+
+/* Looks once, and tells what a stage gives at present, as cf_get_now does. It takes a record.
+ *
+ * Codes: CF_NO_STAGE and CF_PASS_FULL, as for cf_desk_read. */
 uint32_t cf_desk_read_now(cf_handle *caller, uint16_t stage, cf_value absent, cf_now *now);
 
-/* Looks at most so many times (0 is taken for 1) until the stage is settled: CF_GOT_VALUE, CF_COMPLETION, CF_CANCELLATION, or CF_ABSENT
- * with a pending outcome where it wasn't. It doesn't sleep between two looks. One record. CF_NO_STAGE, CF_PASS_FULL. */
+/* Looks until the stage is settled, at most so many times, and tells what the stage gives. It doesn't sleep between
+ * two looks. It takes one record.
+ *   - looks: how many times it looks at most. 0 counts as 1.
+ *   - now: gets what the stage gives. If it wasn't settled after the last look, that is CF_ABSENT with a pending
+ *     outcome.
+ *
+ * Codes: CF_NO_STAGE and CF_PASS_FULL, as for cf_desk_read. */
 uint32_t cf_desk_join(cf_handle *caller, uint16_t stage, uint32_t looks, cf_now *now);
 
-/* The lowest ready stage after a look, or CF_NOTHING; not recorded. Another caller may claim it first. A claim and its finish take a record
- * each: who claims should have two left (cf_desk_left). */
+/* Looks once, and tells the lowest ready stage. It takes no record. Another caller may claim the stage first. A
+ * claim and its finish take a record each, so a caller that wants to claim should have two left (cf_desk_left).
+ *
+ * Code: CF_NOTHING if no stage is ready. */
 uint32_t cf_desk_ready(cf_handle *caller, uint16_t *stage);
 
-/* Lets two callers of one desk, both in this thread's hands, see the longer of what either has seen. CF_OTHER_DESK leaves
- * both as they were. */
+/* Lets two callers of one desk see all that either of them has seen. One thread has the handles of both.
+ *
+ * Code: CF_OTHER_DESK if they aren't of one desk. Both are as they were. */
 uint32_t cf_desk_meet(cf_handle *caller, cf_handle *other);
 
-/* Puts what the caller has seen behind an empty handle: a notice, which may go to another thread by any way. CF_FULL, CF_NO_MEMORY, in this
- * order. Then another caller of the desk heeds it: it sees all of that, so that each later call of it stands behind that in the history. The
- * notice is used up, and its handle empty; CF_OTHER_DESK leaves both as they were. A notice holds its desk, so heed or free it before the
- * desk is closed. */
+/* Puts a notice of what the caller has seen behind an empty handle. The notice may go to another thread in any way.
+ * A notice holds its desk, so it has to be heeded or freed before the desk is closed.
+ *
+ * Codes: CF_FULL if something stands behind `notice` already, and CF_NO_MEMORY. */
 uint32_t cf_desk_notice(cf_handle *caller, cf_handle *notice);
+
+/* Lets the caller see all that the notice tells of. So each later call of this caller comes, in the history, after
+ * all that the other caller had seen when it made the notice. The notice is used up, and its handle is empty then.
+ *
+ * Code: CF_OTHER_DESK if the caller and the notice aren't of one desk. Both are as they were. */
 uint32_t cf_desk_heed(cf_handle *caller, cf_handle *notice);
 
-/* Without a look: how many events the caller has seen; how many records it still takes; the number of a stage's function, or CF_NOTHING,
- * or CF_NO_STAGE where it hasn't seen that stage; the caller's number. */
+/* The calls from here to cf_desk_caller don't look. */
+
+/* Tells how many events the caller has seen. */
 uint32_t cf_desk_seen(cf_handle *caller, uint16_t *events);
+
+/* Tells how many more records the caller takes. */
 uint32_t cf_desk_left(cf_handle *caller, uint16_t *calls);
+
+/* Tells the number of a stage's function.
+ *
+ * Codes: CF_NO_STAGE if the caller hasn't seen such a stage, and CF_NOTHING if the stage has no function. */
 uint32_t cf_desk_function(cf_handle *caller, uint16_t stage, uint16_t *function);
+
+/* Tells the caller's number. */
 uint32_t cf_desk_caller(cf_handle *caller, uint8_t *number);
 
-/* ---- Closing a desk: one thread has all its callers then ---- */
+/* ---- Closing a desk ---- */
 
-/* Begins to close a desk with one of its callers: the handle's caller becomes a closing. CF_NO_MEMORY leaves the caller as it was. */
+/* To close a desk, one thread has to have the handles of all its callers. It begins with one of them, gives the
+ * others back, and ends the closing. */
+
+/* Begins to close a desk. The caller behind the handle becomes a closing.
+ *
+ * Code: CF_NO_MEMORY. The caller is as it was. */
 uint32_t cf_close_begin(cf_handle *caller);
 
-/* Gives one more caller of the same desk back, whose handle is empty then. CF_OTHER_DESK leaves both as they were. */
+/* Gives one more caller of the desk back. Its handle is empty then.
+ *
+ * Code: CF_OTHER_DESK if the caller isn't of the same desk. Both are as they were. */
 uint32_t cf_close_add(cf_handle *closing, cf_handle *caller);
 
-/* Ends it: the closing becomes a closed desk. CF_NOT_ALL where callers are missing, for good where one was freed; CF_STILL_SHARED never
- * comes where no other call is at work on the desk. */
+/* Ends the closing, which becomes a closed desk.
+ *
+ * Codes:
+ *   - CF_NOT_ALL: callers are missing. If one of them was freed, this code comes for good.
+ *   - CF_STILL_SHARED: a notice of the desk is left. Free it, and ask again. If no notice of the desk is left and no
+ *     other call is at work on it, this code doesn't come. That is only tested, not proved. */
 uint32_t cf_close_end(cf_handle *closing);
 
-/* What a caller was told. CF_DID: a changing call as the word of its event (cf_event_of), and its reply; `place` counts the history's
- * events up to and with its own, so its word is cf_closed_word at place - 1. CF_SAW: a look, of which `place` counts the events that
- * were seen. It was asked of the `stage`, and told is `outcome` (CF_ASKED_OUTCOME, as cf_desk_read tells it; so is a join's last look
- * recorded) or, for `absent`, `now` (CF_ASKED_NOW). What a record doesn't have is 0. */
+/* One record of a caller: what it did or asked, and what it was told. What a record doesn't have is 0.
+ *   - kind: CF_DID for a changing call, CF_SAW for a look.
+ *   - place: for CF_DID, where the event of the call stands in the history, counted from 1. So cf_closed_word, which
+ *     counts from 0, tells its word at place - 1. For CF_SAW, how many events were seen.
+ *   - word: for CF_DID, the word of the event. cf_event_of makes the call of it.
+ *   - reply: for CF_DID, the reply.
+ *   - asked: for CF_SAW, what was asked. It is CF_ASKED_OUTCOME for cf_desk_read and for the last look of a
+ *     cf_desk_join, and CF_ASKED_NOW for cf_desk_read_now.
+ *   - stage: for CF_SAW, the stage that was asked about.
+ *   - outcome: for CF_ASKED_OUTCOME, what was told, as by cf_desk_read.
+ *   - absent, now: for CF_ASKED_NOW, the value that was handed in, and what was told. */
 enum { CF_DID = 0, CF_SAW = 1 };
 enum { CF_ASKED_OUTCOME = 0, CF_ASKED_NOW = 1 };
 typedef struct {
@@ -353,21 +721,46 @@ typedef struct {
   uint32_t asked; uint16_t stage; cf_value absent; cf_outcome outcome; cf_now now;
 } cf_record;
 
-/* Of a closed desk: how many events its history has; the word of the event at a place 0, 1, ..; how many records a caller has, by its
- * number; its record at 0, 1, .. CF_NOTHING where there is none. */
+/* Tells how many events the history of a closed desk has. */
 uint32_t cf_closed_events(cf_handle *closed, uint16_t *events);
+
+/* Tells the word of the event at a place of the history: 0, 1, ..
+ *
+ * Code: CF_NOTHING if there is no event at this place. */
 uint32_t cf_closed_word(cf_handle *closed, uint16_t place, uint64_t *word);
+
+/* Tells how many records a caller has.
+ *   - caller: the caller's number.
+ *
+ * Code: CF_NOTHING if no caller has this number. */
 uint32_t cf_closed_records(cf_handle *closed, uint8_t caller, uint16_t *records);
+
+/* Tells one record of a caller.
+ *   - caller: the caller's number.
+ *   - at: the record's place among those of this caller: 0, 1, ..
+ *
+ * Code: CF_NOTHING if there is no such caller or record. */
 uint32_t cf_closed_record(cf_handle *closed, uint8_t caller, uint16_t at, cf_record *record);
 
-/* Makes the closed desk its graph, as all events leave it; history and records are gone. */
+/* Makes the closed desk its graph, as all events leave it. The history and the records are gone then. */
 uint32_t cf_closed_graph(cf_handle *closed);
 
 /* ---- Words of events ---- */
 
-/* A changing call as an event: `who` does `call`. CF_CALL_ATTACH has so many `sources`, `first` and `second`; CF_CALL_FAIL_AS has its kind in
- * `code`; the other fields are called as the calls' parameters. What a call doesn't have is left aside, and 0 where it is told; that a stage has no function is told as
- * CF_NO_FUNCTION. */
+/* A word stands for an event: a changing call together with its caller. A program can keep and send words, and have
+ * a graph or a ledger do them. */
+
+/* An event. A field that isn't named here for a call is ignored, and the library writes 0 there.
+ *   - call: which call it is.
+ *   - who: the number of the caller.
+ *   - stage: the stage, for all calls but CF_CALL_TICK and CF_CALL_ATTACH.
+ *   - value: for CF_CALL_COMPLETE.
+ *   - code: for CF_CALL_FAIL the code of the exception, and for CF_CALL_FAIL_AS the kind, CF_TIMED_OUT or
+ *     CF_BAD_ANSWER.
+ *   - answer: for CF_CALL_FINISH.
+ *   - now: for CF_CALL_TICK, the moment.
+ *   - form, function: for CF_CALL_ATTACH. If there is no function, the library writes CF_NO_FUNCTION.
+ *   - sources, first, second: for CF_CALL_ATTACH, how many sources there are, 0 to 2, and their numbers. */
 enum {
   CF_CALL_COMPLETE = 0, CF_CALL_FAIL = 1, CF_CALL_CANCEL = 2, CF_CALL_CLAIM = 3, CF_CALL_FINISH = 4, CF_CALL_TICK = 5, CF_CALL_ATTACH = 6,
   CF_CALL_FAIL_AS = 7
@@ -377,108 +770,207 @@ typedef struct {
   uint32_t form; uint32_t sources; uint16_t first; uint16_t second; uint32_t function;
 } cf_event;
 
-/* The word of an event, of which no two events have the same and which is never 0, and the event of a word. An event has a word where
- * its caller is at most 63, its stages and its function at most 4,095, and what it attaches fits its form. CF_NO_SUCH_NUMBER of a call,
- * a form or the kind of a CF_CALL_FAIL_AS, CF_WRONG_SOURCE_COUNT where sources is above 2, CF_NO_WORD. */
+/* Tells the word of an event. No two events have the same word, and no event has the word 0. docs/FORMATS.md says
+ * how words are made.
+ *
+ * Codes:
+ *   - CF_NO_SUCH_NUMBER: there is no such call, no such form of a CF_CALL_ATTACH, or no such kind of a CF_CALL_FAIL_AS.
+ *   - CF_WRONG_SOURCE_COUNT: a CF_CALL_ATTACH has `sources` above 2.
+ *   - CF_NO_WORD: the event has no word. It has one if its caller is at most 63, its stage, its sources and its
+ *     function are at most 4,095, and the stage that it attaches fits its form. */
 uint32_t cf_word_of_event(const cf_event *event, uint64_t *word);
 static inline uint32_t cf_word_of(cf_event event, uint64_t *word) {
   return cf_word_of_event(&event, word);
 }
+
+/* Tells the event of a word.
+ *
+ * Code: CF_NO_WORD if the word stands for no event. */
 uint32_t cf_event_of(uint64_t word, cf_event *event);
 
-/* Does the event of a word to a graph, and gives its reply. CF_NO_WORD, CF_NO_STAGE, CF_BAD_ATTACH. */
+/* Does the event of a word to a graph, and gives the reply of that call. A stage that a word attaches always fits
+ * its form.
+ *
+ * Codes: CF_NO_WORD if the word stands for no event, and CF_NO_STAGE if a stage that the event names isn't there. */
 uint32_t cf_apply(cf_handle *graph, uint64_t word, cf_reply *reply);
 
-/* ---- Ledgers: one graph under one lock, with the words of all that was done to it ---- */
+/* ---- Ledgers: graphs that keep the word of each event ---- */
 
-/* What a stage is: CF_IS_READY, as cf_claim says; CF_IS_CLAIMED, until it is finished or settled; CF_IS_LINKED, it waits for the stage
- * `target`; CF_IS_SETTLED, with its `outcome`. `who` is the caller whose claim of it is open, also once it is settled by another call, or
- * CF_NOBODY. What it doesn't have is 0. */
+/* A ledger is a graph that keeps the word of each event that was done to it. From these words the same ledger can be
+ * made again. To make a changing call, make a word of it (cf_word_of), and give that to cf_ledger_apply. For each
+ * word the ledger tells its news, which are the stages that the word has changed. The callers have numbers from 0 to
+ * 63. If several threads share a ledger, your program keeps it under one lock. */
+
+/* What a stage is. What a stage doesn't have is 0.
+ *   - kind: CF_IS_PENDING; CF_IS_READY; CF_IS_CLAIMED, until it is finished or settled; CF_IS_LINKED, while it waits
+ *     for the stage to which it is linked; or CF_IS_SETTLED.
+ *   - who: the caller that has an open claim of the stage, also if another call has settled the stage meanwhile.
+ *     CF_NOBODY if there is none.
+ *   - target: for CF_IS_LINKED, the stage to which it is linked.
+ *   - outcome: for CF_IS_SETTLED, its outcome. */
 enum { CF_IS_PENDING = 0, CF_IS_READY = 1, CF_IS_CLAIMED = 2, CF_IS_LINKED = 3, CF_IS_SETTLED = 4 };
 #define CF_NOBODY UINT32_MAX
 typedef struct { uint32_t kind; uint32_t who; uint16_t target; cf_outcome outcome; } cf_stage;
 
-/* A stage that a word changed, and what it is now. */
+/* One of the news: a stage that a word has changed, and what it is now. */
 typedef struct { uint16_t stage; cf_stage now; } cf_news;
 
-/* Puts a ledger of the plan behind an empty handle, with room for so many stages that are attached later. The plan stays. CF_FULL,
- * CF_EMPTY, CF_WRONG_KIND, CF_ROOM, CF_NO_MEMORY, the first that holds in this order. */
+/* Opens a ledger of a plan, in which no word is written yet.
+ *   - plan: the plan. It stays behind its handle.
+ *   - room: how many stages may be attached later.
+ *   - ledger: an empty handle, behind which the ledger is put.
+ *
+ * Codes: CF_FULL, CF_EMPTY, CF_WRONG_KIND, CF_ROOM and CF_NO_MEMORY, as for cf_graph_new. */
 uint32_t cf_ledger_new(cf_handle *plan, uint16_t room, cf_handle *ledger);
 
-/* The same, in which these words are done and written, one after another: so a ledger is read back, or made of a desk's history. After
- * CF_ROOM: where a word can't be done, why, CF_NO_WORD, CF_NO_STAGE or CF_NO_ROOM of the first such; `place` tells which then, 0, 1, ..,
- * and is left as it was with any other code. CF_NO_MEMORY may come in place of these. */
+/* Opens a ledger of a plan, as cf_ledger_new does. Then it does the events of words, one after another, and writes
+ * the words into the ledger. So a ledger can be made again from its words, or made from the history of a desk.
+ *   - words, n: n words.
+ *   - place: gets the place of the first word that can't be done, 0, 1, .., if the code is one of the last three below.
+ *     With any other code it is left as it was.
+ *
+ * Codes:
+ *   - CF_FULL, CF_EMPTY, CF_WRONG_KIND, CF_ROOM: as for cf_graph_new.
+ *   - CF_NO_MEMORY: memory was refused. It may come in place of the next three.
+ *   - CF_NO_WORD: the word stands for no event.
+ *   - CF_NO_STAGE: a stage that its event names isn't there.
+ *   - CF_NO_ROOM: there is no room for the stage that it attaches. */
 uint32_t cf_ledger_of(cf_handle *plan, uint16_t room, const uint64_t *words, size_t n, cf_handle *ledger, size_t *place);
 
-/* Does the event of a word, writes the word behind the others, and gives the reply. The stages that it changed, rising, each as it is now,
- * go to `news` as far as there is room, and how many they are to `n`: room for all stages, one that is attached too, is always enough.
- * CF_NO_WORD, CF_NO_STAGE, CF_NO_ROOM for the stage that it attaches (cf_ledger_grow makes some), CF_NO_MEMORY, the first that holds in
- * this order. */
+/* Does the event of a word, and writes the word after the others.
+ *   - reply: gets the reply of that call.
+ *   - news, room: a buffer for `room` news. It gets the stages that the event has changed, by rising number, each as it
+ *     is now, as far as there is room for them.
+ *   - n: gets how many these stages are, which may be more than `room`. Room for all stages, with the one that is
+ *     attached, is always enough.
+ *
+ * Codes:
+ *   - CF_NO_WORD: the word stands for no event.
+ *   - CF_NO_STAGE: a stage that the event names isn't there.
+ *   - CF_NO_ROOM: there is no room for the stage that it attaches. cf_ledger_grow makes some.
+ *   - CF_NO_MEMORY. */
 uint32_t cf_ledger_apply(cf_handle *ledger, uint64_t word, cf_reply *reply, cf_news *news, size_t room, size_t *n);
 
-/* One step of a caller's loop, in one call: finishes the stage that the task holds with the answer in it, claims the lowest ready stage
- * from the number `from` on, and writes it into the task, as cf_next does. Both are words that are written. The stages that the finish
- * changed, rising, each as it is now, go to `news` as far as there is room, and how many they are to `n`; the claim changes the task's
- * stage alone. `step` tells the place of the first word that was written, and the words: 0 where nothing was finished or claimed. CF_NOTHING
- * where none is ready then: all the same is told, and the task holds nothing. CF_NO_WORD where `who` is above 63, CF_NO_STAGE where the
- * task's stage isn't there, CF_NOT_HELD where this caller has no open claim of it, CF_NO_MEMORY, the first that holds in this order:
- * nothing is changed then, and nothing is written for C. */
+/* What cf_ledger_step is asked, and what it has written.
+ *   - who: the caller, 0 to 63. Your program writes it.
+ *   - from: the lowest stage that may be claimed. Your program writes it.
+ *   - place: gets the place of the first word that was written.
+ *   - finish, claim: get the words of the finish and of the claim, or 0 if nothing was finished or claimed. */
 typedef struct { uint8_t who; uint16_t from; size_t place; uint64_t finish; uint64_t claim; } cf_step;
+
+/* One step of a caller's loop, as cf_next does it. It finishes the stage that the task holds, if there is one, with
+ * the answer in the task. Then it claims the lowest ready stage from the number step->from on, and writes it into
+ * the task. The words of the finish and of the claim are written after the others.
+ *   - task: all bytes 0 for the first step.
+ *   - news, room, n: as for cf_ledger_apply. They tell of the stages that the finish has changed, each as it is after
+ *     the step. The claim changes only the stage that it claims.
+ *
+ * Codes:
+ *   - CF_NO_WORD: step->who is above 63.
+ *   - CF_NO_STAGE: the stage that the task holds isn't there.
+ *   - CF_NOT_HELD: the caller has no open claim of the stage that the task holds.
+ *   - CF_NO_MEMORY.
+ *   - CF_NOTHING: no such stage is ready. The finish was done, if there was one. The task holds nothing, and all else
+ *     is written as with CF_OK. */
 uint32_t cf_ledger_step(cf_handle *ledger, cf_step *step, cf_task *task, cf_news *news, size_t room, size_t *n);
 
-/* Does words one after another, as cf_ledger_apply does each, up to the first that can't be done, and tells how many were done, also with
- * the code of the one that can't be: CF_NO_WORD, CF_NO_STAGE, CF_NO_ROOM, CF_NO_MEMORY. */
+/* Does words one after another, as cf_ledger_apply does each, up to the first that can't be done.
+ *   - words, n: n words.
+ *   - done: gets how many were done, also with the codes below.
+ *
+ * Codes: CF_NO_WORD, CF_NO_STAGE, CF_NO_ROOM or CF_NO_MEMORY, for which the next one can't be done. */
 uint32_t cf_ledger_apply_all(cf_handle *ledger, const uint64_t *words, size_t n, size_t *done);
 
-/* The words from a place 0, 1, .. on, as far as there is room, and how many there are from there on: none past the end. */
+/* Tells the words of a ledger.
+ *   - from: the place of the first word that is told, 0, 1, ..
+ *   - words, room: a buffer for `room` words, which gets them as far as there is room.
+ *   - n: gets how many words there are from that place on, which is 0 past the end. */
 uint32_t cf_ledger_words(cf_handle *ledger, size_t from, uint64_t *words, size_t room, size_t *n);
 
-/* The stages that the event at a place 0, 1, .. changed, rising, as far as there is room, and how many they are. CF_NOTHING where there is
- * no such event. */
+/* Tells which stages an event has changed.
+ *   - place: the place of its word, 0, 1, ..
+ *   - stages, room: a buffer for `room` numbers, which gets those of the stages, rising, as far as there is room.
+ *   - n: gets how many these stages are.
+ *
+ * Code: CF_NOTHING if there is no word at this place. */
 uint32_t cf_ledger_news(cf_handle *ledger, size_t place, uint16_t *stages, size_t room, size_t *n);
 
-/* The lowest ready stage from a number on, or CF_NOTHING; what a stage is, or CF_NO_STAGE; a stage's function, or CF_NOTHING, or
- * CF_NO_STAGE; how many stages there are by now. */
+/* Tells the lowest ready stage from the number `from` on.
+ *
+ * Code: CF_NOTHING if no such stage is ready. */
 uint32_t cf_ledger_ready(cf_handle *ledger, uint16_t from, uint16_t *stage);
+
+/* Tells what a stage is.
+ *
+ * Code: CF_NO_STAGE if there is no such stage. */
 uint32_t cf_ledger_stage(cf_handle *ledger, uint16_t stage, cf_stage *now);
+
+/* Tells the number of a stage's function.
+ *
+ * Codes: CF_NO_STAGE if there is no such stage, and CF_NOTHING if it has no function. */
 uint32_t cf_ledger_function(cf_handle *ledger, uint16_t stage, uint16_t *function);
+
+/* Tells how many stages there are by now, with those that were attached. */
 uint32_t cf_ledger_stages(cf_handle *ledger, uint16_t *stages);
 
-/* Makes room for so many stages more, by doing all words again. CF_ROOM, CF_NO_MEMORY. */
+/* Makes room for more stages, by doing all words again.
+ *   - more: how many more stages may be attached than before.
+ *
+ * Codes: CF_ROOM if there could then be over 4,096 stages or 16,384 edges, and CF_NO_MEMORY. */
 uint32_t cf_ledger_grow(cf_handle *ledger, uint16_t more);
 
-/* Starts again: no word is written then, and all of its room, also what cf_ledger_grow made, is free. It keeps its memory, so a ledger that
- * is kept for the next request costs less than a new one. */
+/* Starts the ledger again. Then no word is written, and all its room is free, with what cf_ledger_grow made. The
+ * ledger keeps its memory. So it costs less to keep one for the next request than to open a new one. */
 uint32_t cf_ledger_restart(cf_handle *ledger);
 
 /* ---- Scripts and texts ---- */
 
-/* Runs a script, a JSON text, as `cf run` does: its report, or the line of its fault, goes to `report` as far as there is room, and its
- * length, which may be above that, to `length`; both also with CF_BAD_SCRIPT. No zero byte is put behind. CF_BAD_SCRIPT, CF_NO_MEMORY. */
+/* Each of these calls writes a text into a buffer of `room` bytes, as far as there is room. It writes the length of
+ * the whole text, in bytes, to `length`, which may be more than `room`. No zero byte follows the text. */
+
+/* Runs a script, as the program `cf run` does. docs/FORMATS.md says what scripts and reports are.
+ *   - text, n: the script, n bytes of JSON.
+ *   - report: gets the report. If the script has a fault, it gets the line of this fault.
+ *
+ * Codes:
+ *   - CF_NO_MEMORY: memory was refused. Nothing is written.
+ *   - CF_BAD_SCRIPT: the script has a fault. Its line is in `report`. */
 uint32_t cf_run_script(const uint8_t *text, size_t n, uint8_t *report, size_t room, size_t *length);
 
-/* The text of an outcome, as reports have it ("pending", "value 3", "fault timeout raw"), and the name of a code ("Ok", "NoStage"), in the
- * same way; neither has more than 31 bytes. A kind above CF_BAD_ANSWER is taken for that. CF_NO_SUCH_NUMBER where a number is no code's. */
+/* Writes an outcome as reports have it, such as "pending", "value 3" or "fault timeout raw". The text has at most 31
+ * bytes. A kind above CF_BAD_ANSWER is read as CF_BAD_ANSWER. */
 uint32_t cf_text_of_outcome(const cf_outcome *outcome, uint8_t *text, size_t room, size_t *length);
 static inline uint32_t cf_outcome_text(cf_outcome outcome, uint8_t *text, size_t room, size_t *length) {
   return cf_text_of_outcome(&outcome, text, room, length);
 }
+
+/* Writes the name of a code, such as "Ok" or "NoStage". The text has at most 31 bytes.
+ *
+ * Code: CF_NO_SUCH_NUMBER if no code has this number. */
 uint32_t cf_code_text(uint32_t code, uint8_t *text, size_t room, size_t *length);
 
 /* ---- The library itself ---- */
 
-/* The version of this header. A library of a later one with the same first number has all that stands here, and as it stands here. */
+/* The version of this header. A library of a later version with the same first number has all that stands here,
+ * unchanged. */
 #define CF_VERSION_MAJOR 1
 #define CF_VERSION_MINOR 4
 #define CF_VERSION_PATCH 0
 
-/* The library's version ("1.4.0"); whether a program that was written for this version of the header runs with the library; the name of a
- * code as cf_code_text has it ("NoStage"), or null where a number is no code's; of a struct ("cf_reply") its size, and of a field of one
- * ("cf_reply.args") its offset, in bytes, or SIZE_MAX where there is none of this name or it is null. The texts are static and end in a
- * zero byte. None of these calls answers a cf_code. */
+/* None of the next four calls answers a cf_code. The texts that they answer are static and end in a zero byte. Your
+ * program doesn't free them. */
+
+/* Answers the version of the library, such as "1.4.0". */
 const char *cf_version(void);
+
+/* Answers whether a program that was written for this version of the header runs with the library. */
 bool cf_fits(uint32_t major, uint32_t minor);
+
+/* Answers the name of a code, as cf_code_text writes it, or null if no code has this number. */
 const char *cf_code_name(uint32_t code);
+
+/* Answers the size of a struct, if `name` is that of a struct ("cf_reply"), or the offset of a field, if it is that
+ * of a field ("cf_reply.args"), in bytes. It answers SIZE_MAX if there is none of this name, or if `name` is null. */
 size_t cf_layout(const char *name);
 
 #ifdef __cplusplus

@@ -37,7 +37,7 @@ PAGES = [
     Page("cf_desks", "Desks", "graphs that threads share without a lock", "desks.c"),
     Page("cf_closing", "Closing", "the end of a desk: its history, its records and its graph", "closing.c"),
     Page("cf_words", "Words", "calls as words, and words done to a graph", "words.c"),
-    Page("cf_ledgers", "Ledgers", "one graph under one lock, with the words of all that was done to it", "ledger.c"),
+    Page("cf_ledgers", "Ledgers", "graphs that keep the word of each event", "ledger.c"),
     Page("cf_texts", "Scripts", "scripts, and the texts of outcomes and codes", "script.c"),
     Page("cf_versions", "The library itself", "the library's version, names of codes, and layouts", "versions.c"),
 ]

@@ -17,7 +17,7 @@ from nulls import proved  # noqa: E402
 HERE = Path(__file__).resolve().parent
 CRATES = HERE.parents[1]
 HEADER = HERE.parent / "include/cf.h"
-OF_C = ["cf_c", "cf_handles"]  # the calls, and what they take and give
+OF_C = ["cf_c", "cf_c_handles"]  # the calls, and what they take and give
 NUMBERS = {"u8": "uint8_t", "u16": "uint16_t", "u32": "uint32_t", "u64": "uint64_t", "i32": "int32_t", "usize": "size_t", "bool": "bool"}
 SIZES = {"uint8_t": 1, "bool": 1, "uint16_t": 2, "uint32_t": 4, "int32_t": 4, "uint64_t": 8, "size_t": 8}
 MOST_WORDS, MOST_BYTES = 6, 16

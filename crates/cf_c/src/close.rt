@@ -1,22 +1,24 @@
 //! Closing a desk, and what a closed desk tells.
-ghost use Rattle.cf_handles.specs.Answers.{Does, HandleTells};
-ghost use Rattle.cf_handles.specs.Closings.{Adds, AreOfOneDesk, BecomesGraph, Begins, Ends, OfClosed, events_told, record_told, records_told, word_told};
+ghost use Rattle.cf_c_handles.specs.Closings.{Adds, AreOfOneDesk, BecomesGraph, Begins, Ends, OfClosed, events_told, record_told, records_told, word_told};
+ghost use Rattle.cf_c_handles.specs.Handles.{HandleDoes, HandleTells};
 
 use crate::handle::{ask, tell};
-use cf_handles::close::closed::CfRecord;
-use cf_handles::close::{add, become_graph, begin, end, events_of, record_at, records_of, word_at};
-use cf_handles::handle::CfHandle;
+use cf_c_handles::close::closed::CfRecord;
+use cf_c_handles::close::{
+    add, become_graph, begin, end, events_of, record_at, records_of, word_at,
+};
+use cf_c_handles::handle::CfHandle;
 use std::alloc::Global;
 
-/// Begins to close a desk with one of its callers, which becomes a closing.
+/// Begins to close a desk: one of its callers becomes a closing.
 #[unsafe(no_mangle)]
 pub extern "C" fn cf_close_begin(alloc: Global, caller: &mut CfHandle) -> u32
-    ensures { Does Begins caller.old.inner.held caller.new.inner.held result }
+    ensures { HandleDoes Begins caller.old caller.new result }
 {
     ask!(alloc, caller, held => begin(alloc, &mut held))
 }
 
-/// Gives one more caller of the same desk back, whose handle is empty then.
+/// Gives back one more caller of the same desk. Its handle is empty then.
 #[unsafe(no_mangle)]
 pub extern "C" fn cf_close_add(alloc: Global, closing: &mut CfHandle, caller: &mut CfHandle) -> u32
     requires { AreOfOneDesk closing.old.inner.held caller.old.inner.held }
@@ -25,10 +27,11 @@ pub extern "C" fn cf_close_add(alloc: Global, closing: &mut CfHandle, caller: &m
     ask!(alloc, closing, held => add(alloc, &mut held, caller))
 }
 
-/// Closes the desk, all of whose callers were given back: else `NotAll`, or `StillShared` where it is held all the same.
+/// Closes the desk once all its callers were given back. It is `NotAll` if some weren't, and `StillShared` if something holds the
+/// desk all the same.
 #[unsafe(no_mangle)]
 pub extern "C" fn cf_close_end(alloc: Global, closing: &mut CfHandle) -> u32
-    ensures { Does Ends closing.old.inner.held closing.new.inner.held result }
+    ensures { HandleDoes Ends closing.old closing.new result }
 {
     ask!(alloc, closing, held => end(alloc, &mut held))
 }
@@ -36,7 +39,7 @@ pub extern "C" fn cf_close_end(alloc: Global, closing: &mut CfHandle) -> u32
 /// How many events the history of a closed desk has.
 #[unsafe(no_mangle)]
 pub extern "C" fn cf_closed_events(alloc: Global, closed: &mut CfHandle, events: &mut u16) -> u32
-    ensures { HandleTells (OfClosed events_told) closed.old.inner.held closed.new.inner.held result events.old events.new }
+    ensures { HandleTells (OfClosed events_told) closed.old closed.new result events.old events.new }
 {
     tell!(alloc, closed, events, held => events_of(&mut held))
 }
@@ -49,7 +52,7 @@ pub extern "C" fn cf_closed_word(
     place: u16,
     word: &mut u64,
 ) -> u32
-    ensures { HandleTells (OfClosed (word_told place)) closed.old.inner.held closed.new.inner.held result word.old word.new }
+    ensures { HandleTells (OfClosed (word_told place)) closed.old closed.new result word.old word.new }
 {
     tell!(alloc, closed, word, held => word_at(&mut held, place))
 }
@@ -62,7 +65,7 @@ pub extern "C" fn cf_closed_records(
     caller: u8,
     records: &mut u16,
 ) -> u32
-    ensures { HandleTells (OfClosed (records_told caller)) closed.old.inner.held closed.new.inner.held result records.old records.new }
+    ensures { HandleTells (OfClosed (records_told caller)) closed.old closed.new result records.old records.new }
 {
     tell!(alloc, closed, records, held => records_of(&mut held, caller))
 }
@@ -76,7 +79,7 @@ pub extern "C" fn cf_closed_record(
     at: u16,
     record: &mut CfRecord,
 ) -> u32
-    ensures { HandleTells (OfClosed (record_told caller at)) closed.old.inner.held closed.new.inner.held result «record».old «record».new }
+    ensures { HandleTells (OfClosed (record_told caller at)) closed.old closed.new result «record».old «record».new }
 {
     tell!(alloc, closed, record, held => record_at(&mut held, caller, at))
 }
@@ -84,7 +87,7 @@ pub extern "C" fn cf_closed_record(
 /// Makes a closed desk its graph, as all events leave it.
 #[unsafe(no_mangle)]
 pub extern "C" fn cf_closed_graph(alloc: Global, closed: &mut CfHandle) -> u32
-    ensures { Does BecomesGraph closed.old.inner.held closed.new.inner.held result }
+    ensures { HandleDoes BecomesGraph closed.old closed.new result }
 {
     ask!(alloc, closed, held => become_graph(alloc, &mut held))
 }

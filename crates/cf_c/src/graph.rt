@@ -1,32 +1,31 @@
 //! A graph that one caller has alone.
 ghost use Rattle.std.specs.Prelude.{Ok};
 ghost use Rattle.cf_model.specs.declared.events.Event.TheVariants.{Complete as Completes, Fail as Fails, Cancel as Cancels, Claim as Claims, Finish as Finishes, Tick as Ticks};
-ghost use Rattle.cf_handles.specs.Answers.{Does, HandleTells};
-ghost use Rattle.cf_handles.specs.Building.{GraphOf, Opens};
-ghost use Rattle.cf_handles.specs.EventWords.{event_at, failing, failure_of};
-ghost use Rattle.cf_handles.specs.Graphs.{GraphAnswers, Asked, Restarts, RestsAlways, RestsAt, RestsAtReady, function_told, now_told, outcome_told, ready_told, stages_told, turns_told};
-ghost use Rattle.cf_handles.specs.Plans.{attach_event};
-ghost use Rattle.cf_handles.specs.Ledgers.{Writes};
-ghost use Rattle.cf_handles.specs.Restarts.{PlanOf, RestartsWith};
-ghost use Rattle.cf_handles.specs.Rounds.{Rounds};
-ghost use Rattle.cf_handles.specs.Sweeps.{BeginsSweep, EndsSweep, Sweeps};
-ghost use Rattle.cf_handles.specs.Tasks.{Nexts, Steps};
-ghost use Rattle.cf_handles.specs.Values.{answer_of, value_of};
+ghost use Rattle.cf_c_handles.specs.Building.{GraphOf};
+ghost use Rattle.cf_c_handles.specs.EventWords.{event_at, failing, failure_of};
+ghost use Rattle.cf_c_handles.specs.Graphs.{Restarts, RestsAlways, RestsAt, RestsAtReady, function_told, now_told, outcome_told, ready_told, stages_told, turns_told};
+ghost use Rattle.cf_c_handles.specs.Handles.{GraphReplies, GraphTells, HandleDoes, HandleNexts, HandleOpens, HandleWrites};
+ghost use Rattle.cf_c_handles.specs.Plans.{attach_event};
+ghost use Rattle.cf_c_handles.specs.Restarts.{PlanOf, RestartsWith};
+ghost use Rattle.cf_c_handles.specs.Rounds.{Rounds};
+ghost use Rattle.cf_c_handles.specs.Sweeps.{BeginsSweep, EndsSweep, Sweeps};
+ghost use Rattle.cf_c_handles.specs.Tasks.{Steps};
+ghost use Rattle.cf_c_handles.specs.Values.{answer_of, value_of};
 
 use crate::handle::{ask, tell};
-use cf_handles::code::Code;
-use cf_handles::graph::{asking, graph_of, plan_of, restarting, rounds, stepping, sweeping};
-use cf_handles::handle::{CfHandle, fill};
-use cf_handles::values::attaching::attach_event;
-use cf_handles::values::event::{event_at, failing_event};
-use cf_handles::values::task::CfTask;
-use cf_handles::values::{
+use cf_c_handles::code::Code;
+use cf_c_handles::graph::{asking, graph_of, plan_of, restarting, rounds, stepping, sweeping};
+use cf_c_handles::handle::{CfHandle, fill};
+use cf_c_handles::values::attaching::attach_event;
+use cf_c_handles::values::event::{event_at, failing_event};
+use cf_c_handles::values::task::CfTask;
+use cf_c_handles::values::{
     CfAnswer, CfGiven, CfNow, CfOutcome, CfReply, CfValue, answer_of, value_of,
 };
 use cf_model::Event;
 use std::alloc::Global;
 
-/// Puts the graph of the plan behind one handle behind another, which is empty.
+/// Opens a graph of the plan behind one handle, and puts it behind another, which is empty.
 #[unsafe(no_mangle)]
 pub extern "C" fn cf_graph_new(
     alloc: Global,
@@ -34,7 +33,7 @@ pub extern "C" fn cf_graph_new(
     room: u16,
     graph: &mut CfHandle,
 ) -> u32
-    ensures { Opens (GraphOf room) plan.old.inner.held plan.new.inner.held result graph.old.inner.held graph.new.inner.held }
+    ensures { HandleOpens (GraphOf room) plan.old plan.new result graph.old graph.new }
 {
     match plan.take(alloc) {
         None => fill(alloc, graph, Err(Code::Empty)),
@@ -55,7 +54,7 @@ pub extern "C" fn cf_complete(
     value: CfValue,
     reply: &mut CfReply,
 ) -> u32
-    ensures { HandleTells (GraphAnswers (Ok (Completes 0 stage (value_of value)))) h.old.inner.held h.new.inner.held result reply.old reply.new }
+    ensures { GraphReplies (Ok (Completes 0 stage (value_of value))) h.old h.new result reply.old reply.new }
 {
     let value = value_of(value);
     let event = Event::Complete {
@@ -75,7 +74,7 @@ pub extern "C" fn cf_fail(
     code: u32,
     reply: &mut CfReply,
 ) -> u32
-    ensures { HandleTells (GraphAnswers (Ok (Fails 0 stage code))) h.old.inner.held h.new.inner.held result reply.old reply.new }
+    ensures { GraphReplies (Ok (Fails 0 stage code)) h.old h.new result reply.old reply.new }
 {
     let event = Event::Fail {
         who: 0,
@@ -85,7 +84,7 @@ pub extern "C" fn cf_fail(
     tell!(alloc, h, reply, held => asking::answer(&mut held, Ok(event)))
 }
 
-/// Fails a stage as an outcome of this kind has it: as timed out, or, where it stands in for another stage, with a bad answer.
+/// Fails a stage with the outcome of this kind: as timed out, or with a bad answer, for a stage that stands in for another.
 #[unsafe(no_mangle)]
 pub extern "C" fn cf_fail_as(
     alloc: Global,
@@ -94,7 +93,7 @@ pub extern "C" fn cf_fail_as(
     kind: u32,
     reply: &mut CfReply,
 ) -> u32
-    ensures { HandleTells (GraphAnswers (failing 0 stage (failure_of kind))) h.old.inner.held h.new.inner.held result reply.old reply.new }
+    ensures { GraphReplies (failing 0 stage (failure_of kind)) h.old h.new result reply.old reply.new }
 {
     let event = failing_event(stage, kind);
     tell!(alloc, h, reply, held => asking::answer(&mut held, event))
@@ -103,7 +102,7 @@ pub extern "C" fn cf_fail_as(
 /// Cancels a stage.
 #[unsafe(no_mangle)]
 pub extern "C" fn cf_cancel(alloc: Global, h: &mut CfHandle, stage: u16, reply: &mut CfReply) -> u32
-    ensures { HandleTells (GraphAnswers (Ok (Cancels 0 stage))) h.old.inner.held h.new.inner.held result reply.old reply.new }
+    ensures { GraphReplies (Ok (Cancels 0 stage)) h.old h.new result reply.old reply.new }
 {
     let event = Event::Cancel { who: 0, stage };
     tell!(alloc, h, reply, held => asking::answer(&mut held, Ok(event)))
@@ -118,7 +117,7 @@ pub extern "C" fn cf_claim(
     stage: u16,
     reply: &mut CfReply,
 ) -> u32
-    ensures { HandleTells (GraphAnswers (Ok (Claims who stage))) h.old.inner.held h.new.inner.held result reply.old reply.new }
+    ensures { GraphReplies (Ok (Claims who stage)) h.old h.new result reply.old reply.new }
 {
     let event = Event::Claim { who, stage };
     tell!(alloc, h, reply, held => asking::answer(&mut held, Ok(event)))
@@ -134,33 +133,33 @@ pub extern "C" fn cf_finish_with(
     answer: &CfAnswer,
     reply: &mut CfReply,
 ) -> u32
-    ensures { HandleTells (GraphAnswers (Ok (Finishes who stage (answer_of answer.now)))) h.old.inner.held h.new.inner.held result reply.old reply.new }
+    ensures { GraphReplies (Ok (Finishes who stage (answer_of answer.now))) h.old h.new result reply.old reply.new }
 {
     let answer = answer_of(*answer);
     let event = Event::Finish { who, stage, answer };
     tell!(alloc, h, reply, held => asking::answer(&mut held, Ok(event)))
 }
 
-/// Finishes what a task holds with the answer in it, and gives it the lowest ready stage, claimed.
+/// Finishes what a task holds with the answer in it. Then claims the lowest ready stage, and gives it to the task.
 #[unsafe(no_mangle)]
 pub extern "C" fn cf_next(alloc: Global, h: &mut CfHandle, who: u8, task: &mut CfTask) -> u32
-    ensures { Nexts (Steps who) h.old.inner.held h.new.inner.held result task.old task.new }
+    ensures { HandleNexts (Steps who) h.old h.new result task.old task.new }
 {
     ask!(alloc, h, held => stepping::step(&mut held, who, task))
 }
 
-/// Finishes what tasks hold with the answers in them, and gives each a ready stage, claimed.
+/// Finishes what tasks hold with the answers in them. Then claims a ready stage for each, and gives it to the task.
 #[unsafe(no_mangle)]
 pub extern "C" fn cf_round(alloc: Global, h: &mut CfHandle, who: u8, tasks: &mut [CfTask]) -> u32
-    ensures { Writes (Rounds who) h.old.inner.held h.new.inner.held result tasks.old tasks.new }
+    ensures { HandleWrites (Rounds who) h.old h.new result tasks.old tasks.new }
 {
     ask!(alloc, h, held => rounds::round(&mut held, who, tasks))
 }
 
-/// Makes a graph a sweep, which stops at each function.
+/// Turns a graph into a sweep, which stops at each function.
 #[unsafe(no_mangle)]
 pub extern "C" fn cf_sweep_begin(alloc: Global, h: &mut CfHandle) -> u32
-    ensures { Does BeginsSweep h.old.inner.held h.new.inner.held result }
+    ensures { HandleDoes BeginsSweep h.old h.new result }
 {
     ask!(alloc, h, held => sweeping::begin(alloc, &mut held))
 }
@@ -168,23 +167,23 @@ pub extern "C" fn cf_sweep_begin(alloc: Global, h: &mut CfHandle) -> u32
 /// Takes the answer of what a task holds, and gives it the stage at which the sweep stops then.
 #[unsafe(no_mangle)]
 pub extern "C" fn cf_sweep_next(alloc: Global, h: &mut CfHandle, task: &mut CfTask) -> u32
-    ensures { Nexts Sweeps h.old.inner.held h.new.inner.held result task.old task.new }
+    ensures { HandleNexts Sweeps h.old h.new result task.old task.new }
 {
     ask!(alloc, h, held => sweeping::next(&mut held, task))
 }
 
-/// Makes a sweep its graph again, once all stages are behind it.
+/// Turns a sweep back into its graph, once it has gone through all stages.
 #[unsafe(no_mangle)]
 pub extern "C" fn cf_sweep_end(alloc: Global, h: &mut CfHandle) -> u32
-    ensures { Does EndsSweep h.old.inner.held h.new.inner.held result }
+    ensures { HandleDoes EndsSweep h.old h.new result }
 {
     ask!(alloc, h, held => sweeping::end(alloc, &mut held))
 }
 
-/// Lets it be this moment.
+/// Sets the clock to this moment.
 #[unsafe(no_mangle)]
 pub extern "C" fn cf_tick(alloc: Global, h: &mut CfHandle, now: u32, reply: &mut CfReply) -> u32
-    ensures { HandleTells (GraphAnswers (Ok (Ticks 0 now))) h.old.inner.held h.new.inner.held result reply.old reply.new }
+    ensures { GraphReplies (Ok (Ticks 0 now)) h.old h.new result reply.old reply.new }
 {
     let event = Event::Tick {
         who: 0,
@@ -203,7 +202,7 @@ pub extern "C" fn cf_attach(
     function: u32,
     reply: &mut CfReply,
 ) -> u32
-    ensures { HandleTells (GraphAnswers (attach_event form of.now function)) h.old.inner.held h.new.inner.held result reply.old reply.new }
+    ensures { GraphReplies (attach_event form of.now function) h.old h.new result reply.old reply.new }
 {
     let event = attach_event(form, of, function);
     tell!(alloc, h, reply, held => asking::answer(&mut held, event))
@@ -212,7 +211,7 @@ pub extern "C" fn cf_attach(
 /// Does the event of a word to a graph.
 #[unsafe(no_mangle)]
 pub extern "C" fn cf_apply(alloc: Global, h: &mut CfHandle, word: u64, reply: &mut CfReply) -> u32
-    ensures { HandleTells (GraphAnswers (event_at word)) h.old.inner.held h.new.inner.held result reply.old reply.new }
+    ensures { GraphReplies (event_at word) h.old h.new result reply.old reply.new }
 {
     let event = event_at(word);
     tell!(alloc, h, reply, held => asking::answer(&mut held, event))
@@ -226,7 +225,7 @@ pub extern "C" fn cf_get(
     stage: u16,
     outcome: &mut CfOutcome,
 ) -> u32
-    ensures { HandleTells (Asked (outcome_told stage) (RestsAt stage)) h.old.inner.held h.new.inner.held result outcome.old outcome.new }
+    ensures { GraphTells (outcome_told stage) (RestsAt stage) h.old h.new result outcome.old outcome.new }
 {
     tell!(alloc, h, outcome, held => asking::outcome(&mut held, stage))
 }
@@ -240,7 +239,7 @@ pub extern "C" fn cf_get_now(
     absent: CfValue,
     now: &mut CfNow,
 ) -> u32
-    ensures { HandleTells (Asked (now_told stage (value_of absent)) (RestsAt stage)) h.old.inner.held h.new.inner.held result now.old now.new }
+    ensures { GraphTells (now_told stage (value_of absent)) (RestsAt stage) h.old h.new result now.old now.new }
 {
     let absent = value_of(absent);
     tell!(alloc, h, now, held => asking::now(&mut held, stage, absent))
@@ -249,7 +248,7 @@ pub extern "C" fn cf_get_now(
 /// The lowest ready stage.
 #[unsafe(no_mangle)]
 pub extern "C" fn cf_lowest_ready(alloc: Global, h: &mut CfHandle, stage: &mut u16) -> u32
-    ensures { HandleTells (Asked ready_told RestsAtReady) h.old.inner.held h.new.inner.held result stage.old stage.new }
+    ensures { GraphTells ready_told RestsAtReady h.old h.new result stage.old stage.new }
 {
     tell!(alloc, h, stage, held => asking::lowest_ready(&mut held))
 }
@@ -262,7 +261,7 @@ pub extern "C" fn cf_function(
     stage: u16,
     function: &mut u16,
 ) -> u32
-    ensures { HandleTells (Asked (function_told stage) RestsAlways) h.old.inner.held h.new.inner.held result function.old function.new }
+    ensures { GraphTells (function_told stage) RestsAlways h.old h.new result function.old function.new }
 {
     tell!(alloc, h, function, held => asking::function(&mut held, stage))
 }
@@ -270,7 +269,7 @@ pub extern "C" fn cf_function(
 /// How many stages there are by now.
 #[unsafe(no_mangle)]
 pub extern "C" fn cf_stages(alloc: Global, h: &mut CfHandle, stages: &mut u16) -> u32
-    ensures { HandleTells (Asked stages_told RestsAlways) h.old.inner.held h.new.inner.held result stages.old stages.new }
+    ensures { GraphTells stages_told RestsAlways h.old h.new result stages.old stages.new }
 {
     tell!(alloc, h, stages, held => asking::stages(&mut held))
 }
@@ -278,7 +277,7 @@ pub extern "C" fn cf_stages(alloc: Global, h: &mut CfHandle, stages: &mut u16) -
 /// How many turns were taken since the graph was opened or last restarted.
 #[unsafe(no_mangle)]
 pub extern "C" fn cf_turns(alloc: Global, h: &mut CfHandle, turns: &mut u64) -> u32
-    ensures { HandleTells (Asked turns_told RestsAlways) h.old.inner.held h.new.inner.held result turns.old turns.new }
+    ensures { GraphTells turns_told RestsAlways h.old h.new result turns.old turns.new }
 {
     tell!(alloc, h, turns, held => asking::turns(&mut held))
 }
@@ -286,7 +285,7 @@ pub extern "C" fn cf_turns(alloc: Global, h: &mut CfHandle, turns: &mut u64) -> 
 /// Starts a graph again.
 #[unsafe(no_mangle)]
 pub extern "C" fn cf_restart(alloc: Global, h: &mut CfHandle) -> u32
-    ensures { Does Restarts h.old.inner.held h.new.inner.held result }
+    ensures { HandleDoes Restarts h.old h.new result }
 {
     ask!(alloc, h, held => asking::restart(&mut held))
 }
@@ -294,15 +293,15 @@ pub extern "C" fn cf_restart(alloc: Global, h: &mut CfHandle) -> u32
 /// Starts a graph again, and completes stages.
 #[unsafe(no_mangle)]
 pub extern "C" fn cf_restart_with(alloc: Global, h: &mut CfHandle, given: &[CfGiven]) -> u32
-    ensures { Does (RestartsWith given.now) h.old.inner.held h.new.inner.held result }
+    ensures { HandleDoes (RestartsWith given.now) h.old h.new result }
 {
     ask!(alloc, h, held => restarting::restart_with(&mut held, given))
 }
 
-/// Puts the plan that a graph was opened of behind another handle, which is empty.
+/// Puts the plan that a graph was opened with behind another handle, which is empty.
 #[unsafe(no_mangle)]
 pub extern "C" fn cf_plan_of(alloc: Global, h: &mut CfHandle, plan: &mut CfHandle) -> u32
-    ensures { Opens PlanOf h.old.inner.held h.new.inner.held result plan.old.inner.held plan.new.inner.held }
+    ensures { HandleOpens PlanOf h.old h.new result plan.old plan.new }
 {
     match h.take(alloc) {
         None => fill(alloc, plan, Err(Code::Empty)),

@@ -1,16 +1,16 @@
 //! How a call looks behind its handle, and what it gives C.
 ghost use Rattle.std.specs.Prelude.{◌≡◌, None};
-ghost use Rattle.cf_handles.specs.Answers.{Codes, HandleGives};
+ghost use Rattle.cf_c_handles.specs.Answers.{Codes, HandleGives};
 
-use cf_handles::code::Code;
-use cf_handles::handle::{CfHandle, free};
+use cf_c_handles::code::Code;
+use cf_c_handles::handle::{CfHandle, free};
 use std::alloc::Global;
 
 /// Asks what stands behind a handle, and gives C the code, and where that is 0 the answer.
 macro_rules! tell {
     ($alloc:expr, $h:expr, $out:expr, $held:ident => $ask:expr) => {
         match $h.take($alloc) {
-            None => cf_handles::code::Code::Empty.number(),
+            None => cf_c_handles::code::Code::Empty.number(),
             Some(mut $held) => {
                 let told = $ask;
                 $h.put($held);
@@ -24,7 +24,7 @@ macro_rules! tell {
 macro_rules! ask {
     ($alloc:expr, $h:expr, $held:ident => $ask:expr) => {
         match $h.take($alloc) {
-            None => cf_handles::code::Code::Empty.number(),
+            None => cf_c_handles::code::Code::Empty.number(),
             Some(mut $held) => {
                 let done = $ask;
                 $h.put($held);

@@ -1,19 +1,18 @@
 //! A graph with the words of all that was done to it.
-ghost use Rattle.cf_handles.specs.Answers.{Does, HandleTells};
-ghost use Rattle.cf_handles.specs.Building.{Opens};
-ghost use Rattle.cf_handles.specs.LedgerSteps.{StepsLedger};
-ghost use Rattle.cf_handles.specs.Ledgers.{DoesRow, DoesWord, Grows, LedgerFrom, LedgerOf, OfLedger, OpensFrom, StartsAgain, TellsFunction, TellsReady, TellsStage, TellsStages, Writes, WritesNews, WritesWords};
+ghost use Rattle.cf_c_handles.specs.Handles.{HandleDoes, HandleOpens, HandleOpensFrom, HandleTells, HandleWrites};
+ghost use Rattle.cf_c_handles.specs.LedgerSteps.{StepsLedger};
+ghost use Rattle.cf_c_handles.specs.Ledgers.{DoesRow, DoesWord, Grows, LedgerFrom, LedgerOf, OfLedger, StartsAgain, TellsFunction, TellsReady, TellsStage, TellsStages, WritesNews, WritesWords};
 
 use crate::handle::{ask, tell};
-use cf_handles::code::Code;
-use cf_handles::handle::{CfHandle, fill};
-use cf_handles::ledger::{asking, ledger_from, ledger_of, stepping, telling};
-use cf_handles::values::CfReply;
-use cf_handles::values::stage::{CfNews, CfStage};
-use cf_handles::values::task::{CfStep, CfTask};
+use cf_c_handles::code::Code;
+use cf_c_handles::handle::{CfHandle, fill};
+use cf_c_handles::ledger::{asking, ledger_from, ledger_of, stepping, telling};
+use cf_c_handles::values::CfReply;
+use cf_c_handles::values::stage::{CfNews, CfStage};
+use cf_c_handles::values::task::{CfStep, CfTask};
 use std::alloc::Global;
 
-/// Puts the ledger of the plan behind one handle behind another, which is empty.
+/// Opens a ledger of the plan behind one handle, and puts it behind another, which is empty.
 #[unsafe(no_mangle)]
 pub extern "C" fn cf_ledger_new(
     alloc: Global,
@@ -21,7 +20,7 @@ pub extern "C" fn cf_ledger_new(
     room: u16,
     ledger: &mut CfHandle,
 ) -> u32
-    ensures { Opens (LedgerOf room) plan.old.inner.held plan.new.inner.held result ledger.old.inner.held ledger.new.inner.held }
+    ensures { HandleOpens (LedgerOf room) plan.old plan.new result ledger.old ledger.new }
 {
     match plan.take(alloc) {
         None => fill(alloc, ledger, Err(Code::Empty)),
@@ -33,7 +32,7 @@ pub extern "C" fn cf_ledger_new(
     }
 }
 
-/// The same of words, which are done one after another. Where one can't be done, its place is told.
+/// The same with words, whose events are done one after another. If one can't be done, its place is told.
 #[unsafe(no_mangle)]
 pub extern "C" fn cf_ledger_of(
     alloc: Global,
@@ -43,7 +42,8 @@ pub extern "C" fn cf_ledger_of(
     ledger: &mut CfHandle,
     place: &mut usize,
 ) -> u32
-    ensures { OpensFrom (LedgerFrom room words.now) plan.old.inner.held plan.new.inner.held result ledger.old.inner.held ledger.new.inner.held place.old place.new }
+    ensures { HandleOpensFrom (LedgerFrom room words.now) plan.old plan.new result
+        ledger.old ledger.new place.old place.new }
 {
     if ledger.is_full() {
         return Code::Full.number();
@@ -58,7 +58,7 @@ pub extern "C" fn cf_ledger_of(
     }
 }
 
-/// Does a word, and tells which stages it changed.
+/// Does the event of a word, and tells which stages it changed.
 #[unsafe(no_mangle)]
 pub extern "C" fn cf_ledger_apply(
     alloc: Global,
@@ -68,12 +68,14 @@ pub extern "C" fn cf_ledger_apply(
     news: &mut [CfNews],
     n: &mut usize,
 ) -> u32
-    ensures { Writes (DoesWord word) h.old.inner.held h.new.inner.held result (reply.old, news.old, n.old) (reply.new, news.new, n.new) }
+    ensures { HandleWrites (DoesWord word) h.old h.new result
+        (reply.old, news.old, n.old) (reply.new, news.new, n.new) }
 {
     ask!(alloc, h, held => telling::apply(&mut held, word, reply, news, n))
 }
 
-/// Finishes what a task holds with the answer in it, and gives it the next ready stage, claimed: two words.
+/// Finishes what a task holds with the answer in it. Then claims the next ready stage, and gives it to the task. These are two
+/// words.
 #[unsafe(no_mangle)]
 pub extern "C" fn cf_ledger_step(
     alloc: Global,
@@ -83,12 +85,13 @@ pub extern "C" fn cf_ledger_step(
     news: &mut [CfNews],
     n: &mut usize,
 ) -> u32
-    ensures { Writes StepsLedger h.old.inner.held h.new.inner.held result (step.old, task.old, news.old, n.old) (step.new, task.new, news.new, n.new) }
+    ensures { HandleWrites StepsLedger h.old h.new result
+        (step.old, task.old, news.old, n.old) (step.new, task.new, news.new, n.new) }
 {
     ask!(alloc, h, held => stepping::step(&mut held, step, task, news, n))
 }
 
-/// Does a row of words, and tells how many were done.
+/// Does the events of a row of words, and tells how many were done.
 #[unsafe(no_mangle)]
 pub extern "C" fn cf_ledger_apply_all(
     alloc: Global,
@@ -96,7 +99,7 @@ pub extern "C" fn cf_ledger_apply_all(
     words: &[u64],
     done: &mut usize,
 ) -> u32
-    ensures { Writes (DoesRow words.now) h.old.inner.held h.new.inner.held result done.old done.new }
+    ensures { HandleWrites (DoesRow words.now) h.old h.new result done.old done.new }
 {
     ask!(alloc, h, held => telling::apply_all(&mut held, words, done))
 }
@@ -110,7 +113,7 @@ pub extern "C" fn cf_ledger_words(
     words: &mut [u64],
     n: &mut usize,
 ) -> u32
-    ensures { Writes (WritesWords from) h.old.inner.held h.new.inner.held result (words.old, n.old) (words.new, n.new) }
+    ensures { HandleWrites (WritesWords from) h.old h.new result (words.old, n.old) (words.new, n.new) }
 {
     ask!(alloc, h, held => telling::words(&mut held, from, words, n))
 }
@@ -124,7 +127,7 @@ pub extern "C" fn cf_ledger_news(
     stages: &mut [u16],
     n: &mut usize,
 ) -> u32
-    ensures { Writes (WritesNews place) h.old.inner.held h.new.inner.held result (stages.old, n.old) (stages.new, n.new) }
+    ensures { HandleWrites (WritesNews place) h.old h.new result (stages.old, n.old) (stages.new, n.new) }
 {
     ask!(alloc, h, held => telling::news(&mut held, place, stages, n))
 }
@@ -137,7 +140,7 @@ pub extern "C" fn cf_ledger_ready(
     from: u16,
     stage: &mut u16,
 ) -> u32
-    ensures { HandleTells (OfLedger (TellsReady from)) h.old.inner.held h.new.inner.held result stage.old stage.new }
+    ensures { HandleTells (OfLedger (TellsReady from)) h.old h.new result stage.old stage.new }
 {
     tell!(alloc, h, stage, held => asking::ready(&mut held, from))
 }
@@ -150,7 +153,7 @@ pub extern "C" fn cf_ledger_stage(
     stage: u16,
     now: &mut CfStage,
 ) -> u32
-    ensures { HandleTells (OfLedger (TellsStage stage)) h.old.inner.held h.new.inner.held result now.old now.new }
+    ensures { HandleTells (OfLedger (TellsStage stage)) h.old h.new result now.old now.new }
 {
     tell!(alloc, h, now, held => asking::stage(&mut held, stage))
 }
@@ -163,7 +166,7 @@ pub extern "C" fn cf_ledger_function(
     stage: u16,
     function: &mut u16,
 ) -> u32
-    ensures { HandleTells (OfLedger (TellsFunction stage)) h.old.inner.held h.new.inner.held result function.old function.new }
+    ensures { HandleTells (OfLedger (TellsFunction stage)) h.old h.new result function.old function.new }
 {
     tell!(alloc, h, function, held => asking::function(&mut held, stage))
 }
@@ -171,15 +174,15 @@ pub extern "C" fn cf_ledger_function(
 /// How many stages there are by now.
 #[unsafe(no_mangle)]
 pub extern "C" fn cf_ledger_stages(alloc: Global, h: &mut CfHandle, stages: &mut u16) -> u32
-    ensures { HandleTells (OfLedger TellsStages) h.old.inner.held h.new.inner.held result stages.old stages.new }
+    ensures { HandleTells (OfLedger TellsStages) h.old h.new result stages.old stages.new }
 {
     tell!(alloc, h, stages, held => asking::stages(&mut held))
 }
 
-/// Makes room for so many stages more.
+/// Makes room for this many stages more.
 #[unsafe(no_mangle)]
 pub extern "C" fn cf_ledger_grow(alloc: Global, h: &mut CfHandle, more: u16) -> u32
-    ensures { Does (Grows more) h.old.inner.held h.new.inner.held result }
+    ensures { HandleDoes (Grows more) h.old h.new result }
 {
     ask!(alloc, h, held => asking::grow(alloc, &mut held, more))
 }
@@ -187,7 +190,7 @@ pub extern "C" fn cf_ledger_grow(alloc: Global, h: &mut CfHandle, more: u16) -> 
 /// Starts again. It takes no memory.
 #[unsafe(no_mangle)]
 pub extern "C" fn cf_ledger_restart(alloc: Global, h: &mut CfHandle) -> u32
-    ensures { Does StartsAgain h.old.inner.held h.new.inner.held result }
+    ensures { HandleDoes StartsAgain h.old h.new result }
 {
     ask!(alloc, h, held => asking::restart(&mut held))
 }

@@ -1,7 +1,7 @@
-//! Proved completable futures for C: the calls that C has.
+//! The calls of the C library: proved completable futures for C.
 //!
-//! A handle is a pointer that C keeps and never looks at. Each call takes out what stands behind it, asks it, and puts it
-//! back. What it is asked, and how the answer looks to C, is `cf_handles`'s.
+//! A handle is a pointer that C keeps and never looks into. Each call takes out what stands behind its handle, asks
+//! it, and puts it back. `cf_c_handles` says what it is asked, and how the answer looks to C.
 //!
 //! | Module | Calls of |
 //! |---|---|

@@ -1,10 +1,11 @@
 //! How desks are opened.
-ghost use Rattle.cf_handles.specs.Opening.{DeskOf, GrowingDeskOf, OpensDesk, is_due, setting_of};
+ghost use Rattle.cf_c_handles.specs.Handles.{HandleOpensDesk};
+ghost use Rattle.cf_c_handles.specs.Opening.{FixedDeskOf, GrowingDeskOf};
 
 use crate::handle::code_of;
-use cf_handles::code::Code;
-use cf_handles::desk::opening::{CfDeskSizes, open, open_growing};
-use cf_handles::handle::CfHandle;
+use cf_c_handles::code::Code;
+use cf_c_handles::desk::opening::{CfDeskSizes, open, open_growing};
+use cf_c_handles::handle::CfHandle;
 use std::alloc::Global;
 
 /// Opens a desk of the plan behind a handle, with a caller for each of the other handles, which are empty.
@@ -16,7 +17,7 @@ pub extern "C" fn cf_desk_open(
     log: u16,
     calls: u16,
 ) -> u32
-    ensures { OpensDesk (DeskOf setting_of (is_due log calls) log calls) plan.old.inner.held plan.new.inner.held result callers.old callers.new }
+    ensures { HandleOpensDesk (FixedDeskOf log calls) plan.old plan.new result callers.old callers.new }
 {
     match plan.take(alloc) {
         None => Code::Empty.number(),
@@ -28,7 +29,7 @@ pub extern "C" fn cf_desk_open(
     }
 }
 
-/// The same with room for so many stages that callers attach later, and so many functions.
+/// The same with room for stages that callers attach later, and with a number of functions.
 #[unsafe(no_mangle)]
 pub extern "C" fn cf_desk_open_with(
     alloc: Global,
@@ -36,7 +37,7 @@ pub extern "C" fn cf_desk_open_with(
     callers: &mut [CfHandle],
     sizes: &CfDeskSizes,
 ) -> u32
-    ensures { OpensDesk (GrowingDeskOf sizes.now) plan.old.inner.held plan.new.inner.held result callers.old callers.new }
+    ensures { HandleOpensDesk (GrowingDeskOf sizes.now) plan.old plan.new result callers.old callers.new }
 {
     match plan.take(alloc) {
         None => Code::Empty.number(),

@@ -1,20 +1,19 @@
 //! A plan that is being built, call by call.
-ghost use Rattle.cf_handles.specs.Answers.{Does, HandleTells};
-ghost use Rattle.cf_handles.specs.Building.{AddsLimit, AddsStage, Builds, IsNewBuilder, kind_of};
-ghost use Rattle.cf_handles.specs.Plans.{form_of, function_of};
+ghost use Rattle.cf_c_handles.specs.Building.{AddsLimit, Builds, IsNewBuilder, kind_of};
+ghost use Rattle.cf_c_handles.specs.Handles.{AddsStageAs, HandleDoes};
 
 use crate::handle::{ask, tell};
+use cf_c_handles::code::plan_code;
+use cf_c_handles::handle::object::Object;
+use cf_c_handles::handle::{CfHandle, fill};
+use cf_c_handles::plan::{add_limit, add_stage, build, kind_of};
+use cf_c_handles::values::CfValue;
+use cf_c_handles::values::attaching::function_of;
 use cf_forms::Form;
-use cf_handles::code::plan_code;
-use cf_handles::handle::object::Object;
-use cf_handles::handle::{CfHandle, fill};
-use cf_handles::plan::{add_limit, add_stage, build, kind_of};
-use cf_handles::values::CfValue;
-use cf_handles::values::attaching::function_of;
 use cf_plan::PlanBuilder;
 use std::alloc::Global;
 
-/// Puts an empty plan behind an empty handle, with room for so many stages and edges.
+/// Puts an empty plan, with room for this many stages and edges, behind an empty handle.
 #[unsafe(no_mangle)]
 pub extern "C" fn cf_builder_new(
     alloc: Global,
@@ -41,7 +40,7 @@ pub extern "C" fn cf_builder_stage(
     function: u32,
     stage: &mut u16,
 ) -> u32
-    ensures { HandleTells (AddsStage (form_of form) of.now (function_of function)) builder.old.inner.held builder.new.inner.held result stage.old stage.new }
+    ensures { AddsStageAs form of.now function builder.old builder.new result stage.old stage.new }
 {
     let form = Form::numbered(form);
     let function = function_of(function);
@@ -58,7 +57,7 @@ pub extern "C" fn cf_builder_limit(
     kind: u32,
     value: CfValue,
 ) -> u32
-    ensures { Does (AddsLimit stage at (kind_of kind value)) builder.old.inner.held builder.new.inner.held result }
+    ensures { HandleDoes (AddsLimit stage at (kind_of kind value)) builder.old builder.new result }
 {
     let kind = kind_of(kind, value);
     ask!(alloc, builder, held => add_limit(&mut held, stage, at, kind))
@@ -67,7 +66,7 @@ pub extern "C" fn cf_builder_limit(
 /// Builds the plan behind a handle.
 #[unsafe(no_mangle)]
 pub extern "C" fn cf_build(alloc: Global, builder: &mut CfHandle) -> u32
-    ensures { Does Builds builder.old.inner.held builder.new.inner.held result }
+    ensures { HandleDoes Builds builder.old builder.new result }
 {
     ask!(alloc, builder, held => build(alloc, &mut held))
 }

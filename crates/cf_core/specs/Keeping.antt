@@ -1,5 +1,6 @@
 pub mod Cells
 pub mod Treatment
+pub mod Taking
 pub mod Starts
 pub mod Offers
 pub mod Sweeps
@@ -11,6 +12,7 @@ pub mod Sound
 pub mod SoundStages
 pub mod Landings
 pub mod Serving
+pub mod Steps
 pub mod Graphs
 pub mod Turns
 pub mod Attaching

@@ -1,9 +1,9 @@
 //! What a stage takes when it is attached: what its sources hold then, in argument order.
-ghost use Rattle.std.specs.Prelude.{◌≡◌, ◌<◌, All, is_some, length, map};
+ghost use Rattle.std.specs.Prelude.{◌≡◌, ◌<◌, All, is_some, length};
 ghost use Rattle.std.specs.List.{list_any};
 ghost use Rattle.cf_forms.specs.Forms.{first_there, follows};
 ghost use Rattle.cf_core.specs.Keeping.Attaching.{attached_kept, takes_now};
-ghost use Rattle.cf_core.specs.Keeping.Treatment.{dated_in, outcome_part};
+ghost use Rattle.cf_core.specs.Keeping.Treatment.{outcomes_in};
 
 use crate::cells::Cells;
 use crate::kept::KeptStage;
@@ -30,7 +30,7 @@ pub fn attached(kept: &Cells, form: Form, sources: &[u16], step: u32) -> KeptSta
 /// What the stage does by what its sources hold.
 fn due_now(kept: &Cells, form: Form, sources: &[u16]) -> Due
     requires { All (λ j. j < length kept.now.items) sources.now }
-    ensures { result ≡ follows form (map outcome_part (map (dated_in kept.now.items) sources.now)) }
+    ensures { result ≡ follows form (outcomes_in kept.now.items sources.now) }
 {
     match form {
         Form::Source => Due::Waits,
@@ -53,7 +53,7 @@ fn due_now(kept: &Cells, form: Form, sources: &[u16]) -> Due
 /// Whether one of these stages is settled.
 fn any_settled(kept: &Cells, sources: &[u16]) -> bool
     requires { All (λ j. j < length kept.now.items) sources.now }
-    ensures { result ≡ list_any is_some (map outcome_part (map (dated_in kept.now.items) sources.now)) }
+    ensures { result ≡ list_any is_some (outcomes_in kept.now.items sources.now) }
 {
     for j in sources {
         if outcome_below(kept, *j).is_some() {
@@ -66,7 +66,7 @@ fn any_settled(kept: &Cells, sources: &[u16]) -> bool
 /// The outcome of the first of these stages that is settled.
 fn first_there(kept: &Cells, sources: &[u16]) -> Option<Outcome>
     requires { All (λ j. j < length kept.now.items) sources.now }
-    ensures { result ≡ first_there (map outcome_part (map (dated_in kept.now.items) sources.now)) }
+    ensures { result ≡ first_there (outcomes_in kept.now.items sources.now) }
 {
     for j in sources {
         if let Some(o) = outcome_below(kept, *j) {

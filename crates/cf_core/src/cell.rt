@@ -7,8 +7,8 @@ ghost use Rattle.cf_forms.specs.declared.forms.Due.TheVariants.{Needs};
 ghost use Rattle.cf_forms.specs.Forms.{due_one};
 ghost use Rattle.cf_model.specs.declared.stage.Stage.TheVariants.{Claimed, Linked, Pending, Ready, Settled};
 ghost use Rattle.cf_model.specs.States.{is_ready, outcome_of};
-ghost use Rattle.cf_core.specs.Keeping.Cells.{kept_of, outcome_in, value_in};
-ghost use Rattle.cf_core.specs.Keeping.Treatment.{due_kept};
+ghost use Rattle.cf_core.specs.Keeping.Cells.{kept_of, outcome_of_cell, taken_from, value_in, wrapped_of_cell};
+ghost use Rattle.cf_core.specs.Keeping.Treatment.{ready_kept, settled_kept};
 ghost use Rattle.cf_core.specs.Keeping.Sound.{is_waiting};
 
 use crate::kept::KeptStage;
@@ -80,7 +80,7 @@ fn second_in(flag: bool, payload: u32) -> Value
 
 /// The outcome of a cell.
 fn outcome_in(cell: &Cell) -> Outcome
-    ensures { result ≡ outcome_in cell.now.detail cell.now.flag cell.now.number cell.now.payload }
+    ensures { result ≡ outcome_of_cell cell.now }
 {
     let wrapped = cell.flag;
     match cell.detail {
@@ -187,7 +187,7 @@ impl Cell {
     /// Writes the parts of an outcome.
     #[inline(always)]
     fn put_outcome(&mut self, o: Outcome)
-        ensures outcome { outcome_in self.new.detail self.new.flag self.new.number self.new.payload ≡ o }
+        ensures outcome { outcome_of_cell self.new ≡ o }
         ensures kind { self.new.kind ≡ self.old.kind }
         ensures step { self.new.step ≡ self.old.step }
     {
@@ -315,7 +315,7 @@ impl Cell {
     /// Whether it keeps a fault, where it keeps an outcome.
     #[inline(always)]
     pub fn is_fault(&self) -> bool
-        ensures { result ≡ is_exceptional (outcome_in self.now.detail self.now.flag self.now.number self.now.payload) }
+        ensures { result ≡ is_exceptional (outcome_of_cell self.now) }
     {
         match self.detail {
             Detail::Nil | Detail::Int => false,
@@ -326,7 +326,7 @@ impl Cell {
     /// Settles it with the outcome of another, wrapped. What kind of outcome it is isn't looked at.
     #[inline(always)]
     fn pass(&mut self, from: Cell, step: u32)
-        ensures { kept_of self.new ≡ record { stage = Settled (outcome_in from.detail true from.number from.payload); step = step } }
+        ensures { kept_of self.new ≡ settled_kept (wrapped_of_cell from) step }
     {
         self.kind = Kind::Settled;
         self.detail = from.detail;
@@ -339,7 +339,7 @@ impl Cell {
     /// Makes it ready with the outcome of another. Its step stays.
     #[inline(always)]
     fn get(&mut self, from: Cell)
-        ensures { kept_of self.new ≡ record { stage = Ready (Got (outcome_in from.detail from.flag from.number from.payload)); step = self.old.step } }
+        ensures { kept_of self.new ≡ ready_kept (Got (outcome_of_cell from)) self.old.step }
     {
         self.kind = Kind::Got;
         self.detail = from.detail;
@@ -351,7 +351,7 @@ impl Cell {
     /// Makes it ready with the value of another. Its step stays.
     #[inline(always)]
     fn get_value(&mut self, from: Cell)
-        ensures { kept_of self.new ≡ record { stage = Ready (One (value_in from.detail from.number)); step = self.old.step } }
+        ensures { kept_of self.new ≡ ready_kept (One (value_in from.detail from.number)) self.old.step }
     {
         self.kind = Kind::One;
         self.detail = from.detail;
@@ -361,7 +361,7 @@ impl Cell {
     /// Makes it ready without arguments. Its step stays.
     #[inline(always)]
     fn get_none(&mut self)
-        ensures { kept_of self.new ≡ record { stage = Ready NoArgs; step = self.old.step } }
+        ensures { kept_of self.new ≡ ready_kept NoArgs self.old.step }
     {
         self.kind = Kind::None;
     }
@@ -369,7 +369,7 @@ impl Cell {
     /// Lets a pending stage take what its one source has, which has settled.
     #[inline(always)]
     pub fn take_one(&mut self, form: Form, from: Cell)
-        ensures { kept_of self.new ≡ due_kept (due_one form (outcome_in from.detail from.flag from.number from.payload)) from.step self.old.step }
+        ensures { kept_of self.new ≡ taken_from form from self.old.step }
     {
         match form {
             Form::Handle | Form::WhenComplete => self.get(from),
@@ -402,9 +402,9 @@ impl Cell {
     /// told, and not written.
     #[inline(always)]
     pub fn offer_one(&mut self, form: Form, from: Cell) -> Option<Args>
-        ensures told { IfSome result (λ args. due_one form (outcome_in from.detail from.flag from.number from.payload) ≡ Needs args) }
+        ensures told { IfSome result (λ args. due_one form (outcome_of_cell from) ≡ Needs args) }
         ensures unwritten { IfSome result (λ args. self.new ≡ self.old) }
-        ensures kept { IfNone result (kept_of self.new ≡ due_kept (due_one form (outcome_in from.detail from.flag from.number from.payload)) from.step self.old.step) }
+        ensures kept { IfNone result (kept_of self.new ≡ taken_from form from self.old.step) }
     {
         match form {
             Form::Handle | Form::WhenComplete => Some(Args::Got(outcome_in(&from))),

@@ -1,12 +1,12 @@
 //! What is kept of the stages of a graph.
-ghost use Rattle.std.specs.Prelude.{◌≡◌, ℕ, ◌+◌, ◌<◌, ◌≤◌, ◌∷◌, ◌++◌, [], IfNone, IfOk, IfSome, Some, is_some, length, replicate, slice_set, true};
+ghost use Rattle.std.specs.Prelude.{◌≡◌, ◌+◌, ◌<◌, ◌≤◌, ◌∷◌, ◌++◌, [], IfNone, IfOk, IfSome, Some, is_some, length, replicate, slice_set, true};
 ghost use Rattle.cf_outcome.specs.declared.outcome.Outcome.TheVariants.{Value as Gives};
 ghost use Rattle.cf_forms.specs.declared.forms.Due.TheVariants.{Needs};
-ghost use Rattle.cf_forms.specs.Forms.{due_of_first};
-ghost use Rattle.cf_model.specs.declared.stage.Stage.TheVariants.{Pending, Ready, Settled};
+ghost use Rattle.cf_model.specs.declared.stage.Stage.TheVariants.{Pending};
 ghost use Rattle.cf_model.specs.States.{is_ready, outcome_of};
 ghost use Rattle.cf_core.specs.Keeping.Cells.{blank};
-ghost use Rattle.cf_core.specs.Keeping.Treatment.{dated_in, due_kept, outcome_part, step_part};
+ghost use Rattle.cf_core.specs.Keeping.Taking.{due_by_one, ready_with, with_one_taken};
+ghost use Rattle.cf_core.specs.Keeping.Treatment.{settled_kept};
 ghost use Rattle.cf_core.specs.Keeping.Sound.{is_waiting, kept_at};
 ghost use Rattle.cf_core.specs.Keeping.Offers.{args_of};
 ghost use Rattle.cf_core.specs.Keeping.Starts.{untreated};
@@ -173,7 +173,7 @@ impl Cells {
     #[tactic(auto, using(crate::proofs::Keeping::CellLemmas::map_written))]
     pub fn settle(&mut self, i: u16, o: Outcome, step: u32)
         requires { i < length self.old.items }
-        ensures { self.new ≡ record self.old { items = slice_set self.old.items i (record { stage = Settled o; step = step }) } }
+        ensures { self.new ≡ record self.old { items = slice_set self.old.items i (settled_kept o step) } }
     {
         self.cells[i as usize].settle(o, step);
     }
@@ -183,7 +183,7 @@ impl Cells {
     #[tactic(auto, using(crate::proofs::Keeping::CellLemmas::map_written, crate::proofs::Keeping::CellLemmas::kept_there))]
     pub fn make_ready(&mut self, i: u16, args: Args)
         requires { i < length self.old.items }
-        ensures { self.new ≡ record self.old { items = slice_set self.old.items i (record { stage = Ready args; step = (kept_at self.old.items i).step }) } }
+        ensures { self.new ≡ record self.old { items = ready_with self.old.items i args } }
     {
         self.cells[i as usize].make_ready(args);
     }
@@ -194,7 +194,7 @@ impl Cells {
         requires stage { m < length self.old.items }
         requires source { j < length self.old.items }
         requires pending { (kept_at self.old.items m).stage ≡ Pending }
-        ensures kept { let x = dated_in self.old.items j in self.new.items ≡ slice_set self.old.items m (due_kept (due_of_first form (outcome_part x)) (step_part x) (kept_at self.old.items m).step) }
+        ensures kept { self.new.items ≡ with_one_taken self.old.items form j m }
         ensures room { self.new.capacity ≡ self.old.capacity }
     {
         let from = self.cells[j as usize];
@@ -210,9 +210,9 @@ impl Cells {
         requires stage { m < length self.old.items }
         requires source { j < length self.old.items }
         requires pending { (kept_at self.old.items m).stage ≡ Pending }
-        ensures told { IfSome result (λ args. due_of_first form (outcome_part (dated_in self.old.items j)) ≡ Needs args) }
+        ensures told { IfSome result (λ args. due_by_one self.old.items form j ≡ Needs args) }
         ensures unwritten { IfSome result (λ args. self.new ≡ self.old) }
-        ensures kept { let x = dated_in self.old.items j in IfNone result (self.new.items ≡ slice_set self.old.items m (due_kept (due_of_first form (outcome_part x)) (step_part x) (kept_at self.old.items m).step)) }
+        ensures kept { IfNone result (self.new.items ≡ with_one_taken self.old.items form j m) }
         ensures room { self.new.capacity ≡ self.old.capacity }
     {
         let from = self.cells[j as usize];

@@ -14,7 +14,7 @@ ghost use Rattle.std.specs.Prelude.{◌≡◌, ◌+◌, ◌<◌, ◌≤◌, ◌�
 ghost use Rattle.cf_outcome.specs.Outcomes.{now_of};
 ghost use Rattle.cf_forms.specs.Plans.{IsGrowing, function_at, has_place, opening_of, with_room};
 ghost use Rattle.cf_model.specs.States.{lowest_ready_of, outcome_at, start};
-ghost use Rattle.cf_model.specs.Graphs.{NoneLeftFor, NoneLeftUpTo, most_turns};
+ghost use Rattle.cf_model.specs.Graphs.{CountsTurns, NoneLeftFor, NoneLeftUpTo, most_turns};
 
 use crate::stages::Stages;
 use cf_outcome::{Now, Outcome, Value, now_of};
@@ -22,7 +22,7 @@ use cf_plan::{GrowingPlan, Plan};
 use std::alloc::{AllocError, Global};
 use std::marker::Model;
 
-/// Why there is no graph.
+/// Why a graph could not be made.
 #[derive(Clone, Copy, Debug, PartialEq, Eq)]
 pub enum GraphFault {
     /// There is no memory for its stages.
@@ -47,8 +47,9 @@ impl From<GraphFault> for AllocError {
 
 /// A graph of stages, of which each is pending, ready, claimed, linked or settled.
 ///
-/// A contract sees it as its state, in which all consequences have come to pass, whether they were worked out yet or not,
-/// how many turns were taken, the lowest stage that a turn is left for, and what is kept of each stage until then.
+/// A contract sees four things of it: its state, in which all consequences have come to pass, whether they were worked
+/// out yet or not; how many turns were taken; the lowest stage that a turn is left for; and what is kept of each stage
+/// until then.
 #[derive(Drop)]
 pub struct Graph {
     plan: GrowingPlan,
@@ -69,7 +70,18 @@ impl Model for Graph {
     ghost use Rattle.cf_core.specs.Keeping.Treatment.{stages_of};
     ghost use Rattle.cf_core.specs.Keeping.Graphs.{IsInStep};
 
-    ghost view = { λ g. record { state = record { plan = g.plan; stages = settled_view_of g.plan.stages g.stages; claims = g.claims.items; moment = g.moment; used = g.used }; turns = g.stages.turns; left = position (λ b. b) g.stages.marks; kept = stages_of g.stages.kept.items } };
+    ghost view = { λ g. record {
+      state = record {
+        plan = g.plan;
+        stages = settled_view_of g.plan.stages g.stages;
+        claims = g.claims.items;
+        moment = g.moment;
+        used = g.used;
+      };
+      turns = g.stages.turns;
+      left = position (λ b. b) g.stages.marks;
+      kept = stages_of g.stages.kept.items;
+    } };
 
     ghost invariant = { λ g. IsInStep g.plan g.stages g.claims.items (vec_capacity g.claims) g.used };
 }
@@ -83,12 +95,12 @@ impl Graph {
         ensures turns { IfOk result (λ graph. graph.turns ≡ 0) }
     {
         // A plan that was built is within its bounds.
-        let _stages = plan.stages();
+        let _known = plan.stages();
         Graph::new_growing(alloc, plan, 0)
     }
 
     /// The graph of a plan, at its start, with room for so many stages that are attached later. It takes all the memory
-    /// that the graph will ever need, also for these, and fails only where there is none.
+    /// that the graph will ever need, for these stages too, and fails only where there is none.
     pub fn new_growing(alloc: Global, plan: Plan, room: u16) -> Result<Graph, GraphFault>
         requires place { has_place plan.stages room ≡ true }
         ensures start { IfOk result (λ graph. graph.state ≡ start (with_room plan room)) }
@@ -97,8 +109,8 @@ impl Graph {
         Ok(graph_of(alloc, plan, room)?)
     }
 
-    /// The graph of a plan that stays, at its start, with room for so many stages that are attached later. It fails only where
-    /// there is no memory.
+    /// The graph of a plan that the caller keeps, at its start, with room for so many stages that are attached later.
+    /// It fails only where there is no memory.
     pub fn growing_of(alloc: Global, plan: &Plan, room: u16) -> Result<Graph, AllocError>
         requires place { has_place plan.now.stages room ≡ true }
         ensures start { IfOk result (λ graph. graph.state ≡ start (with_room plan.now room)) }
@@ -155,8 +167,7 @@ impl Graph {
         ensures told { result ≡ now_of (outcome_at self.old.state i) absent }
         ensures unchanged { self.new.state ≡ self.old.state }
         ensures rests { NoneLeftUpTo i self.old.left → self.new ≡ self.old }
-        ensures counted { self.old.turns ≤ self.new.turns }
-        ensures few { self.new.turns ≤ most_turns self.new.state.plan.stages }
+        ensures counted { CountsTurns self.old self.new }
     {
         now_of(self.outcome(i), absent)
     }
@@ -167,8 +178,7 @@ impl Graph {
         ensures told { result ≡ outcome_at self.old.state i }
         ensures unchanged { self.new.state ≡ self.old.state }
         ensures rests { NoneLeftUpTo i self.old.left → self.new ≡ self.old }
-        ensures counted { self.old.turns ≤ self.new.turns }
-        ensures few { self.new.turns ≤ most_turns self.new.state.plan.stages }
+        ensures counted { CountsTurns self.old self.new }
     {
         if let Some(o) = self.stages.outcome(i) {
             return Some(o);
@@ -182,14 +192,13 @@ impl Graph {
         ensures told { result ≡ lowest_ready_of self.old.state }
         ensures unchanged { self.new.state ≡ self.old.state }
         ensures rests { NoneLeftFor result self.old.left → self.new ≡ self.old }
-        ensures counted { self.old.turns ≤ self.new.turns }
-        ensures few { self.new.turns ≤ most_turns self.new.state.plan.stages }
+        ensures counted { CountsTurns self.old self.new }
     {
         self.stages.lowest_ready(&self.plan)
     }
 
-    /// Does at most `k` turns of work that is left over, and says how many: fewer than `k` only where none is left then. It
-    /// changes no answer but that of `turns`.
+    /// Takes at most `k` of the turns that are left, and says how many it took: fewer than `k` only where none is left
+    /// then. It changes no answer but that of `turns`.
     pub fn nudge(&mut self, k: u32) -> u32
         ensures at_most { result ≤ k }
         ensures all { result < k → self.new.left ≡ None }

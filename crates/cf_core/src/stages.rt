@@ -3,23 +3,23 @@ mod attaching;
 mod restarting;
 mod sweeping;
 
-ghost use Rattle.std.specs.Prelude.{◌≡◌, ℕ, ◌+◌, ◌<◌, ◌≤◌, [], All, IfNone, IfOk, IfSome, List, None, Some, drop, false, length, option_and_then, position, replicate, slice_get, slice_set, true, vec_capacity, if◌then◌else◌};
+ghost use Rattle.std.specs.Prelude.{◌≡◌, ◌+◌, ◌<◌, ◌≤◌, [], All, IfNone, IfOk, IfSome, None, Some, drop, false, length, position, slice_set, true, if◌then◌else◌, ℕ};
 ghost use Rattle.cf_forms.specs.declared.forms.Landing.TheVariants.{Links as LinksTo};
 ghost use Rattle.cf_forms.specs.Forms.{composes, starts};
-ghost use Rattle.cf_forms.specs.Plans.{dependents_of, form_at, sources_at};
-ghost use Rattle.cf_model.specs.declared.stage.Stage.TheVariants.{Claimed, Linked, Pending, Settled};
-ghost use Rattle.cf_model.specs.Graphs.{MovesAlone, NoneLeftFor, NoneLeftUpTo, NoneReady, rank, stage_in};
-ghost use Rattle.cf_model.specs.declared.stage.Stage.{Stage};
-ghost use Rattle.cf_model.specs.States.{is_ready, new_states, outcome_in, outcome_of};
-ghost use Rattle.cf_core.specs.Keeping.Changes.{HaveMoved};
-ghost use Rattle.cf_core.specs.Keeping.Landings.{landed_stages};
+ghost use Rattle.cf_forms.specs.Plans.{form_at};
+ghost use Rattle.cf_model.specs.declared.stage.Stage.TheVariants.{Claimed};
+ghost use Rattle.cf_model.specs.Graphs.{NoneLeftFor, NoneLeftUpTo, NoneReady, rank, stage_in};
+ghost use Rattle.cf_model.specs.States.{is_ready, outcome_of};
+ghost use Rattle.cf_core.specs.Keeping.Changes.{TellOn};
+ghost use Rattle.cf_core.specs.Keeping.Landings.{first_source};
 ghost use Rattle.cf_core.specs.Keeping.Links.{list_at};
-ghost use Rattle.cf_core.specs.Keeping.Sound.{AreTreated, HasLists, ReadyIsTreated, StayTaken, StayTakenBut, is_taken, kept_at, links_after, mark_all, marks_after};
-ghost use Rattle.cf_core.specs.Keeping.SoundStages.{AreSound, HasRoom, SameRoom, settled_view_of};
+ghost use Rattle.cf_core.specs.Keeping.Sound.{AreTreated, HasLists, ReadyIsTreated, StayTaken, StayTakenBut, is_taken, kept_at, links_after};
+ghost use Rattle.cf_core.specs.Keeping.SoundStages.{AreSound, HasListRoom, HasRoom, KeptMovesAlone, SameRoom, SameView, lowest_ready_in, marks_once_noted, marks_once_put, marks_once_settled, settled_view_of};
 ghost use Rattle.cf_core.specs.Keeping.Sweeps.{AreSwept};
 ghost use Rattle.cf_core.specs.Keeping.Turns.{TurnsBelowReady, TurnsUpTo, turned};
-ghost use Rattle.cf_core.specs.Keeping.Starts.{mark_starts, mark_those, untreated};
+ghost use Rattle.cf_core.specs.Keeping.Starts.{mark_starts, mark_those};
 ghost use Rattle.cf_core.specs.Keeping.Treatment.{stages_of};
+ghost use Rattle.cf_core.specs.Keeping.Steps.{AreAtStart, StageIsClaimed, StageIsLinked, StageLands, StageSettles};
 
 use crate::cells::Cells;
 use crate::kept::KeptStage;
@@ -49,7 +49,7 @@ impl Stages {
     /// The stages of a plan, none of which was treated, with room for all that may be attached. Those that have something to
     /// take from the start on are marked.
     pub fn new(alloc: Global, plan: &GrowingPlan) -> Result<Stages, AllocError>
-        ensures start { IfOk result (λ s. settled_view_of plan.now.stages s ≡ new_states [] plan.now.stages (replicate (length plan.now.stages) Pending)) }
+        ensures start { IfOk result (λ s. AreAtStart plan.now.stages s) }
         ensures turns { IfOk result (λ s. s.turns ≡ 0) }
         ensures sound { IfOk result (λ s. AreSound plan.now.stages s) }
         ensures room { IfOk result (λ s. HasRoom plan.now.opened (length plan.now.stages + plan.now.room) s) }
@@ -82,7 +82,7 @@ impl Stages {
         requires all_ready { length self.old.ready ≡ length plan.now.stages }
         requires linked { All (λ i. i < length plan.now.stages) (list_at self.old.links d) }
         ensures kept { self.new.kept.items ≡ slice_set self.old.kept.items d new }
-        ensures marks { self.new.marks ≡ marks_after plan.now.stages (slice_set self.old.kept.items d new) self.old.links self.old.marks d new.stage }
+        ensures marks { self.new.marks ≡ marks_once_put plan.now.stages self.old d new }
         ensures ready { self.new.ready ≡ slice_set self.old.ready d (is_ready new.stage) }
         ensures links { self.new.links ≡ links_after self.old.links d new.stage }
         ensures steps { self.new.steps ≡ self.old.steps }
@@ -103,7 +103,7 @@ impl Stages {
         requires all_ready { length self.old.ready ≡ length plan.now.stages }
         requires linked { All (λ i. i < length plan.now.stages) (list_at self.old.links d) }
         ensures kept { self.new.kept ≡ self.old.kept }
-        ensures marks { self.new.marks ≡ marks_after plan.now.stages self.old.kept.items self.old.links self.old.marks d ((kept_at self.old.kept.items d).stage) }
+        ensures marks { self.new.marks ≡ marks_once_noted plan.now.stages self.old d }
         ensures ready { self.new.ready ≡ slice_set self.old.ready d (is_ready ((kept_at self.old.kept.items d).stage)) }
         ensures links { self.new.links ≡ links_after self.old.links d ((kept_at self.old.kept.items d).stage) }
         ensures steps { self.new.steps ≡ self.old.steps }
@@ -127,7 +127,7 @@ impl Stages {
         requires all_kept { length self.old.kept.items ≡ length plan.now.stages }
         requires all_marks { length self.old.marks ≡ length plan.now.stages }
         requires linked { All (λ i. i < length plan.now.stages) (list_at self.old.links d) }
-        ensures marks { self.new.marks ≡ mark_all self.old.kept.items (list_at self.old.links d) (mark_all self.old.kept.items (dependents_of plan.now.stages d) self.old.marks) }
+        ensures marks { self.new.marks ≡ marks_once_settled plan.now.stages self.old d }
         ensures links { self.new.links ≡ slice_set self.old.links d [] }
         ensures kept { self.new.kept ≡ self.old.kept }
         ensures ready { self.new.ready ≡ self.old.ready }
@@ -148,7 +148,7 @@ impl Stages {
         ensures counted { self.new.turns ≡ self.old.turns + 1 }
         ensures ready { result ≡ true → self.new.ready ≡ slice_set self.old.ready m true }
         ensures marks { result ≡ true → self.new.marks ≡ slice_set self.old.marks m false }
-        ensures same { settled_view_of plan.now.stages self.new ≡ settled_view_of plan.now.stages self.old }
+        ensures same { SameView plan.now.stages self.old self.new }
         ensures taken { StayTaken self.old.kept.items self.new.kept.items }
         ensures room { SameRoom self.old self.new }
         ensures sound { AreSound plan.now.stages self.new }
@@ -169,7 +169,7 @@ impl Stages {
         requires sound { AreSound plan.now.stages self.old }
         requires stage { d < length plan.now.stages }
         ensures treated { AreTreated (d + 1) self.new.marks }
-        ensures same { settled_view_of plan.now.stages self.new ≡ settled_view_of plan.now.stages self.old }
+        ensures same { SameView plan.now.stages self.old self.new }
         ensures taken { StayTaken self.old.kept.items self.new.kept.items }
         ensures turns { TurnsUpTo plan.now.stages d self.old self.new }
         ensures still { NoneLeftUpTo d (position (λ b. b) self.old.marks) → self.new ≡ self.old }
@@ -186,7 +186,7 @@ impl Stages {
         requires sound { AreSound plan.now.stages self.old }
         ensures treated { AreTreated (length plan.now.stages) self.new.marks }
         ensures still { position (λ b. b) self.old.marks ≡ None → self.new ≡ self.old }
-        ensures same { settled_view_of plan.now.stages self.new ≡ settled_view_of plan.now.stages self.old }
+        ensures same { SameView plan.now.stages self.old self.new }
         ensures taken { StayTaken self.old.kept.items self.new.kept.items }
         ensures counted { self.old.turns ≤ self.new.turns }
         ensures room { SameRoom self.old self.new }
@@ -214,8 +214,8 @@ impl Stages {
     /// The lowest ready stage. All marked stages below it are treated.
     pub fn lowest_ready(&mut self, plan: &GrowingPlan) -> Option<u16>
         requires sound { AreSound plan.now.stages self.old }
-        ensures told { result ≡ position is_ready (settled_view_of plan.now.stages self.old) }
-        ensures same { settled_view_of plan.now.stages self.new ≡ settled_view_of plan.now.stages self.old }
+        ensures told { result ≡ lowest_ready_in plan.now.stages self.old }
+        ensures same { SameView plan.now.stages self.old self.new }
         ensures taken { StayTaken self.old.kept.items self.new.kept.items }
         ensures turns { TurnsBelowReady plan.now.stages self.old self.new }
         ensures still { NoneLeftFor result (position (λ b. b) self.old.marks) → self.new ≡ self.old }
@@ -253,7 +253,7 @@ impl Stages {
         ensures few { result ≤ k }
         ensures counted { self.new.turns ≡ self.old.turns + result }
         ensures all { result < k → position (λ b. b) self.new.marks ≡ None }
-        ensures same { settled_view_of plan.now.stages self.new ≡ settled_view_of plan.now.stages self.old }
+        ensures same { SameView plan.now.stages self.old self.new }
         ensures taken { StayTaken self.old.kept.items self.new.kept.items }
         ensures room { SameRoom self.old self.new }
         ensures sound { AreSound plan.now.stages self.new }
@@ -275,9 +275,9 @@ impl Stages {
     pub fn tell_rest(&mut self, plan: &GrowingPlan, changed: &mut BitSet)
         requires sound { AreSound plan.now.stages self.old }
         requires flags { length plan.now.stages ≤ length changed.old }
-        ensures told { (old : List Stage) → HaveMoved old (stages_of self.old.kept.items) changed.old → HaveMoved old (stages_of self.new.kept.items) changed.new }
+        ensures told { TellOn (stages_of self.old.kept.items) changed.old (stages_of self.new.kept.items) changed.new }
         ensures none { position (λ b. b) self.new.marks ≡ None }
-        ensures same { settled_view_of plan.now.stages self.new ≡ settled_view_of plan.now.stages self.old }
+        ensures same { SameView plan.now.stages self.old self.new }
         ensures taken { StayTaken self.old.kept.items self.new.kept.items }
         ensures counted { self.old.turns ≤ self.new.turns }
         ensures flags { length changed.new ≡ length changed.old }
@@ -350,8 +350,8 @@ impl Stages {
         requires stage { d < length plan.now.stages }
         requires treated { AreTreated (d + 1) self.old.marks }
         requires unsettled { outcome_of ((kept_at self.old.kept.items d).stage) ≡ None }
-        ensures after { settled_view_of plan.now.stages self.new ≡ new_states [] plan.now.stages (slice_set (settled_view_of plan.now.stages self.old) d (Settled o)) }
-        ensures alone { MovesAlone d (stages_of self.old.kept.items) (stages_of self.new.kept.items) }
+        ensures after { StageSettles plan.now.stages d o self.old self.new }
+        ensures alone { KeptMovesAlone d self.old self.new }
         ensures taken { StayTaken self.old.kept.items self.new.kept.items }
         ensures turns { self.new.turns ≡ self.old.turns }
         ensures room { SameRoom self.old self.new }
@@ -387,8 +387,8 @@ impl Stages {
         requires stage { d < length plan.now.stages }
         requires treated { AreTreated (d + 1) self.old.marks }
         requires ready { is_ready ((kept_at self.old.kept.items d).stage) ≡ true }
-        ensures claimed { settled_view_of plan.now.stages self.new ≡ slice_set (settled_view_of plan.now.stages self.old) d Claimed }
-        ensures alone { MovesAlone d (stages_of self.old.kept.items) (stages_of self.new.kept.items) }
+        ensures claimed { StageIsClaimed plan.now.stages d self.old self.new }
+        ensures alone { KeptMovesAlone d self.old self.new }
         ensures here { is_taken ((kept_at self.new.kept.items d).stage) ≡ true }
         ensures taken { StayTaken self.old.kept.items self.new.kept.items }
         ensures turns { self.new.turns ≡ self.old.turns }
@@ -416,8 +416,8 @@ impl Stages {
         requires claimed { (kept_at self.old.kept.items d).stage ≡ Claimed }
         requires composes { composes (form_at plan.now.stages d) ≡ true }
         requires unsettled { outcome_of ((kept_at self.old.kept.items j).stage) ≡ None }
-        ensures linked { settled_view_of plan.now.stages self.new ≡ slice_set (settled_view_of plan.now.stages self.old) d (Linked j) }
-        ensures alone { MovesAlone d (stages_of self.old.kept.items) (stages_of self.new.kept.items) }
+        ensures linked { StageIsLinked plan.now.stages d j self.old self.new }
+        ensures alone { KeptMovesAlone d self.old self.new }
         ensures taken { StayTakenBut d self.old.kept.items self.new.kept.items }
         ensures turns { self.new.turns ≡ self.old.turns }
         ensures room { SameRoom self.old self.new }
@@ -448,7 +448,7 @@ impl Stages {
     pub fn source(&self, plan: &GrowingPlan, i: u16) -> Option<Outcome>
         requires treated { AreSwept plan.now.stages (i + 1) 0 self.now }
         requires stage { i < length plan.now.stages }
-        ensures { result ≡ option_and_then (outcome_in (settled_view_of plan.now.stages self.now)) (slice_get (sources_at plan.now.stages i) 0) }
+        ensures { result ≡ first_source plan.now.stages (settled_view_of plan.now.stages self.now) i }
     {
         match plan.sources(i).first() {
             Some(j) => self.outcome(*j),
@@ -464,8 +464,8 @@ impl Stages {
         requires claimed { (kept_at self.old.kept.items d).stage ≡ Claimed }
         requires target { (j : ℕ) → at ≡ LinksTo j → j < d }
         requires composes { (j : ℕ) → at ≡ LinksTo j → composes (form_at plan.now.stages d) ≡ true }
-        ensures landed { settled_view_of plan.now.stages self.new ≡ landed_stages plan.now.stages (settled_view_of plan.now.stages self.old) d at }
-        ensures alone { MovesAlone d (stages_of self.old.kept.items) (stages_of self.new.kept.items) }
+        ensures landed { StageLands plan.now.stages d at self.old self.new }
+        ensures alone { KeptMovesAlone d self.old self.new }
         ensures taken { StayTakenBut d self.old.kept.items self.new.kept.items }
         ensures turns { self.new.turns ≡ self.old.turns }
         ensures room { SameRoom self.old self.new }
@@ -484,7 +484,7 @@ impl Stages {
 /// How many lists of linked stages are made: one for each stage that there may be, or none where no stage ever links.
 fn list_count(plan: &GrowingPlan) -> u16
     ensures composing { HasLists plan.now.stages result }
-    ensures room { plan.now.opened < length plan.now.stages + plan.now.room → length plan.now.stages + plan.now.room ≤ result }
+    ensures room { HasListRoom plan.now.opened (length plan.now.stages + plan.now.room) result }
 {
     let most = plan.stages() + plan.room();
     if plan.opening().stages() < most || has_composing(plan) {

@@ -1,12 +1,13 @@
 //! The treatment of one stage: it takes what the stages below it have, and keeps at which step.
-ghost use Rattle.std.specs.Prelude.{◌≡◌, ℕ, ◌<◌, ◌∷◌, [], All, IfNone, IfSome, Option, Some, is_some, length, map, slice_set};
+ghost use Rattle.std.specs.Prelude.{◌≡◌, ◌<◌, ◌∷◌, [], All, IfNone, IfSome, Some, is_some, length, map, slice_set};
 ghost use Rattle.std.specs.List.{list_all};
 ghost use Rattle.cf_outcome.specs.declared.outcome.Outcome.TheVariants.{Value as Gives};
 ghost use Rattle.cf_forms.specs.declared.forms.Due.TheVariants.{Needs};
 ghost use Rattle.cf_forms.specs.Forms.{first_fault, due_of_both};
-ghost use Rattle.cf_model.specs.declared.stage.Stage.TheVariants.{Linked, Pending, Ready};
+ghost use Rattle.cf_model.specs.declared.stage.Stage.TheVariants.{Linked, Pending};
 ghost use Rattle.cf_core.specs.Keeping.Sound.{kept_at};
-ghost use Rattle.cf_core.specs.Keeping.Treatment.{dated_in, due_kept, earlier, earliest, late_due, latest, linked_kept, outcome_part, treated};
+ghost use Rattle.cf_core.specs.Keeping.Taking.{IsTreatedAs, WouldBeReady, due_by, with_due_taken, with_link_taken};
+ghost use Rattle.cf_core.specs.Keeping.Treatment.{dated_in, due_kept, earlier, earliest, latest, outcome_part, outcomes_in};
 ghost use Rattle.cf_core.specs.Keeping.Offers.{takes_values, two_values};
 
 use crate::cells::Cells;
@@ -20,7 +21,7 @@ use cf_outcome::{Outcome, Value, is_exceptional, wrap};
 pub fn treat(kept: &mut Cells, form: Form, sources: &[u16], m: u16)
     requires stage { m < length kept.old.items }
     requires sources { All (λ j. j < length kept.old.items) sources.now }
-    ensures kept { (function : Option ℕ) → kept.new.items ≡ slice_set kept.old.items m (treated kept.old.items (record { form = form; sources = sources.now; function = function }) (kept_at kept.old.items m)) }
+    ensures kept { IsTreatedAs form sources.now m kept.old.items kept.new.items }
     ensures room { kept.new.capacity ≡ kept.old.capacity }
 {
     match kept.stage(m) {
@@ -36,9 +37,9 @@ pub fn treat(kept: &mut Cells, form: Form, sources: &[u16], m: u16)
 pub fn offer<F>(kept: &mut Cells, form: Form, sources: &[u16], m: u16) -> Option<Args>
     requires stage { m < length kept.old.items }
     requires sources { All (λ j. j < length kept.old.items) sources.now }
-    ensures told { IfSome result (λ args. (function : Option ℕ) → treated kept.old.items (record { form = form; sources = sources.now; function = function }) (kept_at kept.old.items m) ≡ record { stage = Ready args; step = (kept_at kept.old.items m).step }) }
+    ensures told { IfSome result (λ args. WouldBeReady form sources.now m kept.old.items args) }
     ensures unwritten { IfSome result (λ args. kept.new ≡ kept.old) }
-    ensures kept { IfNone result ((function : Option ℕ) → kept.new.items ≡ slice_set kept.old.items m (treated kept.old.items (record { form = form; sources = sources.now; function = function }) (kept_at kept.old.items m))) }
+    ensures kept { IfNone result (IsTreatedAs form sources.now m kept.old.items kept.new.items) }
     ensures room { kept.new.capacity ≡ kept.old.capacity }
 {
     if kept.is_pending(m) {
@@ -55,9 +56,9 @@ fn offer_due<F>(kept: &mut Cells, form: Form, sources: &[u16], m: u16) -> Option
     requires stage { m < length kept.old.items }
     requires sources { All (λ j. j < length kept.old.items) sources.now }
     requires pending { (kept_at kept.old.items m).stage ≡ Pending }
-    ensures told { IfSome result (λ args. (late_due form (map (dated_in kept.old.items) sources.now)).0 ≡ Needs args) }
+    ensures told { IfSome result (λ args. (due_by kept.old.items form sources.now).0 ≡ Needs args) }
     ensures unwritten { IfSome result (λ args. kept.new ≡ kept.old) }
-    ensures kept { let due = late_due form (map (dated_in kept.old.items) sources.now) in IfNone result (kept.new.items ≡ slice_set kept.old.items m (due_kept due.0 due.1 (kept_at kept.old.items m).step)) }
+    ensures kept { IfNone result (kept.new.items ≡ with_due_taken kept.old.items form sources.now m) }
     ensures room { kept.new.capacity ≡ kept.old.capacity }
 {
     if let [j] = sources {
@@ -79,7 +80,7 @@ fn offer_due<F>(kept: &mut Cells, form: Form, sources: &[u16], m: u16) -> Option
 #[tactic(auto, using(crate::proofs::Keeping::Offering::two_due))]
 fn offered(kept: &Cells, form: Form, sources: &[u16]) -> Option<Args>
     requires sources { All (λ j. j < length kept.now.items) sources.now }
-    ensures { IfSome result (λ args. (late_due form (map (dated_in kept.now.items) sources.now)).0 ≡ Needs args) }
+    ensures { IfSome result (λ args. (due_by kept.now.items form sources.now).0 ≡ Needs args) }
 {
     if takes_values(form) {
         offered_two(kept, sources)
@@ -100,7 +101,7 @@ fn takes_values(form: Form) -> bool
 #[inline(always)]
 fn offered_two(kept: &Cells, sources: &[u16]) -> Option<Args>
     requires sources { All (λ j. j < length kept.now.items) sources.now }
-    ensures { IfSome result (λ args. two_values (map outcome_part (map (dated_in kept.now.items) sources.now)) ≡ Some args) }
+    ensures { IfSome result (λ args. two_values (outcomes_in kept.now.items sources.now) ≡ Some args) }
 {
     if let [a, b] = sources {
         if let Some(v) = value_below(kept, *a) {
@@ -148,7 +149,7 @@ fn dated_if(kept: &Cells, j: u16) -> Option<(Outcome, u32)>
 fn take_linked(kept: &mut Cells, j: u16, m: u16)
     requires stage { m < length kept.old.items }
     requires linked { (kept_at kept.old.items m).stage ≡ Linked j }
-    ensures kept { kept.new.items ≡ slice_set kept.old.items m (linked_kept j (kept_at kept.old.items m).step (dated_in kept.old.items j)) }
+    ensures kept { kept.new.items ≡ with_link_taken kept.old.items j m }
     ensures room { kept.new.capacity ≡ kept.old.capacity }
 {
     if let Some((o, settled)) = dated_if(kept, j) {
@@ -163,7 +164,7 @@ fn take_due(kept: &mut Cells, form: Form, sources: &[u16], m: u16)
     requires stage { m < length kept.old.items }
     requires sources { All (λ j. j < length kept.old.items) sources.now }
     requires pending { (kept_at kept.old.items m).stage ≡ Pending }
-    ensures kept { let due = late_due form (map (dated_in kept.old.items) sources.now) in kept.new.items ≡ slice_set kept.old.items m (due_kept due.0 due.1 (kept_at kept.old.items m).step) }
+    ensures kept { kept.new.items ≡ with_due_taken kept.old.items form sources.now m }
     ensures room { kept.new.capacity ≡ kept.old.capacity }
 {
     if let [j] = sources {
@@ -285,7 +286,7 @@ pub fn outcome_below(kept: &Cells, j: u16) -> Option<Outcome>
 /// What a form of two sources that waits for both does.
 pub fn due_both(kept: &Cells, form: Form, sources: &[u16]) -> Due
     requires { All (λ j. j < length kept.now.items) sources.now }
-    ensures { result ≡ due_of_both form (map outcome_part (map (dated_in kept.now.items) sources.now)) }
+    ensures { result ≡ due_of_both form (outcomes_in kept.now.items sources.now) }
 {
     if let [a, b] = sources {
         let first = outcome_below(kept, *a);
@@ -309,7 +310,7 @@ fn due_if_both(form: Form, first: Option<Outcome>, second: Option<Outcome>) -> D
 /// Whether all sources are settled.
 pub fn all_settled(kept: &Cells, sources: &[u16]) -> bool
     requires { All (λ j. j < length kept.now.items) sources.now }
-    ensures { result ≡ list_all is_some (map outcome_part (map (dated_in kept.now.items) sources.now)) }
+    ensures { result ≡ list_all is_some (outcomes_in kept.now.items sources.now) }
 {
     for j in sources {
         if outcome_below(kept, *j).is_none() {
@@ -322,7 +323,7 @@ pub fn all_settled(kept: &Cells, sources: &[u16]) -> bool
 /// The fault at the lowest place, wrapped, or nil where none has failed.
 pub fn joint_outcome(kept: &Cells, sources: &[u16]) -> Outcome
     requires { All (λ j. j < length kept.now.items) sources.now }
-    ensures { result ≡ first_fault (map outcome_part (map (dated_in kept.now.items) sources.now)) }
+    ensures { result ≡ first_fault (outcomes_in kept.now.items sources.now) }
 {
     for j in sources {
         if let Some(o) = outcome_below(kept, *j) {

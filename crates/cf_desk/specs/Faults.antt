@@ -9,6 +9,8 @@ use Rattle.cf_desk.specs.declared.faults.DeskFault.{DeskFault}
 use Rattle.cf_desk.specs.declared.faults.DeskFault.TheVariants.{NoStage, BadAttach, LogFull, PassFull}
 use Rattle.cf_desk.specs.declared.faults.OpenFault.{OpenFault}
 use Rattle.cf_desk.specs.declared.faults.OpenFault.TheVariants.{Callers, Log, Calls, Room, Functions, NoMemory}
+use Rattle.cf_desk.specs.declared.sizes.DeskGrowth.{DeskGrowth}
+use Rattle.cf_desk.specs.declared.sizes.DeskSizes.{DeskSizes}
 use Rattle.cf_desk.specs.Functions.{function_bound}
 use Rattle.cf_event.specs.Events.{IsFunctionBelow}
 use Rattle.cf_desk.specs.Views.{Pass, Desk, SeesFull, state_of}
@@ -54,25 +56,28 @@ IsDueToRead p ask BadAttach = ⊥
 IsDueToRead p ask PassFull = AsksStage p ask × (length p.records ≡ p.calls)
 IsDueToRead p ask LogFull = ⊥
 
--- a desk has callers, words and records, each as many as may be
-abbrev pub AreCounts : ℕ → ℕ → ℕ → Type 0
-AreCounts callers log calls = (0 < callers) × (callers ≤ 64) × (0 < log) × (0 < calls)
+-- a desk has 1 to 64 callers, and at least one word and one record for each pass
+abbrev pub AreCounts : DeskSizes → Type 0
+AreCounts sizes = (0 < sizes.callers) × (sizes.callers ≤ 64) × (0 < sizes.log) × (0 < sizes.calls)
 
 -- why a desk isn't opened: it is to have no callers or more than 64, else no word, else its passes no record, else memory was refused
-abbrev pub IsDueToOpen : ℕ → ℕ → ℕ → OpenFault → Type 0
-IsDueToOpen callers log calls Callers = (callers ≡ 0) ⊎ (64 < callers)
-IsDueToOpen callers log calls Log = (0 < callers) × (callers ≤ 64) × (log ≡ 0)
-IsDueToOpen callers log calls Calls = (0 < callers) × (callers ≤ 64) × (0 < log) × (calls ≡ 0)
-IsDueToOpen callers log calls Room = ⊥
-IsDueToOpen callers log calls Functions = ⊥
-IsDueToOpen callers log calls NoMemory = AreCounts callers log calls
+abbrev pub IsDueToOpen : DeskSizes → OpenFault → Type 0
+IsDueToOpen sizes Callers = (sizes.callers ≡ 0) ⊎ (64 < sizes.callers)
+IsDueToOpen sizes Log = (0 < sizes.callers) × (sizes.callers ≤ 64) × (sizes.log ≡ 0)
+IsDueToOpen sizes Calls = (0 < sizes.callers) × (sizes.callers ≤ 64) × (0 < sizes.log) × (sizes.calls ≡ 0)
+IsDueToOpen sizes Room = ⊥
+IsDueToOpen sizes Functions = ⊥
+IsDueToOpen sizes NoMemory = AreCounts sizes
 
--- why a desk that grows isn't opened: for one of these counts, else the plan has no place for the room, else a function of the plan isn't below the number
--- of functions, else memory was refused
-abbrev pub IsDueToGrow : List PlannedStage → ℕ → ℕ → ℕ → ℕ → ℕ → OpenFault → Type 0
-IsDueToGrow stages callers log calls room functions Room = AreCounts callers log calls × (has_place stages room ≡ false)
-IsDueToGrow stages callers log calls room functions Functions =
-    AreCounts callers log calls × (has_place stages room ≡ true) × (functions < function_bound stages)
-IsDueToGrow stages callers log calls room functions NoMemory =
-    AreCounts callers log calls × (has_place stages room ≡ true) × (function_bound stages ≤ functions)
-IsDueToGrow stages callers log calls room functions fault = IsDueToOpen callers log calls fault
+-- a plan of these stages has a place for the room, and each of its functions is below their number
+abbrev pub MayGrow : List PlannedStage → DeskGrowth → Type 0
+MayGrow stages growth = (has_place stages growth.room ≡ true) × (function_bound stages ≤ growth.functions)
+
+-- why a desk that grows isn't opened: for one of its sizes, else the plan has no place for the room, else a function of the plan isn't
+-- below the number of functions, else memory was refused
+abbrev pub IsDueToGrow : List PlannedStage → DeskSizes → DeskGrowth → OpenFault → Type 0
+IsDueToGrow stages sizes growth Room = AreCounts sizes × (has_place stages growth.room ≡ false)
+IsDueToGrow stages sizes growth Functions =
+    AreCounts sizes × (has_place stages growth.room ≡ true) × (growth.functions < function_bound stages)
+IsDueToGrow stages sizes growth NoMemory = AreCounts sizes × MayGrow stages growth
+IsDueToGrow stages sizes growth fault = IsDueToOpen sizes fault

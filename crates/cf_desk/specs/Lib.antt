@@ -7,8 +7,10 @@ pub mod Views
 pub mod Desks
 pub mod Functions
 pub mod Faults
+pub mod Openings
 pub mod Results
 pub mod Keepings
 pub mod Laws
+pub mod Closings
 pub mod Time
 pub mod WaitFree

@@ -1,6 +1,6 @@
 -- What contracts see of a pass and of a desk.
 use Rattle.cf_forms.specs.Plans.{Planned, plan_of}
-use Rattle.std.specs.Prelude.{◌≡◌, ◌<◌, ◌≤◌, ◌+◌, Option, Some, None, ◌⊎◌, length, map, ℕ, List, [], ◌∷◌, ◌++◌}
+use Rattle.std.specs.Prelude.{◌≡◌, ◌<◌, ◌≤◌, ◌+◌, Option, Some, None, ◌⊎◌, length, map, take, ℕ, List, [], ◌∷◌, ◌++◌}
 use Rattle.atomic_table.specs.Seated.{TableId}
 use Rattle.cf_outcome.specs.declared.outcome.Outcome.{Outcome}
 use Rattle.cf_model.specs.declared.asks.Ask.{Ask}
@@ -61,6 +61,18 @@ known_of (k ∷ ks) = k
 -- the state of what a pass has seen
 abbrev pub state_of : CallerView → State
 state_of k = state_from k.setting.plan k.seen
+
+-- the state of the first n events of what a pass has seen
+abbrev pub state_up_to : ℕ → CallerView → State
+state_up_to n k = state_from k.setting.plan (take n k.seen)
+
+-- the pass is of one of the desk's callers, of whom there are at most 64
+abbrev pub HasCaller : CallerView → Type 0
+HasCaller k = (k.caller < k.setting.callers) × (k.setting.callers ≤ 64)
+
+-- the call of the pass's caller is an event that the desk's log can hold behind what the pass has seen
+abbrev pub IsOwnEvent : Pass → Call → Type 0
+IsOwnEvent p call = IsDeskEvent p.known.setting (state_of p.known) (event_by p.known.caller call)
 
 -- the stage is there in what the pass has seen, and the claim of it that is open there is its caller's
 abbrev pub HoldsClaim : Pass → ℕ → Type 0
@@ -187,9 +199,17 @@ pub record IsLatest (most : ℕ) (s : State) (ks : List CallerView) : Type 0 whe
   pub one : IsOneOf plan seen ks
   pub short : AllShort most ks
 
+-- the state after the longest list that one of these passes has seen
+abbrev pub IsLatestOf : List Pass → State → Type 0
+IsLatestOf passes s = (most : ℕ) × IsLatest most s (knowns passes)
+
 -- what the pass has seen fills the log
 abbrev pub SeesFull : Desk → Pass → Type 0
 SeesFull d p = length p.known.seen ≡ d.words
+
+-- the pass has seen more events of other callers, without a look, and they fill the log
+abbrev pub FindsFull : Desk → Pass → Pass → Type 0
+FindsFull d p q = Follows p q × (q.known.looks ≡ p.known.looks) × SeesFull d q
 
 -- a look: it met an empty word behind all that the pass has seen, or that fills the log and there is no word to look at
 abbrev pub IsLook : Desk → Pass → List ℕ → Type 0

@@ -21,8 +21,8 @@ pub enum Joined {
     NotYet,
 }
 
-/// What a pass keeps of one call: a `Record` without its caller, which is the pass's, and with its place in 16 bits, since
-/// each call writes one.
+/// What a pass keeps of one call: a `Record` without its caller, which is the pass's, and with its place in 16 bits. It is
+/// kept small, since each call writes one.
 #[derive(Clone, Copy, Debug, Drop, PartialEq, Eq)]
 pub enum Rec {
     /// A changing call with its reply. The place counts the events up to and with its own.

@@ -5,20 +5,20 @@ mod noticing;
 mod reading;
 mod steps;
 
-ghost use Rattle.std.specs.Prelude.{◌≡◌, ◌≢◌, ◌<◌, ◌≤◌, ◌+◌, ◌-◌, ◌↔◌, All, IfErr, IfOk, IsTrue, MatchOption, [], length, true, vec_capacity, vec_len};
+ghost use Rattle.std.specs.Prelude.{◌≡◌, ◌≢◌, ◌<◌, ◌≤◌, ◌+◌, ◌↔◌, All, IfErr, IfOk, IsTrue, MatchOption, OnOk, [], length, true, vec_capacity, vec_len};
 ghost use Rattle.cf_forms.specs.Plans.{function_at, has_place, with_room};
 ghost use Rattle.cf_model.specs.States.{start};
 ghost use Rattle.cf_desk.specs.declared.faults.OpenFault.TheVariants.{NoMemory};
-ghost use Rattle.cf_desk.specs.Faults.{AreCounts, IsDueToGrow, IsDueToOpen};
-ghost use Rattle.cf_desk.specs.Functions.{function_bound};
-ghost use Rattle.cf_desk.specs.Rule.{blank, first, fresh};
-ghost use Rattle.cf_desk.specs.Views.{IsOf, new_pass as pass_of, opened};
+ghost use Rattle.cf_desk.specs.Faults.{AreCounts, IsDueToGrow, IsDueToOpen, MayGrow};
+ghost use Rattle.cf_desk.specs.Openings.{IsOpened, IsRowOf, StandsForAll, StandsFrom, fixed_setting, growing_setting, pass_at, passes_at, setting_of};
+ghost use Rattle.cf_desk.specs.Views.{IsOf};
 
 use crate::calls::{Kept, Rec};
 use crate::faults::OpenFault;
 use crate::functions::function_bound;
 use crate::pass::Pass;
 use crate::row::{DeskConfig, GivesFirst, LogConfig, RowRule, SeatView};
+use crate::sizes::{DeskGrowth, DeskSizes};
 use atomic_table::{Seat, Table};
 use cf_core::Graph;
 use cf_model::{Ask, Event, Told};
@@ -50,94 +50,82 @@ impl Model for Desk {
 }
 
 impl Desk {
-    /// A desk of this plan with 1 to 64 callers and a log of this many words, and the passes of its callers 0, 1, .. in
-    /// order, each of which may hold this many records. The log and the records need at least one place. It has no room
-    /// for more stages, and as many functions as the plan names.
-    pub fn open(
-        alloc: Global,
-        plan: Plan,
-        callers: u8,
-        log: u16,
-        calls: u16,
-    ) -> Result<(Desk, Vec<Pass>), OpenFault>
-        ensures opened { IfOk result (λ r. (r.0.setting ≡ record { plan = plan; callers = callers; functions = function_bound plan.stages }) × (r.0.words ≡ log) × (r.1.items ≡ opened r.0.table r.0.setting calls)) }
-        ensures passes { IfOk result (λ r. All (IsOf r.0) r.1.items × (vec_len r.1 ≡ callers)) }
-        ensures table { IfOk result (λ r. All (λ p. p.table ≡ r.0.table) r.1.items × (r.0.table.words ≡ log)) }
-        ensures counts { IfOk result (λ r. AreCounts callers log calls) }
-        ensures fault { IfErr result (IsDueToOpen callers log calls) }
+    /// Opens a desk of this plan, for callers 0, 1, .. It answers the desk and their passes, in the callers' order. No
+    /// stage can be attached to it, and it has as many functions as the plan names.
+    pub fn open(alloc: Global, plan: Plan, sizes: DeskSizes) -> Result<(Desk, Vec<Pass>), OpenFault>
+        ensures opened { IfOk result (λ r. IsOpened (fixed_setting plan sizes) sizes r.0 r.1.items) }
+        ensures passes { IfOk result (λ r. All (IsOf r.0) r.1.items × (vec_len r.1 ≡ sizes.callers)) }
+        ensures table { IfOk result (λ r. All (λ p. p.table ≡ r.0.table) r.1.items × (r.0.table.words ≡ sizes.log)) }
+        ensures counts { IfOk result (λ r. AreCounts sizes) }
+        ensures fault { IfErr result (IsDueToOpen sizes) }
     {
-        Desk::open_of(alloc, &plan, callers, log, calls)
+        Desk::open_of(alloc, &plan, sizes)
     }
 
-    /// The same of a plan that stays where it is.
+    /// The same as `open`, of a plan that stays where it is.
     pub fn open_of(
         alloc: Global,
         plan: &Plan,
-        callers: u8,
-        log: u16,
-        calls: u16,
+        sizes: DeskSizes,
     ) -> Result<(Desk, Vec<Pass>), OpenFault>
-        ensures opened { IfOk result (λ r. (r.0.setting ≡ record { plan = plan.now; callers = callers; functions = function_bound plan.now.stages }) × (r.0.words ≡ log) × (r.1.items ≡ opened r.0.table r.0.setting calls)) }
-        ensures passes { IfOk result (λ r. All (IsOf r.0) r.1.items × (vec_len r.1 ≡ callers)) }
-        ensures table { IfOk result (λ r. All (λ p. p.table ≡ r.0.table) r.1.items × (r.0.table.words ≡ log)) }
-        ensures counts { IfOk result (λ r. AreCounts callers log calls) }
-        ensures fault { IfErr result (IsDueToOpen callers log calls) }
+        ensures opened { IfOk result (λ r. IsOpened (fixed_setting plan.now sizes) sizes r.0 r.1.items) }
+        ensures passes { IfOk result (λ r. All (IsOf r.0) r.1.items × (vec_len r.1 ≡ sizes.callers)) }
+        ensures table { IfOk result (λ r. All (λ p. p.table ≡ r.0.table) r.1.items × (r.0.table.words ≡ sizes.log)) }
+        ensures counts { IfOk result (λ r. AreCounts sizes) }
+        ensures fault { IfErr result (IsDueToOpen sizes) }
     {
-        if let Some(fault) = count_fault(callers, log, calls) {
+        if let Some(fault) = count_fault(sizes) {
             return Err(fault);
         }
         // A plan that was built is within its bounds.
-        let _stages = plan.stages();
-        let functions = function_bound(plan);
-        Ok(open_with(alloc, plan, callers, log, calls, 0, functions)?)
+        let _known = plan.stages();
+        let fixed = DeskGrowth {
+            room: 0,
+            functions: function_bound(plan),
+        };
+        Ok(open_with(alloc, plan, sizes, fixed)?)
     }
 
-    /// The same as `open` with room for so many stages that callers attach later, whose functions have numbers below
-    /// `functions`, as those of the plan have. It takes all the memory that attaching will ever need.
+    /// The same as `open`, of a desk to which callers may attach stages. It takes all the memory that attaching will ever
+    /// need.
     pub fn open_growing(
         alloc: Global,
         plan: Plan,
-        callers: u8,
-        log: u16,
-        calls: u16,
-        room: u16,
-        functions: u32,
+        sizes: DeskSizes,
+        growth: DeskGrowth,
     ) -> Result<(Desk, Vec<Pass>), OpenFault>
-        ensures opened { IfOk result (λ r. (r.0.setting ≡ record { plan = with_room plan room; callers = callers; functions = functions }) × (r.0.words ≡ log) × (r.1.items ≡ opened r.0.table r.0.setting calls)) }
-        ensures passes { IfOk result (λ r. All (IsOf r.0) r.1.items × (vec_len r.1 ≡ callers)) }
-        ensures table { IfOk result (λ r. All (λ p. p.table ≡ r.0.table) r.1.items × (r.0.table.words ≡ log)) }
-        ensures counts { IfOk result (λ r. AreCounts callers log calls × (has_place plan.stages room ≡ true) × (function_bound plan.stages ≤ functions)) }
-        ensures fault { IfErr result (IsDueToGrow plan.stages callers log calls room functions) }
+        ensures opened { IfOk result (λ r. IsOpened (growing_setting plan sizes growth) sizes r.0 r.1.items) }
+        ensures passes { IfOk result (λ r. All (IsOf r.0) r.1.items × (vec_len r.1 ≡ sizes.callers)) }
+        ensures table { IfOk result (λ r. All (λ p. p.table ≡ r.0.table) r.1.items × (r.0.table.words ≡ sizes.log)) }
+        ensures counts { IfOk result (λ r. AreCounts sizes × MayGrow plan.stages growth) }
+        ensures fault { IfErr result (IsDueToGrow plan.stages sizes growth) }
     {
-        Desk::open_growing_of(alloc, &plan, callers, log, calls, room, functions)
+        Desk::open_growing_of(alloc, &plan, sizes, growth)
     }
 
-    /// The same of a plan that stays where it is.
+    /// The same as `open_growing`, of a plan that stays where it is.
     pub fn open_growing_of(
         alloc: Global,
         plan: &Plan,
-        callers: u8,
-        log: u16,
-        calls: u16,
-        room: u16,
-        functions: u32,
+        sizes: DeskSizes,
+        growth: DeskGrowth,
     ) -> Result<(Desk, Vec<Pass>), OpenFault>
-        ensures opened { IfOk result (λ r. (r.0.setting ≡ record { plan = with_room plan.now room; callers = callers; functions = functions }) × (r.0.words ≡ log) × (r.1.items ≡ opened r.0.table r.0.setting calls)) }
-        ensures passes { IfOk result (λ r. All (IsOf r.0) r.1.items × (vec_len r.1 ≡ callers)) }
-        ensures table { IfOk result (λ r. All (λ p. p.table ≡ r.0.table) r.1.items × (r.0.table.words ≡ log)) }
-        ensures counts { IfOk result (λ r. AreCounts callers log calls × (has_place plan.now.stages room ≡ true) × (function_bound plan.now.stages ≤ functions)) }
-        ensures fault { IfErr result (IsDueToGrow plan.now.stages callers log calls room functions) }
+        ensures opened { IfOk result (λ r. IsOpened (growing_setting plan.now sizes growth) sizes r.0 r.1.items) }
+        ensures passes { IfOk result (λ r. All (IsOf r.0) r.1.items × (vec_len r.1 ≡ sizes.callers)) }
+        ensures table { IfOk result (λ r. All (λ p. p.table ≡ r.0.table) r.1.items × (r.0.table.words ≡ sizes.log)) }
+        ensures counts { IfOk result (λ r. AreCounts sizes × MayGrow plan.now.stages growth) }
+        ensures fault { IfErr result (IsDueToGrow plan.now.stages sizes growth) }
     {
-        if let Some(fault) = count_fault(callers, log, calls) {
+        if let Some(fault) = count_fault(sizes) {
             return Err(fault);
         }
-        if !plan.has_place(room) {
+        if !plan.has_place(growth.room) {
             return Err(OpenFault::Room);
         }
-        if functions < function_bound(plan) {
+        if growth.functions < function_bound(plan) {
             return Err(OpenFault::Functions);
         }
-        Ok(open_with(alloc, plan, callers, log, calls, room, functions)?)
+        Ok(open_with(alloc, plan, sizes, growth)?)
     }
 
     /// Whether the plan that it was opened with has such a stage.
@@ -177,17 +165,17 @@ impl Desk {
     }
 }
 
-/// Which of the counts is wrong, if one is.
-fn count_fault(callers: u8, log: u16, calls: u16) -> Option<OpenFault>
-    ensures { MatchOption result (AreCounts callers log calls) (λ fault. IsDueToOpen callers log calls fault × (fault ≢ NoMemory)) }
+/// Which of the sizes is wrong, if one is.
+fn count_fault(sizes: DeskSizes) -> Option<OpenFault>
+    ensures { MatchOption result (AreCounts sizes) (λ fault. IsDueToOpen sizes fault × (fault ≢ NoMemory)) }
 {
-    if callers == 0 || callers > 64 {
+    if sizes.callers == 0 || sizes.callers > 64 {
         return Some(OpenFault::Callers);
     }
-    if log == 0 {
+    if sizes.log == 0 {
         return Some(OpenFault::Log);
     }
-    if calls == 0 {
+    if sizes.calls == 0 {
         return Some(OpenFault::Calls);
     }
     None
@@ -225,30 +213,34 @@ fn no_records(alloc: Global, calls: u16) -> Result<Vec<Rec>, AllocError>
     Ok(records)
 }
 
-/// A row of empty words, the seat that stands for all passes, and what the row was told.
-fn new_row(
+/// What a desk is opened with: its plan, its sizes, and how far it may grow.
+#[derive(Clone, Copy, Drop)]
+struct Opening<'a> {
     alloc: Global,
-    plan: &Plan,
-    callers: u8,
-    log: u16,
-    room: u16,
-    functions: u32,
-) -> Result<(Row, Seat<u8, SeatView>, LogConfig), AllocError>
-    requires { has_place plan.now.stages room ≡ true }
-    ensures terms { IfOk result (λ r. r.2 ≡ record { setting = record { plan = with_room plan.now room; callers = callers; functions = functions }; words = log }) }
-    ensures row { IfOk result (λ r. (r.0.shared.key ≡ r.2) × (r.0.shared.table_id.words ≡ log) × (r.0.shared.table_id.slots ≡ 0)) }
-    ensures seat { IfOk result (λ r. (r.1.table_id ≡ r.0.shared.table_id) × (r.1.me ≡ (first r.2, []))) }
+    plan: &'a Plan,
+    sizes: DeskSizes,
+    growth: DeskGrowth,
+}
+
+/// A row of empty words, the seat that stands for all passes, and what the row was told.
+fn new_row(opening: &Opening<'_>) -> Result<(Row, Seat<u8, SeatView>, LogConfig), AllocError>
+    requires { has_place opening.now.plan.now.stages opening.now.growth.room ≡ true }
+    ensures terms { IfOk result (λ r. (r.2.setting ≡ setting_of opening.now) × (r.2.words ≡ opening.now.sizes.log)) }
+    ensures key { IfOk result (λ r. r.0.shared.key ≡ r.2) }
+    ensures row { IfOk result (λ r. IsRowOf opening.now.sizes.log r.0.shared.table_id) }
+    ensures seat { IfOk result (λ r. (r.1.table_id ≡ r.0.shared.table_id) × StandsForAll opening.now r.1.me) }
 {
-    let zeros = vec![in alloc; 0u64; log as usize]?;
+    let words = opening.sizes.log;
+    let zeros = vec![in opening.alloc; 0u64; words as usize]?;
     let terms = LogConfig {
         setting: DeskConfig {
-            plan: growing(alloc, plan, room)?,
-            callers,
-            functions,
+            plan: growing(opening.alloc, opening.plan, opening.growth.room)?,
+            callers: opening.sizes.callers,
+            functions: opening.growth.functions,
         },
-        words: log,
+        words,
     };
-    match Table::of_words(alloc, zeros.as_slice(), &terms) {
+    match Table::of_words(opening.alloc, zeros.as_slice(), &terms) {
         Ok((table, seat)) => Ok((table, seat, terms)),
         Err(refused) => {
             drop(terms);
@@ -259,57 +251,49 @@ fn new_row(
 
 /// The pass of a caller who hasn't one yet, nor has any after it, split from the seat that stands for them.
 fn new_pass(
-    alloc: Global,
-    plan: &Plan,
-    room: u16,
+    opening: &Opening<'_>,
     row: &Row,
     seat: &mut Seat<u8, SeatView>,
-    setting: &DeskConfig,
     caller: u8,
-    calls: u16,
 ) -> Result<Pass, AllocError>
-    requires place { has_place plan.now.stages room ≡ true }
-    requires plan { setting.now.plan ≡ with_room plan.now room }
-    requires callers { (caller < setting.now.callers) × (setting.now.callers ≤ 64) }
+    requires place { has_place opening.now.plan.now.stages opening.now.growth.room ≡ true }
+    requires callers { (caller < opening.now.sizes.callers) × (opening.now.sizes.callers ≤ 64) }
     requires row { (seat.old.table_id ≡ row.now.shared.table_id) × (0 < row.now.shared.table_id.words) }
-    requires seat { seat.old.me ≡ (fresh setting.now caller (setting.now.callers - caller), []) }
-    ensures pass { IfOk result (λ pass. pass ≡ pass_of row.now.shared.table_id calls (blank setting.now caller)) }
-    ensures seat { IfOk result (λ _. (seat.new.table_id ≡ seat.old.table_id) × (seat.new.me ≡ (fresh setting.now (caller + 1) (setting.now.callers - (caller + 1)), []))) }
+    requires seat { StandsFrom caller opening.now seat.old.me }
+    ensures pass { IfOk result (λ pass. pass ≡ pass_at opening.now row.now.shared.table_id caller) }
+    ensures table { OnOk result (seat.new.table_id ≡ seat.old.table_id) }
+    ensures seat { OnOk result (StandsFrom (caller + 1) opening.now seat.new.me) }
 {
-    let records = no_records(alloc, calls)?;
-    let replica = Graph::growing_of(alloc, plan, room)?;
+    let records = no_records(opening.alloc, opening.sizes.calls)?;
+    let replica = Graph::growing_of(opening.alloc, opening.plan, opening.growth.room)?;
     Ok(Pass {
         seat: row.shared.split_seat::<GivesFirst>(seat),
         caller,
         count: 0,
-        functions: setting.functions,
+        functions: opening.growth.functions,
         replica,
         records,
-        calls,
+        calls: opening.sizes.calls,
         padding: [0; 16],
     })
 }
 
 /// The passes of all callers, in order.
 fn new_passes(
-    alloc: Global,
-    plan: &Plan,
-    room: u16,
+    opening: &Opening<'_>,
     row: &Row,
     seat: &mut Seat<u8, SeatView>,
-    setting: &DeskConfig,
-    calls: u16,
 ) -> Result<Vec<Pass>, AllocError>
-    requires place { has_place plan.now.stages room ≡ true }
-    requires plan { setting.now.plan ≡ with_room plan.now room }
-    requires callers { setting.now.callers ≤ 64 }
+    requires place { has_place opening.now.plan.now.stages opening.now.growth.room ≡ true }
+    requires callers { opening.now.sizes.callers ≤ 64 }
     requires row { (seat.old.table_id ≡ row.now.shared.table_id) × (0 < row.now.shared.table_id.words) }
-    requires seat { seat.old.me ≡ (fresh setting.now 0 setting.now.callers, []) }
-    ensures { IfOk result (λ passes. passes.items ≡ opened row.now.shared.table_id setting.now calls) }
+    requires seat { StandsForAll opening.now seat.old.me }
+    ensures { IfOk result (λ passes. passes.items ≡ passes_at opening.now row.now.shared.table_id) }
 {
-    let mut passes = Vec::with_capacity(alloc, setting.callers as usize)?;
-    for caller in 0..setting.callers {
-        passes.push_reserved(new_pass(alloc, plan, room, row, seat, setting, caller, calls)?);
+    let callers = opening.sizes.callers;
+    let mut passes = Vec::with_capacity(opening.alloc, callers as usize)?;
+    for caller in 0..callers {
+        passes.push_reserved(new_pass(opening, row, seat, caller)?);
     }
     Ok(passes)
 }
@@ -318,21 +302,24 @@ fn new_passes(
 fn open_with(
     alloc: Global,
     plan: &Plan,
-    callers: u8,
-    log: u16,
-    calls: u16,
-    room: u16,
-    functions: u32,
+    sizes: DeskSizes,
+    growth: DeskGrowth,
 ) -> Result<(Desk, Vec<Pass>), AllocError>
-    requires counts { (0 < callers) × (callers ≤ 64) × (0 < log) }
-    requires place { has_place plan.now.stages room ≡ true }
-    ensures words { IfOk result (λ r. r.0.table.words ≡ log) }
-    ensures opened { IfOk result (λ r. (r.0.setting ≡ record { plan = with_room plan.now room; callers = callers; functions = functions }) × (r.0.words ≡ log) × (r.1.items ≡ opened r.0.table r.0.setting calls)) }
+    requires counts { (0 < sizes.callers) × (sizes.callers ≤ 64) × (0 < sizes.log) }
+    requires place { has_place plan.now.stages growth.room ≡ true }
+    ensures words { IfOk result (λ r. r.0.table.words ≡ sizes.log) }
+    ensures opened { IfOk result (λ r. IsOpened (growing_setting plan.now sizes growth) sizes r.0 r.1.items) }
 {
-    let history = Vec::with_capacity(alloc, log as usize)?;
-    let kept = Vec::with_capacity(alloc, callers as usize)?;
-    let (table, mut seat, terms) = new_row(alloc, plan, callers, log, room, functions)?;
-    match new_passes(alloc, plan, room, &table, &mut seat, &terms.setting, calls) {
+    let opening = Opening {
+        alloc,
+        plan,
+        sizes,
+        growth,
+    };
+    let history = Vec::with_capacity(alloc, sizes.log as usize)?;
+    let kept = Vec::with_capacity(alloc, sizes.callers as usize)?;
+    let (table, mut seat, terms) = new_row(&opening)?;
+    match new_passes(&opening, &table, &mut seat) {
         Ok(passes) => {
             let desk = Desk {
                 table,

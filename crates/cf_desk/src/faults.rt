@@ -10,14 +10,14 @@ use std::fmt;
 pub enum OpenFault {
     /// Memory was refused.
     NoMemory,
-    /// There are to be no callers, or more than 64.
+    /// The number of callers is 0, or above 64.
     Callers,
-    /// The log is to have no word.
+    /// The log would have no word.
     Log,
-    /// A pass is to hold no record.
+    /// A pass could hold no record.
     Calls,
-    /// With the room, the stages would be more than `MAX_STAGES`, or, with two edges for each, the edges more than
-    /// `MAX_EDGES`.
+    /// With the room there would be more than `MAX_STAGES` stages, or, with two edges for each attached stage, more than
+    /// `MAX_EDGES` edges.
     Room,
     /// A function of the plan isn't below the number of functions.
     Functions,
@@ -41,11 +41,11 @@ impl From<AllocError> for OpenFault {
     }
 }
 
-/// Why a call of a pass is refused: the first that holds, in the order NoStage, BadAttach, PassFull, LogFull. The text of
-/// each is its name.
+/// Why a call of a pass is refused. If several reasons hold, it is the first in the order NoStage, BadAttach, PassFull,
+/// LogFull. The text of each is its name.
 #[derive(Clone, Copy, Debug, Drop, PartialEq, Eq)]
 pub enum DeskFault {
-    /// A stage that the call names isn't one of the plan's, as the pass has seen it once it has caught up.
+    /// The call names a stage that isn't there, in what the pass has seen after a look.
     NoStage,
     /// A stage that is to be attached has too few or too many sources for its form, lacks a function or has one too many,
     /// or its function isn't below the number of functions, or is above 4,095.

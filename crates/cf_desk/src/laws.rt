@@ -37,10 +37,10 @@ pub fn logs_only_grow()
     ensures { LogsOnlyGrow }
 {}
 
-/// Each event is added at the end of the log as it stands at that exchange: where a pass adds its event by an exchange that
-/// finds the word empty, it has seen all of the log by then. The exchange lies within the call. That a call which had returned
-/// before another began stands before it isn't proved: it is an argument from this and `logs_only_grow`, since no clause
-/// speaks of instants.
+/// Each event is added at the end of the log as it stands at that exchange: if a pass adds its event by an exchange that
+/// finds the word empty, it has seen all of the log by then. The exchange lies within the call. It isn't proved that a call
+/// which had returned before another began stands before it in the log: that is an argument from this and `logs_only_grow`,
+/// since no clause speaks of instants.
 pub fn calls_come_last()
     ensures { CallsComeLast }
 {}
@@ -57,9 +57,9 @@ pub fn each_is_one_step()
     ensures { EachIsOneStep }
 {}
 
-/// A call takes a step for each event that its pass sees more, and some that are looks: `act` none, `read` and `ready` one,
-/// `join` as many as it may, and each but `ready` one more where its pass doesn't know the stage. `meet` and `heed` load the
-/// words of the events that they show, and the first word four times more.
+/// A call takes a step for each further event that its pass sees, and some steps that are looks: `act` none, `read` and
+/// `ready` one, `join` as many as it may, and each but `ready` one more if its pass doesn't know the stage. `meet` and `heed`
+/// load the words of the events that they show, and the first word four times more.
 pub fn calls_take_few_steps()
     ensures { CallsTakeFewSteps }
 {}

@@ -3,9 +3,9 @@ use crate::row::SeatView;
 use atomic_table::Seat;
 use std::marker::Model;
 
-/// What a pass had seen when it gave this (`Desk::notice`): at run time a count, which a seat at the row vouches for. It may
-/// be sent to another thread, through a channel, say, or behind a lock, but written to no file. Whoever heeds it has to know
-/// that it is of the desk, which a lock or a channel by itself doesn't tell.
+/// What a pass had seen when it gave this notice (`Desk::notice`). At run time it is a count, for which a seat at the row
+/// vouches. It may be sent to another thread, through a channel or behind a lock, but can't be written to a file. Whoever
+/// heeds it has to know that it is of the same desk; a lock or a channel by itself doesn't tell that.
 #[derive(Drop)]
 pub struct Notice {
     pub(crate) seat: Seat<u8, SeatView>,

@@ -5,8 +5,7 @@ ghost use Rattle.cf_forms.specs.Plans.{function_at};
 ghost use Rattle.cf_model.specs.States.{lowest_ready_of, outcome_at};
 ghost use Rattle.cf_model.specs.Calls.{event_by};
 ghost use Rattle.cf_desk.specs.Faults.{AsksStage, IsFitting, IsOnStage};
-ghost use Rattle.cf_desk.specs.Log.{IsDeskEvent};
-ghost use Rattle.cf_desk.specs.Views.{HoldsClaim, Joins, Reads, state_of};
+ghost use Rattle.cf_desk.specs.Views.{HasCaller, HoldsClaim, IsOwnEvent, Joins, Reads, state_of};
 
 use crate::calls::{Joined, Rec, joined_as};
 use crate::row::SeatView;
@@ -115,10 +114,10 @@ impl Pass {
     pub(crate) fn fits(&self, call: Call) -> bool
         requires { IsOnStage self.now (event_by self.now.known.caller call) }
         ensures fits { IsTrue result ↔ IsFitting self.now (event_by self.now.known.caller call) }
-        ensures event { OnTrue result (IsDeskEvent self.now.known.setting (state_of self.now.known) (event_by self.now.known.caller call)) }
+        ensures event { OnTrue result (IsOwnEvent self.now call) }
     {
         // Each stage is below 4,096, and the caller is below 64.
-        let _stages = self.stages();
+        let _known = self.stages();
         match call {
             Call::Complete(_, _) => true,
             Call::Fail(_, _) => true,
@@ -147,7 +146,7 @@ impl Pass {
     fn stages(&self) -> u16
         ensures count { result ≡ length (state_of self.now.known).plan.stages }
         ensures few { result ≤ 4096 }
-        ensures caller { (self.now.known.caller < self.now.known.setting.callers) × (self.now.known.setting.callers ≤ 64) }
+        ensures caller { HasCaller self.now.known }
     {
         self.replica.stages()
     }

@@ -83,6 +83,10 @@ IsAnswer (Give v) = IsValue v
 IsAnswer (Throw code) = code < 2 ^ 32
 IsAnswer (Link j) = j < 2 ^ 16
 
+-- an attached stage that has a word: its function's number is at most 4,095, and it fits its form
+abbrev pub IsStage : Form → Of → Option ℕ → Type 0
+IsStage form of function = (unwrap_or function 0 ≤ 4095) × (fits_form form (count_of of) (is_some function) ≡ true)
+
 -- an event that has a word: its caller is at most 63, each stage and function that it names at most 4,095, each other number
 -- lies in its type's range, and a stage that it attaches fits its form
 abbrev pub IsEvent : Event → Type 0

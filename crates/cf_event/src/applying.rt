@@ -1,7 +1,7 @@
 //! What events do to a graph.
 ghost use Rattle.std.specs.Prelude.{◌≡◌, ◌≤◌, length, slice_get, unwrap_or};
 ghost use Rattle.cf_model.specs.Events.{answered, state_after};
-ghost use Rattle.cf_model.specs.Graphs.{Rests, most_turns};
+ghost use Rattle.cf_model.specs.Graphs.{CountsTurns, Rests};
 ghost use Rattle.cf_model.specs.Ranges.{EventFits, EventsFit};
 ghost use Rattle.cf_event.specs.Replays.{Replays};
 
@@ -15,8 +15,7 @@ pub fn apply(g: &mut Graph, e: &Event) -> Reply
     requires { EventFits (length g.old.state.plan.stages) e.now }
     ensures told { (result, g.new.state) ≡ answered g.old.state e.now }
     ensures rests { Rests e.now g.old g.new }
-    ensures counted { g.old.turns ≤ g.new.turns }
-    ensures few { g.new.turns ≤ most_turns g.new.state.plan.stages }
+    ensures counted { CountsTurns g.old g.new }
 {
     g.answer(e)
 }

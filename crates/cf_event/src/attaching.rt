@@ -1,7 +1,6 @@
 //! The fields of the word of an event that attaches a stage.
-ghost use Rattle.std.specs.Prelude.{◌≡◌, ◌<◌, ◌≤◌, ◌↔◌, IsTrue, is_some, slice_get, true, unwrap_or};
-ghost use Rattle.cf_forms.specs.Plans.{fits_form};
-ghost use Rattle.cf_event.specs.Words.{attach_low, count_of, first_of, second_of};
+ghost use Rattle.std.specs.Prelude.{◌≡◌, ◌<◌, ◌≤◌, ◌↔◌, IsTrue, unwrap_or};
+ghost use Rattle.cf_event.specs.Words.{IsStage, attach_low, count_of, first_of, second_of};
 ghost use Rattle.cf_event.specs.Events.{IsFunctionBelow};
 ghost use Rattle.cf_event.specs.Decoding.{attach_of, attach_with, of_with};
 
@@ -18,7 +17,7 @@ const SECOND: u32 = 1 << 12;
 
 /// Whether a word has room for this function, and the stage fits its form.
 pub(crate) fn is_stage(form: Form, of: Of, function: Option<u16>) -> bool
-    ensures { IsTrue result ↔ ((unwrap_or function 0 ≤ 4095) × (fits_form form (count_of of) (is_some function) ≡ true)) }
+    ensures { IsTrue result ↔ IsStage form of function }
 {
     function.unwrap_or(0) <= LAST_FUNCTION && fits_form(form, of.count(), function.is_some())
 }
@@ -70,8 +69,8 @@ pub(crate) fn attach_low(form: Form, of: Of, function: Option<u16>) -> u32
     u32::from(form.number()) * FORM + second_of(of) as u32 * SECOND + function.unwrap_or(0) as u32
 }
 
-/// The attaching with these fields, if there is one. It is a call of its own, since `decode`, in whose code it would else
-/// stand, stands in the code of its callers, and few events attach.
+/// The attaching with these fields, if there is one. It is never inlined: `decode` is inlined into its callers, and few
+/// events attach a stage.
 #[inline(never)]
 pub(crate) fn attach_with(who: u8, first: u16, count: u8, low: u32) -> Option<Event>
     ensures { result ≡ attach_with who first count low }

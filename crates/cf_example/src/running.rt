@@ -5,7 +5,7 @@ ghost use Rattle.cf_desk.specs.Views.{IsOf};
 ghost use Rattle.cf_forms.specs.Meanings.{Meanings};
 ghost use Rattle.cf_pool.specs.Answering.{as_meant};
 ghost use Rattle.cf_pool.specs.Calling.{AnswerAlike, first_answers};
-ghost use Rattle.cf_pool.specs.PlainRuns.{EndsPlainly, MadePlainSteps};
+ghost use Rattle.cf_pool.specs.PlainRuns.{LeavesPlainly, MadePlainSteps};
 
 use cf_desk::{Desk, Pass};
 use cf_pool::{Left, PoolFault, Worker, run, runs_end_plainly};
@@ -25,7 +25,7 @@ pub fn run_plainly<R: Threads + Wait + Sync, W: Worker + Send + Drop>(
     requires means { first_answers W.answers workers.items ≡ as_meant meanings }
     requires passes { All (IsOf desk) passes.items × (vec_len passes ≡ vec_len workers) }
     requires steps { All (MadePlainSteps meanings desk.setting.plan) passes.items }
-    ensures plainly { IfOk result (λ left. EndsPlainly meanings desk.setting.plan passes.items left.closed.history.items left.closed.graph.state) }
+    ensures plainly { IfOk result (LeavesPlainly meanings desk.setting.plan passes.items) }
 {
     runs_end_plainly();
     run(rt, desk, passes, workers)

@@ -2,8 +2,8 @@
 use Rattle.std.specs.Prelude.{◌≡◌, ℕ, Option, Some, None, nat_le, if◌then◌else◌}
 use Rattle.cf_model.specs.declared.events.Event.{Event}
 use Rattle.cf_model.specs.declared.events.Event.TheVariants.{Complete as Completes, Fail as Fails, FailAs as FailsAs, Cancel as Cancels, Claim as Claims, Finish as Finishes, Tick as Ticks, Attach as Attaches}
-use Rattle.cf_reading.specs.declared.script.Step.{Step}
-use Rattle.cf_reading.specs.declared.script.Step.TheVariants.{Does, Work, Nudge}
+use Rattle.cf_script_reading.specs.declared.script.Step.{Step}
+use Rattle.cf_script_reading.specs.declared.script.Step.TheVariants.{Does, Work, Nudge}
 use Rattle.cf_explain.specs.declared.remark.Idle.{Idle}
 use Rattle.cf_explain.specs.declared.remark.Idle.TheVariants.{NoFunction, Settled, NotClaimed, NotLater, NoWork, NoRoom, NoTurn}
 

@@ -21,10 +21,14 @@ abbrev pub behind_remarks : ℕ → Option ℕ → List Remark
 behind_remarks k None = []
 behind_remarks k (Some j) = Behind (limit_place k) (limit_place j) ∷ []
 
+-- what is remarked of limit k among all
+abbrev pub remarks_of_limit : List Firing → ℕ → Firing → List Remark
+remarks_of_limit all k limit = behind_remarks k (first_from 0 all k limit)
+
 -- what is remarked of limits that are numbered from k on, each among all
 abbrev pub behinds_from : List Firing → ℕ → List Firing → List Remark
 behinds_from all k [] = []
-behinds_from all k (limit ∷ limits) = behind_remarks k (first_from 0 all k limit) ++ behinds_from all (k + 1) limits
+behinds_from all k (limit ∷ limits) = remarks_of_limit all k limit ++ behinds_from all (k + 1) limits
 
 -- a number by its name, 0 where there is none
 abbrev pub number_in : Option Data → ℕ

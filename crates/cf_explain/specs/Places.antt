@@ -2,9 +2,9 @@
 use Rattle.std.specs.Prelude.{◌≡◌, ℕ, [], ◌∷◌, None, Option, IfSome, nat_lt, if◌then◌else◌}
 use Rattle.cf_plan.specs.declared.faults.PlanFault.{PlanFault}
 use Rattle.cf_plan.specs.declared.faults.PlanFault.TheVariants.{NoSuchStage, TooManyLimits}
-use Rattle.cf_reading.specs.declared.fault.Part.TheVariants.{Top, Stage, Limit}
-use Rattle.cf_reading.specs.declared.fault.ReadingFault.{ReadingFault}
-use Rattle.cf_reading.specs.declared.fault.ReadingFault.TheVariants as faults
+use Rattle.cf_script_reading.specs.declared.fault.Part.TheVariants.{Top, Stage, Limit}
+use Rattle.cf_script_reading.specs.declared.fault.ReadingFault.{ReadingFault}
+use Rattle.cf_script_reading.specs.declared.fault.ReadingFault.TheVariants as faults
 use Rattle.cf_explain.specs.declared.place.Area.{Area}
 use Rattle.cf_explain.specs.declared.place.Area.TheVariants as areas
 use Rattle.cf_explain.specs.declared.place.Place.{Place}

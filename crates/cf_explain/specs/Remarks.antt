@@ -1,9 +1,10 @@
 -- What is remarked of a script.
 use Rattle.std.specs.Prelude.{◌≡◌, List, ◌++◌, All, Option, None, Some, Result, Ok, slice_get}
 use Rattle.serde_json.specs.Data.{Data}
-use Rattle.cf_reading.specs.declared.fault.ReadingFault.{ReadingFault}
-use Rattle.cf_reading.specs.declared.script.Step.{Step}
-use Rattle.cf_reading.specs.Scripts.{Script}
+use Rattle.cf_script_reading.specs.declared.fault.ReadingFault.{ReadingFault}
+use Rattle.cf_script_reading.specs.declared.script.Step.{Step}
+use Rattle.cf_script_reading.specs.Reading.{script_said}
+use Rattle.cf_script_reading.specs.Scripts.{Script}
 use Rattle.cf_explain.specs.declared.place.Area.{Area}
 use Rattle.cf_explain.specs.declared.place.Area.TheVariants as areas
 use Rattle.cf_explain.specs.declared.place.Place.{Place}
@@ -48,3 +49,7 @@ pub record AreRemarked (d : Data) (s : Script) (said : List Remark) : Type 0 whe
 abbrev pub AreRemarks : Result Script ReadingFault → Option Data → List Remark → Type 0
 AreRemarks (Ok s) (Some d) said = AreRemarked d s said
 AreRemarks read json said = All IsOfWriting said
+
+-- the remarks on a script that is this JSON value
+abbrev pub AreRemarksOn : Data → List Remark → Type 0
+AreRemarksOn d said = AreRemarks (script_said d) (Some d) said

@@ -6,9 +6,9 @@ use Rattle.cf_forms.specs.declared.limits.Limit.{Limit}
 use Rattle.cf_forms.specs.Plans.{PlannedStage}
 use Rattle.cf_model.specs.declared.events.Event.{Event}
 use Rattle.cf_model.specs.declared.events.Event.TheVariants.{Complete as Completes, Fail as Fails, FailAs as FailsAs, Cancel as Cancels, Claim as Claims, Finish as Finishes, Tick as Ticks, Attach as Attaches}
-use Rattle.cf_reading.specs.Scripts.{Script}
-use Rattle.cf_reading.specs.declared.script.Step.{Step}
-use Rattle.cf_reading.specs.declared.script.Step.TheVariants.{Does, Work, Nudge}
+use Rattle.cf_script_reading.specs.Scripts.{Script}
+use Rattle.cf_script_reading.specs.declared.script.Step.{Step}
+use Rattle.cf_script_reading.specs.declared.script.Step.TheVariants.{Does, Work, Nudge}
 use Rattle.cf_explain.specs.declared.idle.StageSoFar.{StageSoFar}
 use Rattle.cf_explain.specs.declared.idle.RunSoFar.{RunSoFar}
 use Rattle.cf_explain.specs.declared.place.Area.TheVariants as areas

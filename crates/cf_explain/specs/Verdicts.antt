@@ -1,7 +1,7 @@
 -- What the verdict on a script is, and what is said of one that is refused.
 use Rattle.std.specs.Prelude.{◌≡◌, List, [], ◌∷◌, Option, Some, None, Result, Err, IsOk}
-use Rattle.cf_reading.specs.declared.fault.ReadingFault.{ReadingFault}
-use Rattle.cf_reading.specs.Scripts.{Script}
+use Rattle.cf_script_reading.specs.declared.fault.ReadingFault.{ReadingFault}
+use Rattle.cf_script_reading.specs.Scripts.{Script}
 use Rattle.cf_explain.specs.declared.verdict.Refusal.{Refusal}
 use Rattle.cf_explain.specs.declared.verdict.Verdict.{Verdict}
 use Rattle.cf_explain.specs.declared.verdict.Verdict.TheVariants.{Right, Refused, Odd}

@@ -1,7 +1,7 @@
 //! The limits that never fire, since another settles their stage first.
 ghost use Rattle.std.specs.Prelude.{◌≡◌, ◌++◌, IfOk, OnOk, option_map};
 ghost use Rattle.serde_json.specs.View.{items_view, view};
-ghost use Rattle.cf_explain.specs.Limits.{behind_remarks, behinds, behinds_from, fires_before, firing_of, firings_of, first_from, number_in};
+ghost use Rattle.cf_explain.specs.Limits.{behinds, behinds_from, fires_before, firing_of, firings_of, first_from, number_in, remarks_of_limit};
 
 use crate::place::Place;
 use crate::remark::Remark;
@@ -75,7 +75,7 @@ fn remark_limit(
     limit: Firing,
     remarks: &mut Vec<Remark>,
 ) -> Result<(), AllocError>
-    ensures { OnOk result (remarks.new.items ≡ remarks.old.items ++ behind_remarks k (first_from 0 firings.now k limit)) }
+    ensures { OnOk result (remarks.new.items ≡ remarks.old.items ++ remarks_of_limit firings.now k limit) }
 {
     if let Some(j) = first_before(firings, k, limit) {
         remarks.push(Remark::Behind(Place::limit(k), Place::limit(j)))?;

@@ -1,8 +1,8 @@
 //! The explanation of a script.
-ghost use Rattle.std.specs.Prelude.{◌≡◌, [], All, IfOk, OnOk, Some};
+ghost use Rattle.std.specs.Prelude.{◌≡◌, [], All, IfOk, OnOk};
 ghost use Rattle.serde_json.specs.View.{view};
-ghost use Rattle.cf_reading.specs.Reading.{json_of, reading, script_said};
-ghost use Rattle.cf_explain.specs.Remarks.{AreRemarked, AreRemarks, IsOfWriting};
+ghost use Rattle.cf_script_reading.specs.Reading.{json_of, reading, script_said};
+ghost use Rattle.cf_explain.specs.Remarks.{AreRemarked, AreRemarks, AreRemarksOn, IsOfWriting};
 ghost use Rattle.cf_explain.specs.Verdicts.{ExplainTells, refused_for};
 
 use crate::behind::remark_behind;
@@ -14,16 +14,16 @@ use crate::remark::Remark;
 use crate::twice::remark_twice;
 use crate::unread::remark_unread;
 use crate::verdict::{Explanation, Refusal};
-use cf_reading::{MAX_BYTES, ReadingFault, Script, script_of};
+use cf_script_reading::{MAX_BYTES, ReadingFault, Script, script_of};
 use serde_json::Value as Json;
 use std::alloc::{AllocError, Global};
 use std::str;
 
-/// What is wrong with the script that the bytes are to be, and what is odd about it.
+/// Explains the script that the bytes ought to be: what is wrong with it, and what is odd about it.
 ///
-/// The script is refused exactly where its reading says so, for the same fault, and the place that is told is in the part
-/// that the fault names. Of a script that is read, the remarks are those of how it is written, then one of each limit that
-/// never fires, in order, and of steps. It fails only where a growth was refused.
+/// The script is refused exactly where its reading refuses it, and for the same fault. The place that is told lies in the part
+/// that the fault names. If the script is read, the remarks say first what is odd about how it is written, then which limits
+/// never fire, in order, and then which steps never do anything. It fails only where memory is refused.
 pub fn explain(alloc: Global, bytes: &[u8]) -> Result<Explanation, AllocError>
     ensures verdict { IfOk result (λ e. ExplainTells e.refusal (reading bytes.now)) }
     ensures remarks { IfOk result (λ e. AreRemarks (reading bytes.now) (json_of bytes.now) e.remarks.items) }
@@ -54,7 +54,7 @@ fn unread(alloc: Global, fault: ReadingFault, why: Reason) -> Explanation
 /// What is wrong with a script that is this JSON value, and what is odd about it as these bytes write it.
 fn explain_json(alloc: Global, bytes: &[u8], json: &Json) -> Result<Explanation, AllocError>
     ensures verdict { IfOk result (λ e. ExplainTells e.refusal (script_said (view json.now))) }
-    ensures remarks { IfOk result (λ e. AreRemarks (script_said (view json.now)) (Some (view json.now)) e.remarks.items) }
+    ensures remarks { IfOk result (λ e. AreRemarksOn (view json.now) e.remarks.items) }
 {
     match script_of(alloc, json) {
         Ok(script) => Ok(Explanation {

@@ -10,7 +10,7 @@ use crate::remark::{Idle, Remark};
 use cf_forms::Limit;
 use cf_model::Event;
 use cf_plan::Plan;
-use cf_reading::{Script, Step};
+use cf_script_reading::{Script, Step};
 use std::alloc::{AllocError, Global};
 
 /// The last position that there is a number for.

@@ -1,14 +1,15 @@
-//! What is wrong with a script, in words: why `cf run` would refuse it, where that sits, and what would be right there;
-//! and of a script that would be run what nobody reads in it, and which steps and limits can never do anything.
+//! Explains a script in words: why `cf run` would refuse it, where the fault is, and what would be right there. Of a
+//! script that would run it tells what nobody reads in it, and which steps and limits can never do anything.
 //!
-//! The verdict is that of `cf_reading`, which is asked first: `explain` is proved to say that a script is refused exactly
-//! where `read_script` refuses its bytes, and for the same fault. Only then the JSON value is walked, to find the member by
-//! which the fault came (`refusing.rt` and what it calls): a place in the part that the fault names, which is proved too. So a walk
-//! that went astray would name another member there, and never another verdict. The bytes are made a JSON value once, and
-//! their text is gone over once more for what that value has lost: members that are given twice (`twice.rt`).
+//! The verdict comes from `cf_script_reading`, which is asked first. It is proved that `explain` calls a script
+//! refused exactly where `read_script` refuses its bytes, and for the same fault. Only then is the JSON value walked,
+//! to find the member that caused the fault (`refusing.rt` and what it calls). That this place lies in the part that
+//! the fault names is proved too. So a walk that went astray would name a wrong member there, and could never change
+//! the verdict. The bytes are made a JSON value once. Their text is gone through a second time for what that value
+//! has lost: members that are given twice (`twice.rt`).
 //!
-//! What may stand where, and by which names, is in tables: functions, answers, kinds and members in `vocabulary.rt`, the
-//! steps in `steps.rt`.
+//! Tables say what may stand where, and by which names: functions, answers, kinds and members in `vocabulary.rt`, and
+//! the steps in `steps.rt`. What each element of a step is, `elements_of` of `cf_script_reading` says.
 #![tactic(auto)]
 
 mod behind;

@@ -3,7 +3,7 @@ ghost use Rattle.std.specs.Prelude.{◌≡◌, ◌<◌};
 ghost use Rattle.cf_explain.specs.Places.{area_of, limit_place, place_of, position_of};
 
 use cf_plan::PlanFault;
-use cf_reading::{Part, ReadingFault};
+use cf_script_reading::{Part, ReadingFault};
 use std::fmt;
 
 /// The part of a script that something stands in.
@@ -24,14 +24,14 @@ pub enum PathStep {
     Item(u32),
 }
 
-/// A part of a script, and the path that leads into it. Nothing that is read lies deeper than four.
+/// A part of a script, and the path that leads into it. Nothing that is read lies more than four steps deep.
 #[derive(Clone, Copy, Debug, PartialEq, Eq)]
 pub struct Place {
     pub area: Area,
     pub path: [Option<PathStep>; 4],
 }
 
-/// A position, of which none in a script is greater than a `u32`.
+/// A position as a `u32`, which holds every position in a script.
 fn position(k: usize) -> u32
     ensures { result ≡ position_of k }
 {
@@ -108,7 +108,7 @@ impl Place {
     }
 }
 
-/// The part that a fault names: of what the builder of plans refuses, the stage or the limit.
+/// The part that a fault names. Where the builder of plans refused something, that is the stage or the limit.
 pub(crate) fn area_of(fault: ReadingFault) -> Area
     ensures { result ≡ area_of fault }
 {
@@ -126,7 +126,7 @@ pub(crate) fn area_of(fault: ReadingFault) -> Area
     }
 }
 
-/// As in `stages[3]`; of the whole, `script`.
+/// Written as `stages[3]`, and the whole as `script`.
 impl fmt::Display for Area {
     fn fmt<W: fmt::Write>(&self, f: &mut fmt::Formatter<W>) -> fmt::Result {
         match *self {
@@ -139,7 +139,7 @@ impl fmt::Display for Area {
     }
 }
 
-/// As in `stages[3].of[1]`, and of a member of the whole as in `names[3]`.
+/// Written as `stages[3].of[1]`, and in a member of the whole as `names[3]`.
 impl fmt::Display for Place {
     fn fmt<W: fmt::Write>(&self, f: &mut fmt::Formatter<W>) -> fmt::Result {
         let first = match (self.area, self.path[0]) {

@@ -8,13 +8,13 @@ use std::fmt;
 pub enum Reason {
     /// There are too many bytes.
     TooLong,
-    /// They are no JSON, for what this says with its line and column.
+    /// They are no JSON. This says why, with its line and column.
     NotJson(serde_json::Error),
-    /// It isn't there, and this is to stand there.
+    /// Nothing stands there, and this ought to.
     Missing(Wanted),
-    /// It isn't what is to stand there.
+    /// It isn't what ought to stand there.
     Wants(Wanted),
-    /// A word is none that may stand there.
+    /// The word is none of those that may stand there.
     Unknown {
         /// The word.
         word: String,
@@ -23,13 +23,13 @@ pub enum Reason {
         /// The nearest of them, if one is near.
         nearest: Option<&'static str>,
     },
-    /// It came with this version, and the script is of one before.
+    /// It came with this version, and the script has a lower one.
     NotBefore(i64),
-    /// An object has so many members, and is to have exactly one of these.
+    /// The object has this many members, and ought to have exactly one of these.
     Members(usize, Words),
-    /// A step isn't written like this.
+    /// The step isn't written as this says.
     Written(&'static str),
-    /// The form takes another number of sources, of which so many are here.
+    /// The form takes another number of sources than are here.
     Sources {
         /// How many it takes.
         wanted: u16,
@@ -46,7 +46,7 @@ pub enum Reason {
     TooMany(u32, &'static str),
     /// A stage that is attached names more than two sources.
     TooManySources,
-    /// There isn't so much place beside the stages.
+    /// A graph has no place for so much room beside the stages.
     NoPlace,
     /// Something is wrong with it.
     Unsaid,

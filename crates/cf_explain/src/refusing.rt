@@ -9,7 +9,7 @@ use crate::planned::plan_wrong;
 use crate::reason::Reason;
 use crate::shapes::shape_wrong;
 use crate::steps::step_wrong;
-use cf_reading::ReadingFault;
+use cf_script_reading::ReadingFault;
 use serde_json::Value as Json;
 use std::alloc::{AllocError, Global};
 

@@ -5,7 +5,7 @@ use std::fmt;
 /// What is odd about a part of a script.
 #[derive(Drop)]
 pub enum Remark {
-    /// Nobody reads the member of this name in the object at this place; this one is near, and read.
+    /// Nobody reads the member of this name in the object at this place. A member whose name is near would be read.
     Unread {
         /// Where the object is.
         place: Place,
@@ -14,15 +14,15 @@ pub enum Remark {
         /// The name that is read, if one is near.
         nearest: Option<&'static str>,
     },
-    /// What is to be the name of a stage is none.
+    /// What ought to be the name of a stage is no name.
     NoName(Place),
-    /// What is to be the name of the script is none.
+    /// What ought to be the name of the script is no name.
     NoTitle(Place),
-    /// What is to be the list of names is none.
+    /// What ought to be the list of names is no such list.
     NoList(Place),
     /// `room` is read from version 2 on.
     RoomInVersionOne,
-    /// A limit that times its stage out has no value.
+    /// A limit that times its stage out takes no value, and has one.
     ValueOfTimeout(Place),
     /// A member of an object is given again.
     Twice {
@@ -33,7 +33,7 @@ pub enum Remark {
         /// And the column, in bytes from 1 on.
         column: usize,
     },
-    /// A limit never does anything, since by its moment its stage is settled by another.
+    /// A limit never does anything, because another limit has settled its stage by its moment.
     Behind(Place, Place),
     /// A step never does anything.
     Idle(Place, Idle),
@@ -42,13 +42,13 @@ pub enum Remark {
 /// Why a step never does anything.
 #[derive(Clone, Copy, Debug, PartialEq, Eq)]
 pub enum Idle {
-    /// Its stage calls no function, so that nobody can claim it.
+    /// Its stage calls no function, so nobody can claim it.
     NoFunction,
-    /// Its stage is settled since this step.
+    /// Its stage is settled already, by this step.
     Settled(u32),
     /// No step before it claims the stage for its caller.
     NotClaimed,
-    /// This step's tick was as late.
+    /// The tick of this step came before it, for the same or a later moment.
     NotLater(u32),
     /// No stage has a function.
     NoWork,

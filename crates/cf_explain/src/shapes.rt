@@ -10,7 +10,7 @@ use crate::refusing::{Finding, wrong_at};
 use crate::stages::stage_wrong;
 use crate::vocabulary::Words;
 use crate::wanted::Wanted;
-use cf_reading::Part;
+use cf_script_reading::Part;
 use serde_json::Value as Json;
 use std::alloc::{AllocError, Global};
 

@@ -11,34 +11,15 @@ use crate::refusing::{Finding, wrong_at};
 use crate::stages::{misfit, source_count, stage_wrong};
 use crate::vocabulary::Words;
 use crate::wanted::Wanted;
-use cf_reading::MAX_STEPS;
+use cf_script_reading::{Element, MAX_STEPS, elements_of};
 use serde_json::Value as Json;
 use std::alloc::{AllocError, Global};
 
-/// What stands in an element of a step.
-#[derive(Clone, Copy)]
-pub(crate) enum Element {
-    /// The number of a stage that is there.
-    Stage,
-    /// A value.
-    Value,
-    /// A whole number of 32 bits: a code, a moment, turns.
-    Number,
-    /// A caller.
-    Caller,
-    /// A finish's answer.
-    Answer,
-    /// The cause that a failAs names.
-    Failure,
-    /// A stage that is attached.
-    NewStage,
-}
-
-/// A step: its word, the version that it came with, what stands behind it, how many elements have to, and how it is written.
+/// A step: its word, the version that it came with, how many elements have to stand behind it, and how it is written. What each of
+/// these elements is, `elements_of` says.
 pub(crate) struct StepShape {
     pub(crate) word: &'static str,
     since: i64,
-    elements: &'static [Element],
     least: usize,
     written: &'static str,
 }
@@ -48,84 +29,72 @@ pub(crate) const STEPS: [StepShape; 12] = [
     StepShape {
         word: "complete",
         since: 1,
-        elements: &[Element::Stage, Element::Value],
         least: 2,
         written: "[\"complete\",stage,value]",
     },
     StepShape {
         word: "fail",
         since: 1,
-        elements: &[Element::Stage, Element::Number],
         least: 2,
         written: "[\"fail\",stage,code]",
     },
     StepShape {
         word: "cancel",
         since: 1,
-        elements: &[Element::Stage],
         least: 1,
         written: "[\"cancel\",stage]",
     },
     StepShape {
         word: "tick",
         since: 1,
-        elements: &[Element::Number],
         least: 1,
         written: "[\"tick\",moment]",
     },
     StepShape {
         word: "work",
         since: 1,
-        elements: &[],
         least: 0,
         written: "[\"work\"]",
     },
     StepShape {
         word: "now",
         since: 1,
-        elements: &[Element::Stage, Element::Value],
         least: 1,
         written: "[\"now\",stage] or [\"now\",stage,value]",
     },
     StepShape {
         word: "outcome",
         since: 1,
-        elements: &[Element::Stage],
         least: 1,
         written: "[\"outcome\",stage]",
     },
     StepShape {
         word: "claim",
         since: 1,
-        elements: &[Element::Caller, Element::Stage],
         least: 2,
         written: "[\"claim\",caller,stage]",
     },
     StepShape {
         word: "finish",
         since: 1,
-        elements: &[Element::Caller, Element::Stage, Element::Answer],
         least: 3,
         written: "[\"finish\",caller,stage,answer]",
     },
     StepShape {
         word: "nudge",
         since: 1,
-        elements: &[Element::Number],
         least: 1,
         written: "[\"nudge\",turns]",
     },
     StepShape {
         word: "attach",
         since: 2,
-        elements: &[Element::NewStage],
         least: 1,
         written: "[\"attach\",{\"form\":..}]",
     },
     StepShape {
         word: "failAs",
         since: 3,
-        elements: &[Element::Stage, Element::Failure],
         least: 2,
         written: "[\"failAs\",stage,cause]",
     },
@@ -194,11 +163,12 @@ fn elements_wrong(
     let Some(list) = step.as_array() else {
         return Ok(None);
     };
+    let elements = elements_of(shape.word);
     let behind = list.len().saturating_sub(1);
-    if behind < shape.least || behind > shape.elements.len() {
+    if behind < shape.least || behind > elements.len() {
         return Ok(wrong_at(place, Reason::Written(shape.written)));
     }
-    for (i, (element, json)) in shape.elements.iter().zip(list.iter().skip(1)).enumerate() {
+    for (i, (element, json)) in elements.iter().zip(list.iter().skip(1)).enumerate() {
         let place = place.item(i.saturating_add(1));
         if let Some(found) = element_wrong(alloc, place, *element, json, counts)? {
             return Ok(Some(found));

@@ -5,15 +5,15 @@ ghost use Rattle.cf_explain.specs.Verdicts.{verdict_of};
 use crate::place::Place;
 use crate::reason::Reason;
 use crate::remark::Remark;
-use cf_reading::ReadingFault;
+use cf_script_reading::ReadingFault;
 use std::fmt;
 
-/// Why a script is refused, and by which part of it.
+/// Why a script is refused, and which part of it causes that.
 #[derive(Drop)]
 pub struct Refusal {
     /// The fault that `cf run` would tell.
     pub fault: ReadingFault,
-    /// The place in the script by which it came.
+    /// The place in the script that caused it.
     pub place: Place,
     /// What is wrong there.
     pub why: Reason,
@@ -24,7 +24,7 @@ pub struct Refusal {
 pub struct Explanation {
     /// Why it is refused, if it is.
     pub refusal: Option<Refusal>,
-    /// What is odd about it, in the order of its parts; of steps and of limits nothing is said where it is refused.
+    /// What is odd about it, in the order of its parts. Where it is refused, nothing is said of its steps and limits.
     pub remarks: Vec<Remark>,
 }
 

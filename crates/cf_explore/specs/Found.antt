@@ -1,5 +1,5 @@
 -- What a search has found.
-use Rattle.std.specs.Prelude.{◌≡◌, ℕ, ◌+◌, ◌*◌, ◌<◌, ◌≤◌, ◌⊎◌, ◌++◌, ◌∷◌, if◌then◌else◌, Bool, true, false, Option, Some, None, List, [], length, All, slice_get, slice_set, sum_by}
+use Rattle.std.specs.Prelude.{◌≡◌, ℕ, ◌+◌, ◌*◌, ◌<◌, ◌≤◌, ◌⊎◌, ◌++◌, ◌∷◌, if◌then◌else◌, Bool, true, false, IfOk, Option, Some, None, Result, List, [], length, All, slice_get, slice_set, sum_by}
 use Rattle.cf_outcome.specs.declared.outcome.Outcome.{Outcome}
 use Rattle.cf_explore.specs.declared.condition.Condition.{Condition}
 use Rattle.cf_explore.specs.declared.found.End.{End}
@@ -7,12 +7,13 @@ use Rattle.cf_explore.specs.declared.layer.Entry.{Entry}
 use Rattle.cf_explore.specs.declared.found.Witness.{Witness}
 use Rattle.cf_explore.specs.declared.found.Found.{Found}
 use Rattle.cf_explore.specs.declared.search.Search.{Search}
+use Rattle.cf_explore.specs.declared.step.Move.{Move}
 use Rattle.cf_explore.specs.declared.trail.Trace.{Trace}
 use Rattle.cf_forms.specs.Meanings.{Meanings}
 use Rattle.cf_explore.specs.Programs.{Programmed, Situated}
 use Rattle.cf_explore.specs.Situations.{outcomes_of}
 use Rattle.cf_explore.specs.Moves.{is_end}
-use Rattle.cf_explore.specs.Orders.{after, ends_before}
+use Rattle.cf_explore.specs.Orders.{IsOrder, after, ends_before}
 use Rattle.cf_explore.specs.Conditions.{decides}
 use Rattle.cf_explore.specs.Layers.{AreNumbered, HasMore, IsLayer, IsLed, IsLonger, IsNext, LeadsOn, LeadsPast, LeadsTo, counted, weigh}
 
@@ -30,6 +31,12 @@ EndsStandFor ends situations = (f : List (Option Outcome) → ℕ) → counted (
 abbrev pub IsShown : Meanings → Programmed → List Trace → End → Type 0
 IsShown m p trail e =
     (s : Situated) × LeadsTo m p trail e.witness.moves e.witness.number s × (is_end p s ≡ true) × (outcomes_of s ≡ e.outcomes.items)
+
+-- The moves are an order that leads to the situation for which a witness stands, under whatever functions and in whatever program
+-- the trail was made.
+abbrev pub IsOrderOf : List Trace → Witness → List Move → Type 0
+IsOrderOf trail w order =
+    (m : Meanings) (p : Programmed) (s : Situated) → LeadsTo m p trail w.moves w.number s → IsOrder m p w.moves order s
 
 -- no order of fewer than k moves leads to a situation that decides a condition
 abbrev pub IsUndecided : Meanings → Programmed → ℕ → Condition → Type 0
@@ -67,6 +74,10 @@ pub record IsSearch (m : Meanings) (p : Programmed) (conditions : List Condition
   pub on : search.is_on ≡ true → search.found.whole ≡ false
   pub over : search.is_on ≡ false → (search.found.whole ≡ true) ⊎ HasMore m p search.found.trail.items
 
+-- a call that goes on with a search leaves one that has found what it says, where it fails for nothing
+abbrev pub KeepsSearch : {E : Type 0} → Meanings → Programmed → List Condition → Search → Result (Unit {0}) E → Search → Type 0
+KeepsSearch m p conditions old result new = IsSearch m p conditions old → IfOk result (λ _. IsSearch m p conditions new)
+
 -- a search that is over has seen all orders, or as many situations as the bound
 abbrev pub IsOver : ℕ → Search → Type 0
 IsOver bound search = search.is_on ≡ false → (search.found.whole ≡ true) ⊎ (bound ≤ length search.found.trail.items)
@@ -101,6 +112,10 @@ pub record AreUpdates (p : Programmed) (entries : List Entry) (k : ℕ) (conditi
   pub done : (j : ℕ) (c : Condition) (a b : Option Witness) → j < i → slice_get conditions j ≡ Some c → slice_get old j ≡ Some a → slice_get new j ≡ Some b → IsUpdate p entries k c a b
   pub left : (j : ℕ) → i ≤ j → slice_get new j ≡ slice_get old j
   pub so_many : length new ≡ length old
+
+-- so it is for all conditions
+abbrev pub IsDecided : Programmed → List Entry → ℕ → List Condition → List (Option Witness) → List (Option Witness) → Type 0
+IsDecided p entries k conditions old new = AreUpdates p entries k conditions old new (length conditions)
 
 -- what f adds up to over the outcomes of an end, and 0 over any other situation
 abbrev pub over_end : Programmed → (List (Option Outcome) → ℕ) → Situated → ℕ

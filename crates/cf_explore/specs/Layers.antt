@@ -43,6 +43,10 @@ IsAt entries i s = (e : Entry) × (slice_get entries i ≡ Some e) × (e.situati
 abbrev pub more : Entry → ℕ → Entry
 more e orders = record e { orders = counted (e.orders + orders) }
 
+-- so many orders more lead to the entry at place i
+abbrev pub HasMoreOrders : List Entry → List Entry → ℕ → ℕ → Type 0
+HasMoreOrders old new i orders = (e : Entry) → slice_get old i ≡ Some e → new ≡ slice_set old i (more e orders)
+
 -- situation s stands at no place
 abbrev pub IsNowhere : List Entry → Situated → Type 0
 IsNowhere entries s = (i : ℕ) → IsAt entries i s → ⊥

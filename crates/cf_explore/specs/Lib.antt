@@ -4,4 +4,5 @@ pub mod Situations
 pub mod Orders
 pub mod Conditions
 pub mod Layers
+pub mod Spreads
 pub mod Found

@@ -37,6 +37,10 @@ abbrev pub caller_moves : Programmed → Situated → ℕ → List Move
 caller_moves p s zero = []
 caller_moves p s (suc c) = caller_moves p s c ++ step_moves c (step_of p s c)
 
+-- the next step of each caller
+abbrev pub callers_moves : Programmed → Situated → List Move
+callers_moves p s = caller_moves p s (length p.callers)
+
 abbrev pub claim_moves : ℕ → ℕ → Stage → List Move
 claim_moves w i (Ready args) = moving.Claim w i ∷ []
 claim_moves w i stage = []
@@ -45,8 +49,12 @@ abbrev pub claims_by : State → ℕ → ℕ → List Move
 claims_by s w zero = []
 claims_by s w (suc i) = claims_by s w i ++ claim_moves w i (stage_at s i)
 
+-- worker w's claims of all stages that are ready
+abbrev pub all_claims_by : State → ℕ → List Move
+all_claims_by s w = claims_by s w (length s.plan.stages)
+
 abbrev pub moves_by_hand : Situated → ℕ → Hand → List Move
-moves_by_hand s w hands.Idle = claims_by s.state w (length s.state.plan.stages)
+moves_by_hand s w hands.Idle = all_claims_by s.state w
 moves_by_hand s w (hands.Granted i args) = moving.Call w ∷ []
 moves_by_hand s w (hands.Called i answer) = moving.Finish w ∷ []
 
@@ -62,7 +70,7 @@ abbrev pub clock_moves : Bool → State → List Move
 clock_moves free s = tick_moves free (slice_get s.plan.limits s.used)
 
 unfoldable pub own_moves : Programmed → Situated → List Move
-own_moves p s = caller_moves p s (length p.callers) ++ worker_moves s p.workers
+own_moves p s = callers_moves p s ++ worker_moves s p.workers
 
 unfoldable pub moves : Programmed → Situated → List Move
 moves p s = own_moves p s ++ clock_moves p.free s.state
@@ -136,12 +144,20 @@ next_moment s = option_map_or (λ (limit : Limit). limit.at) (slice_get s.plan.l
 abbrev pub ticked : Situated → Situated
 ticked s = record s { state = (ticking s.state (next_moment s.state)).1 }
 
--- Where a move leads. The workers' numbers as callers stand behind those of the callers. A worker that isn't there does nothing.
+-- Where worker w's claim and its finish lead. The workers' numbers as callers stand behind those of the callers. A worker that isn't
+-- there does nothing.
+abbrev pub after_claim : Programmed → Situated → ℕ → ℕ → Situated
+after_claim p s w i = if nat_lt w p.workers then claim_by s w i (claim_answer s.state (length p.callers + w) i) else s
+
+abbrev pub after_finish : Programmed → Situated → ℕ → Situated
+after_finish p s w = if nat_lt w p.workers then finish_by s w (length p.callers + w) (hand_at s w) else s
+
+-- Where a move leads.
 unfoldable pub moved : Meanings → Programmed → Situated → Move → Situated
 moved m p s (moving.Step c) = option_map_or (stepped s c) (step_of p s c) s
-moved m p s (moving.Claim w i) = if nat_lt w p.workers then claim_by s w i (claim_answer s.state (length p.callers + w) i) else s
+moved m p s (moving.Claim w i) = after_claim p s w i
 moved m p s (moving.Call w) = call_by m s w (hand_at s w)
-moved m p s (moving.Finish w) = if nat_lt w p.workers then finish_by s w (length p.callers + w) (hand_at s w) else s
+moved m p s (moving.Finish w) = after_finish p s w
 moved m p s moving.Tick = ticked s
 
 -- The event that a move is, if it is one: a read, a function's call and a call that the graph doesn't take are none. The clock

@@ -1,6 +1,6 @@
 -- Programs, and the situations that they come to.
 use Rattle.std.specs.Prelude.{ℕ, Bool, false, List, Option, length, replicate, slice_get, unwrap_or, option_and_then}
-use Rattle.cf_forms.specs.Plans.{Planned}
+use Rattle.cf_forms.specs.Plans.{Planned, with_room}
 use Rattle.cf_model.specs.States.{State, start}
 use Rattle.cf_explore.specs.declared.step.Step.{Step}
 use Rattle.cf_explore.specs.declared.step.Place.{Place}
@@ -14,12 +14,20 @@ pub record Programmed : Type 0 where
   pub workers : ℕ
   pub free : Bool
 
+-- the program of a plan with room for so many stages more
+abbrev pub programmed : Planned → ℕ → List (List Step) → ℕ → Bool → Programmed
+programmed plan room callers workers free =
+    record { plan = with_room plan room; callers = callers; workers = workers; free = free }
+
 -- the graph's state, how far each caller has come, what each worker has in hand, and for each stage whether its function was called
 pub record Situated : Type 0 where
   pub state : State
   pub places : List Place
   pub hands : List Hand
   pub called : List Bool
+
+abbrev pub situated : State → List Place → List Hand → List Bool → Situated
+situated state places hands called = record { state = state; places = places; hands = hands; called = called }
 
 -- the situation at the start
 abbrev pub start_of : Programmed → Situated

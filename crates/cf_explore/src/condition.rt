@@ -1,7 +1,7 @@
 //! What must hold of the orders.
 use cf_outcome::{Cause, Value};
 
-/// What a stage is to be.
+/// What is asked of a stage in a fact.
 #[derive(Clone, Copy, Debug, Drop, PartialEq, Eq)]
 pub enum Is {
     /// Settled with this value.
@@ -12,25 +12,25 @@ pub enum Is {
     Fault(Cause),
     /// Settled with any fault.
     AnyFault,
-    /// Cancelled itself: settled with the raw cause `Cancelled` (`CompletableFuture.isCancelled`).
+    /// It was cancelled itself: settled with the raw cause `Cancelled` (as `CompletableFuture.isCancelled` tells).
     Cancelled,
     Settled,
-    /// Not settled. So is a stage that isn't there.
+    /// Not settled. A stage that isn't there counts as not settled.
     Pending,
 }
 
 /// A fact about one situation.
 #[derive(Clone, Copy, Debug, Drop, PartialEq, Eq)]
 pub enum Fact {
-    /// The stage is so.
+    /// The stage is as asked.
     Stage(u16, Is),
     /// The stage's function was called.
     Called(u16),
     /// The stage's function wasn't called.
     NotCalled(u16),
-    /// Of all stages that have this function, it was called for exactly so many.
+    /// This function was called for exactly this many of the stages that have it.
     Exactly(u16, u16),
-    /// Of all stages that have this function, it was called for so many at least.
+    /// This function was called for at least this many of the stages that have it.
     AtLeast(u16, u16),
 }
 
@@ -51,7 +51,7 @@ pub enum How {
     Possible,
 }
 
-/// That all of these facts hold never, always, or possibly, when it is looked at.
+/// A condition: these facts hold together never, always or possibly, wherever it is looked at.
 #[derive(Drop)]
 pub struct Condition {
     pub how: How,

@@ -3,7 +3,7 @@ use crate::step::Move;
 use crate::trail::Trace;
 use cf_outcome::Outcome;
 
-/// One end: the outcomes of all stages, how many orders lead to it, counted up to 2^128 - 1, and one of the shortest of them.
+/// One end: the outcomes of all stages, how many orders lead to it (counted up to 2^128 - 1), and one of the shortest of these.
 #[derive(Drop)]
 pub struct End {
     pub outcomes: Vec<Option<Outcome>>,
@@ -23,13 +23,13 @@ pub struct Witness {
 pub struct Found {
     /// The distinct ends of all orders that were seen.
     pub ends: Vec<End>,
-    /// For each condition a shortest order that decides it, if one was seen: it shows that `never` or `always` doesn't hold,
-    /// or that `possible` does.
+    /// For each condition a shortest order that decides it, if one was seen. Such an order shows that `never` or `always`
+    /// doesn't hold, or that `possible` does.
     pub decisions: Vec<Option<Witness>>,
     /// All orders of fewer moves than this were seen.
     pub moves: u32,
     /// Whether these are all orders.
     pub whole: bool,
-    /// The number of each situation before, and the move from it.
+    /// For the number of each situation: the number of the one before it, and the move between them.
     pub trail: Vec<Trace>,
 }

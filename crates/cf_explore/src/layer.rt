@@ -1,6 +1,6 @@
 //! The situations after so many moves.
-ghost use Rattle.std.specs.Prelude.{◌≡◌, ◌<◌, [], IfNone, IfOk, IfSome, None, Some, length, slice_get, slice_set, true};
-ghost use Rattle.cf_explore.specs.Layers.{IsAdded, IsAt, IsNowhere, more};
+ghost use Rattle.std.specs.Prelude.{◌≡◌, ◌<◌, [], IfNone, IfOk, IfSome, None, length, true};
+ghost use Rattle.cf_explore.specs.Layers.{HasMoreOrders, IsAdded, IsAt, IsNowhere};
 
 use crate::hash::hash_of;
 use crate::situation::Situation;
@@ -15,7 +15,8 @@ pub struct Entry {
     pub(crate) hash: u64,
 }
 
-/// What became of a situation to which more orders lead: it is new, it stands there already, or it would be new and no new one may come.
+/// What became of a situation to which more orders lead: it was new, it was there already, or it would be new but none may be
+/// added.
 #[derive(Clone, Copy, Drop)]
 pub(crate) enum Added {
     New,
@@ -23,8 +24,9 @@ pub(crate) enum Added {
     NoRoom,
 }
 
-/// The situations after so many moves. The table has the places of entries, each behind 1, from the place of its hash on; 0 is
-/// none. What it leads to is compared, so nothing but time hangs on it.
+/// The situations after some number of moves. The table is a hash table of the entries' places: a place is stored plus 1, in the
+/// first free slot from that of its hash on, and 0 is a free slot. An entry that it leads to is compared, so only the time that a
+/// search takes depends on the table.
 #[derive(Drop)]
 pub struct Layer {
     pub(crate) entries: Vec<Entry>,
@@ -42,14 +44,14 @@ impl Layer {
         }
     }
 
-    /// So many orders more lead to this situation, which gets the number where it is new: without one no new situation may come.
+    /// This many orders more lead to this situation. Where it is new it gets the number; without a number no new one is added.
     pub(crate) fn add(
         &mut self,
         situation: Situation,
         orders: u128,
         number: Option<u32>,
     ) -> Result<Added, AllocError>
-        ensures { IfOk result (λ added. IsAdded self.old.entries.items self.new.entries.items situation orders number added) }
+        ensures { IfOk result (IsAdded self.old.entries.items self.new.entries.items situation orders number) }
     {
         let hash = hash_of(&situation);
         match place_of(&self.entries, &self.table, &situation, hash, number) {
@@ -75,10 +77,10 @@ impl Layer {
         }
     }
 
-    /// So many orders more lead to the situation at this place.
+    /// This many orders more lead to the situation at this place.
     fn more_orders(&mut self, i: usize, orders: u128)
         requires { i < length self.old.entries.items }
-        ensures { (e : Entry) → slice_get self.old.entries.items i ≡ Some e → self.new.entries.items ≡ slice_set self.old.entries.items i (more e orders) }
+        ensures { HasMoreOrders self.old.entries.items self.new.entries.items i orders }
     {
         let entry = &mut self.entries[i];
         entry.orders = entry.orders.saturating_add(orders);

@@ -1,10 +1,10 @@
 //! Which moves there are in a situation, and where each leads.
-ghost use Rattle.std.specs.Prelude.{◌≡◌, ◌+◌, ◌++◌, ◌≤◌, ◌<◌, IfOk, if◌then◌else◌, length, nat_lt, true, unwrap_or};
+ghost use Rattle.std.specs.Prelude.{◌≡◌, ◌+◌, ◌++◌, ◌≤◌, ◌<◌, IfOk, length, true, unwrap_or};
 ghost use Rattle.std.specs.Option.{option_map_or};
 ghost use Rattle.cf_forms.specs.Meanings.{meanings_of};
 ghost use Rattle.cf_forms.specs.Plans.{function_at};
 ghost use Rattle.cf_explore.specs.Programs.{hand_at, step_of};
-ghost use Rattle.cf_explore.specs.Moves.{call_by, caller_moves, claim_answer, claim_by, claim_moves, claims_by, call_event, claim_event, clock_moves, event_of, finish_by, finish_by_hand, finish_event, is_end, moved, moves, moves_by_hand, own_moves, step_event, step_moves, stepped, tick_moves, worker_moves};
+ghost use Rattle.cf_explore.specs.Moves.{after_claim, after_finish, all_claims_by, call_by, callers_moves, claim_moves, call_event, claim_event, clock_moves, event_of, finish_by_hand, finish_event, is_end, moved, moves, moves_by_hand, own_moves, step_event, step_moves, stepped, tick_moves, worker_moves};
 
 use crate::program::Program;
 use crate::situation::Situation;
@@ -13,7 +13,7 @@ use crate::step::{Hand, Move, Step};
 use cf_forms::{Answer, Args, Limit, StageFn};
 use cf_model::{Call, Event, Stage, event_by};
 use cf_outcome::Value;
-use cf_plain::Plain;
+use cf_reference::ReferenceGraph;
 use std::alloc::{AllocError, Global};
 
 impl Program {
@@ -48,7 +48,7 @@ impl Program {
 
     /// Each caller's next step.
     fn add_callers(&self, made: &mut Vec<Move>, s: &Situation) -> Result<(), AllocError>
-        ensures { IfOk result (λ _. made.new.items ≡ made.old.items ++ caller_moves self.now s.now (length self.now.callers)) }
+        ensures { IfOk result (λ _. made.new.items ≡ made.old.items ++ callers_moves self.now s.now) }
     {
         for c in 0..self.callers.len() as u8 {
             add_step(made, c, self.step(s, c))?;
@@ -88,7 +88,7 @@ impl Program {
         Ok(t)
     }
 
-    /// The event that a move is, if it is one: a read, a function's call and a call that the graph doesn't take are none.
+    /// The event that a move is, if it is one. A read, a function's call and a call that the graph doesn't take are no events.
     pub fn event(&self, s: &Situation, by: Move) -> Option<Event>
         ensures { result ≡ event_of self.now s.now by }
     {
@@ -157,7 +157,7 @@ impl Program {
 
     /// A worker's claim.
     fn make_claim(&self, s: &mut Situation, w: u8, i: u16)
-        ensures { s.new ≡ (if nat_lt w self.now.workers then claim_by s.old w i (claim_answer s.old.state (length self.now.callers + w) i) else s.old) }
+        ensures { s.new ≡ after_claim self.now s.old w i }
     {
         if w < self.workers {
             s.claim(w, self.callers.len() as u8 + w, i);
@@ -166,7 +166,7 @@ impl Program {
 
     /// A worker's finish.
     fn make_finish(&self, alloc: Global, s: &mut Situation, w: u8) -> Result<(), AllocError>
-        ensures { IfOk result (λ _. s.new ≡ (if nat_lt w self.now.workers then finish_by s.old w (length self.now.callers + w) (hand_at s.old w) else s.old)) }
+        ensures { IfOk result (λ _. s.new ≡ after_finish self.now s.old w) }
     {
         if w < self.workers {
             s.finish(alloc, w, self.callers.len() as u8 + w)?;
@@ -198,7 +198,7 @@ impl Program {
 }
 
 /// The number of a stage's function, or 0.
-fn function(graph: &Plain, i: u16) -> u16
+fn function(graph: &ReferenceGraph, i: u16) -> u16
     ensures { result ≡ unwrap_or (function_at graph.now.plan.stages i) 0 }
 {
     if graph.has(i) {
@@ -226,8 +226,8 @@ fn add_by_hand(made: &mut Vec<Move>, s: &Situation, w: u8) -> Result<(), AllocEr
 }
 
 /// A worker's claims of ready stages.
-fn add_claims(made: &mut Vec<Move>, graph: &Plain, w: u8) -> Result<(), AllocError>
-    ensures { IfOk result (λ _. made.new.items ≡ made.old.items ++ claims_by graph.now w (length graph.now.plan.stages)) }
+fn add_claims(made: &mut Vec<Move>, graph: &ReferenceGraph, w: u8) -> Result<(), AllocError>
+    ensures { IfOk result (λ _. made.new.items ≡ made.old.items ++ all_claims_by graph.now w) }
 {
     for i in 0..graph.stages() {
         add_claim(made, w, i, graph.stage(i))?;

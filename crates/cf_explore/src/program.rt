@@ -1,16 +1,16 @@
 //! What is searched.
 ghost use Rattle.std.specs.Prelude.{◌≡◌, ◌+◌, ◌<◌, ◌≤◌, true, IfOk, is_some, length, slice_get};
-ghost use Rattle.cf_forms.specs.Plans.{has_place, with_room};
-ghost use Rattle.cf_explore.specs.Programs.{place_at, start_of, step_of};
+ghost use Rattle.cf_forms.specs.Plans.{has_place};
+ghost use Rattle.cf_explore.specs.Programs.{place_at, programmed, start_of, step_of};
 
 use crate::situation::Situation;
 use crate::step::{Hand, Place, Step};
-use cf_plain::Plain;
 use cf_plan::Plan;
+use cf_reference::ReferenceGraph;
 use std::alloc::{AllocError, Global};
 use std::marker::Model;
 
-/// At most so many callers, workers and the clock together.
+/// There are at most this many callers and workers together. The clock comes besides.
 pub const MAX_CALLERS: usize = 63;
 
 /// The steps of one caller, fewer than 65,536.
@@ -48,8 +48,8 @@ impl Caller {
     }
 }
 
-/// A plan with room, callers with their steps, workers, and a clock. Where the clock is free, the
-/// moment of the next unused limit may come between any two moves; else limits fire by the callers' ticks alone.
+/// A plan with room, callers with their steps, workers, and a clock. If the clock is free, the moment of the next unused limit
+/// may come between any two moves. If it isn't, limits fire only by the callers' ticks.
 #[derive(Drop)]
 pub struct Program {
     pub(crate) plan: Plan,
@@ -61,22 +61,22 @@ pub struct Program {
 
 impl Model for Program {
     ghost use Rattle.std.specs.Prelude.{◌≡◌, ◌+◌, ◌≤◌, true, length};
-    ghost use Rattle.cf_forms.specs.Plans.{has_place, with_room};
-    ghost use Rattle.cf_explore.specs.Programs.{Programmed};
+    ghost use Rattle.cf_forms.specs.Plans.{has_place};
+    ghost use Rattle.cf_explore.specs.Programs.{Programmed, programmed};
 
     ghost Value = { Programmed };
 
-    ghost view = { λ p. record { plan = with_room p.plan p.room; callers = p.callers.items; workers = p.workers; free = p.free } };
+    ghost view = { λ p. programmed p.plan p.room p.callers.items p.workers p.free };
 
     ghost invariant = { λ p. (has_place p.plan.stages p.room ≡ true) × (length p.callers.items + p.workers ≤ 63) };
 }
 
 impl Program {
-    /// The program of a plan with room for so many stages.
+    /// The program of a plan with room for this many stages more.
     pub fn new(plan: Plan, room: u16, callers: Vec<Caller>, workers: u8, free: bool) -> Program
         requires place { has_place plan.stages room ≡ true }
         requires few { length callers.items + workers ≤ 63 }
-        ensures { result ≡ record { plan = with_room plan room; callers = callers.items; workers = workers; free = free } }
+        ensures { result ≡ programmed plan room callers.items workers free }
     {
         Program {
             plan,
@@ -95,7 +95,7 @@ impl Program {
         let called = vec![in alloc; false; self.plan.stages() as usize]?;
         let places = vec![in alloc; Place { at: 0, looks: 0 }; self.callers.len()]?;
         let hands = vec![in alloc; Hand::Idle; self.workers as usize]?;
-        let graph = Plain::start_growing(alloc, self.plan.share()?, self.room)?;
+        let graph = ReferenceGraph::start_growing(alloc, self.plan.share()?, self.room)?;
         Ok(Situation {
             graph,
             places,

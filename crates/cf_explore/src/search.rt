@@ -1,10 +1,10 @@
 //! The search, layer by layer.
-ghost use Rattle.std.specs.Prelude.{◌≡◌, ◌+◌, ◌*◌, ◌<◌, ◌≤◌, ℕ, Contains, IfNone, IfOk, IfSome, None, false, length, replicate, true};
+ghost use Rattle.std.specs.Prelude.{◌≡◌, ◌<◌, ◌≤◌, ℕ, Contains, IfNone, IfOk, IfSome, None, false, length, replicate, true};
 ghost use Rattle.cf_forms.specs.Meanings.{Meanings, meanings_of};
-ghost use Rattle.cf_explore.specs.Programs.{Situated};
-ghost use Rattle.cf_explore.specs.Moves.{moved, moves};
-ghost use Rattle.cf_explore.specs.Layers.{AreNumbered, IsLonger, IsNext, IsNowhere, IsSpread, KeepsLed, LeadsOn, LeadsPast, MissesOne, counted, weigh};
-ghost use Rattle.cf_explore.specs.Found.{AreUpdates, SearchGoesOn, IsAdvance, IsAsked, IsFirst, IsFound, IsLook, IsOver, IsSearch, IsUpdate, IsWithin};
+ghost use Rattle.cf_explore.specs.Moves.{moves};
+ghost use Rattle.cf_explore.specs.Layers.{IsLonger, LeadsPast, MissesOne};
+ghost use Rattle.cf_explore.specs.Spreads.{AddsMove, IfMade, IfStopped, IsLayerSpread, IsNextLayer, IsNumberedFrom, KeepsLayerLed, KeepsNumbers, LeadsLayerOn, MissesMove};
+ghost use Rattle.cf_explore.specs.Found.{IsAdvance, IsAsked, IsDecided, IsFirst, IsFound, IsLook, IsOver, IsSearch, IsUpdate, IsWithin, KeepsSearch, SearchGoesOn};
 
 use crate::condition::Condition;
 use crate::found::{Found, Witness};
@@ -20,12 +20,12 @@ use std::alloc::{AllocError, Global};
 pub struct Search {
     pub(crate) layer: Layer,
     pub found: Found,
-    /// Whether it goes on: not all orders were seen, and the bound wasn't reached.
+    /// Whether it goes on, which it does until all orders were seen or the bound was reached.
     pub is_on: bool,
 }
 
 impl Program {
-    /// Searches all orders, up to so many situations. It fails only where there is no memory.
+    /// Searches all orders, but sees at most `bound` situations. It fails only where there is no memory.
     pub fn explore<F: StageFn>(
         &self,
         alloc: Global,
@@ -33,7 +33,7 @@ impl Program {
         conditions: &[Condition],
         bound: u32,
     ) -> Result<Found, AllocError>
-        ensures found { IfOk result (λ found. IsFound (meanings_of F.meaning functions.now) self.now conditions.now found) }
+        ensures found { IfOk result (IsFound (meanings_of F.meaning functions.now) self.now conditions.now) }
         ensures asked { IfOk result (IsAsked (meanings_of F.meaning functions.now) self.now bound) }
     {
         let mut search = self.begin(alloc, conditions)?;
@@ -75,8 +75,8 @@ impl Program {
         })
     }
 
-    /// Sees all orders of one move more, unless there are more situations than the bound, where it stops. The conditions are
-    /// those that the search began with. It fails only where there is no memory, and the search isn't to be used any more then.
+    /// Goes on to all orders of one move more, or stops where these lead to more situations than the bound. The conditions have
+    /// to be those that the search began with. It fails only where there is no memory; then the search can't be used any more.
     pub fn go_on<F: StageFn>(
         &self,
         alloc: Global,
@@ -85,10 +85,12 @@ impl Program {
         bound: u32,
         search: &mut Search,
     ) -> Result<(), AllocError>
-        ensures search { IsSearch (meanings_of F.meaning functions.now) self.now conditions.now search.old → IfOk result (λ _. IsSearch (meanings_of F.meaning functions.now) self.now conditions.now search.new) }
+        ensures search { KeepsSearch (meanings_of F.meaning functions.now) self.now conditions.now
+            search.old result search.new }
         ensures over { IsOver bound search.old → IfOk result (λ _. IsOver bound search.new) }
         ensures within { IsWithin bound search.old → IfOk result (λ _. IsWithin bound search.new) }
-        ensures goes_on { IsSearch (meanings_of F.meaning functions.now) self.now conditions.now search.old → IfOk result (λ _. SearchGoesOn search.old search.new) }
+        ensures goes_on { IsSearch (meanings_of F.meaning functions.now) self.now conditions.now search.old
+            → IfOk result (λ _. SearchGoesOn search.old search.new) }
     {
         if search.is_on
             && search.found.moves < u32::MAX
@@ -133,7 +135,8 @@ impl Program {
         bound: u32,
         search: &mut Search,
     ) -> Result<(), AllocError>
-        ensures advance { IfOk result (λ _. IsAdvance (meanings_of F.meaning functions.now) self.now search.old search.new) }
+        ensures advance { IfOk result
+            (λ _. IsAdvance (meanings_of F.meaning functions.now) self.now search.old search.new) }
         ensures over { IfOk result (λ _. IsOver bound search.new) }
         ensures within { IsWithin bound search.old → IfOk result (λ _. IsWithin bound search.new) }
     {
@@ -168,12 +171,14 @@ impl Program {
         bound: u32,
         trail: &mut Vec<Trace>,
     ) -> Result<Option<Layer>, AllocError>
-        ensures next { IfOk result (λ made. IfSome made (λ layer. IsNext (meanings_of F.meaning functions.now) self.now entries.now layer.entries.items)) }
-        ensures led { IfOk result (λ made. IfSome made (λ layer. LeadsOn (meanings_of F.meaning functions.now) self.now trail.old.items trail.new.items entries.now layer.entries.items)) }
+        ensures next { IfMade result (IsNextLayer (meanings_of F.meaning functions.now) self.now entries.now) }
+        ensures led { IfMade result
+            (LeadsLayerOn (meanings_of F.meaning functions.now) self.now trail.old.items trail.new.items entries.now) }
         ensures longer { IfOk result (λ _. IsLonger trail.old.items trail.new.items) }
-        ensures numbered { IfOk result (λ made. IfSome made (λ layer. AreNumbered (length trail.old.items) trail.new.items layer.entries.items)) }
-        ensures full { IfOk result (λ made. IfNone made (bound ≤ length trail.new.items)) }
-        ensures past { IfOk result (λ made. IfNone made (LeadsPast (meanings_of F.meaning functions.now) self.now trail.old.items trail.new.items entries.now)) }
+        ensures numbered { IfMade result (IsNumberedFrom (length trail.old.items) trail.new.items) }
+        ensures full { IfStopped result (bound ≤ length trail.new.items) }
+        ensures past { IfStopped result
+            (LeadsPast (meanings_of F.meaning functions.now) self.now trail.old.items trail.new.items entries.now) }
         ensures within { length trail.old.items ≤ bound → IfOk result (λ _. length trail.new.items ≤ bound) }
     {
         let mut next = Layer::new(alloc);
@@ -186,7 +191,7 @@ impl Program {
         Ok(Some(next))
     }
 
-    /// Adds the situations to which one more move leads from this one. It says whether there were no more than the bound.
+    /// Adds the situations to which one more move leads from this one. It says whether the bound allowed all of them.
     fn spread<F: StageFn>(
         &self,
         alloc: Global,
@@ -196,12 +201,15 @@ impl Program {
         trail: &mut Vec<Trace>,
         next: &mut Layer,
     ) -> Result<bool, AllocError>
-        ensures spread { IfOk result (λ whole. whole ≡ true → IsSpread (meanings_of F.meaning functions.now) self.now entry.now next.old.entries.items next.new.entries.items) }
-        ensures led { IfOk result (λ whole. KeepsLed (meanings_of F.meaning functions.now) self.now trail.old.items trail.new.items next.old.entries.items next.new.entries.items entry.now) }
+        ensures spread { IfOk result (λ whole. whole ≡ true
+            → IsLayerSpread (meanings_of F.meaning functions.now) self.now entry.now next.old next.new) }
+        ensures led { IfOk result (λ _. KeepsLayerLed (meanings_of F.meaning functions.now) self.now
+            trail.old.items trail.new.items next.old next.new entry.now) }
         ensures longer { IfOk result (λ _. IsLonger trail.old.items trail.new.items) }
-        ensures numbered { IfOk result (λ _. (base : ℕ) → AreNumbered base trail.old.items next.old.entries.items → AreNumbered base trail.new.items next.new.entries.items) }
+        ensures numbered { IfOk result (λ _. KeepsNumbers trail.old.items trail.new.items next.old next.new) }
         ensures full { IfOk result (λ whole. whole ≡ false → bound ≤ length trail.new.items) }
-        ensures past { IfOk result (λ whole. whole ≡ false → MissesOne (meanings_of F.meaning functions.now) self.now entry.now next.new.entries.items) }
+        ensures past { IfOk result (λ whole. whole ≡ false
+            → MissesOne (meanings_of F.meaning functions.now) self.now entry.now next.new.entries.items) }
         ensures within { length trail.old.items ≤ bound → IfOk result (λ _. length trail.new.items ≤ bound) }
     {
         let moves = self.moves(alloc, &entry.situation)?;
@@ -214,8 +222,7 @@ impl Program {
         Ok(true)
     }
 
-    /// Adds the situation to which a move leads. It says whether there were no more than the bound: where it would be one more, all
-    /// is left as it is.
+    /// Adds the situation to which a move leads. It says whether the bound allows that; where it doesn't, nothing changes.
     #[tactic(none)]
     fn add_move<F: StageFn>(
         &self,
@@ -227,12 +234,16 @@ impl Program {
         trail: &mut Vec<Trace>,
         next: &mut Layer,
     ) -> Result<bool, AllocError>
-        ensures weighs { IfOk result (λ whole. whole ≡ true → (f : Situated → ℕ) → counted (weigh f next.new.entries.items) ≡ counted (weigh f next.old.entries.items + entry.now.orders * f (moved (meanings_of F.meaning functions.now) self.now entry.now.situation by))) }
-        ensures led { IfOk result (λ _. Contains (moves self.now entry.now.situation) by → KeepsLed (meanings_of F.meaning functions.now) self.now trail.old.items trail.new.items next.old.entries.items next.new.entries.items entry.now) }
+        ensures weighs { IfOk result (λ whole. whole ≡ true
+            → AddsMove (meanings_of F.meaning functions.now) self.now entry.now by next.old next.new) }
+        ensures led { IfOk result (λ _. Contains (moves self.now entry.now.situation) by
+            → KeepsLayerLed (meanings_of F.meaning functions.now) self.now
+            trail.old.items trail.new.items next.old next.new entry.now) }
         ensures longer { IfOk result (λ _. IsLonger trail.old.items trail.new.items) }
-        ensures numbered { IfOk result (λ _. (base : ℕ) → AreNumbered base trail.old.items next.old.entries.items → AreNumbered base trail.new.items next.new.entries.items) }
+        ensures numbered { IfOk result (λ _. KeepsNumbers trail.old.items trail.new.items next.old next.new) }
         ensures full { IfOk result (λ whole. whole ≡ false → bound ≤ length trail.new.items) }
-        ensures past { IfOk result (λ whole. whole ≡ false → IsNowhere next.new.entries.items (moved (meanings_of F.meaning functions.now) self.now entry.now.situation by)) }
+        ensures past { IfOk result (λ whole. whole ≡ false
+            → MissesMove (meanings_of F.meaning functions.now) self.now entry.now by next.new) }
         ensures within { length trail.old.items ≤ bound → IfOk result (λ _. length trail.new.items ≤ bound) }
     {
         let situation = self.moved(alloc, functions, &entry.situation, by)?;
@@ -261,7 +272,7 @@ impl Program {
         decisions: &mut [Option<Witness>],
     ) -> Result<(), AllocError>
         requires { length decisions.old ≡ length conditions.now }
-        ensures { IfOk result (λ _. AreUpdates self.now entries.now moves conditions.now decisions.old decisions.new (length conditions.now)) }
+        ensures { IfOk result (λ _. IsDecided self.now entries.now moves conditions.now decisions.old decisions.new) }
     {
         for i in 0..conditions.len() {
             let known = decisions[i];

@@ -7,7 +7,7 @@ ghost use Rattle.cf_explore.specs.Programs.{hand_at, place_at};
 
 use crate::step::{Hand, Place};
 use cf_outcome::Outcome;
-use cf_plain::Plain;
+use cf_reference::ReferenceGraph;
 use std::alloc::{AllocError, Global};
 use std::marker::Model;
 
@@ -15,18 +15,18 @@ use std::marker::Model;
 /// called.
 #[derive(Drop)]
 pub struct Situation {
-    pub(crate) graph: Plain,
+    pub(crate) graph: ReferenceGraph,
     pub(crate) places: Vec<Place>,
     pub(crate) hands: Vec<Hand>,
     pub(crate) called: Vec<bool>,
 }
 
 impl Model for Situation {
-    ghost use Rattle.cf_explore.specs.Programs.{Situated};
+    ghost use Rattle.cf_explore.specs.Programs.{Situated, situated};
 
     ghost Value = { Situated };
 
-    ghost view = { λ s. record { state = s.graph; places = s.places.items; hands = s.hands.items; called = s.called.items } };
+    ghost view = { λ s. situated s.graph s.places.items s.hands.items s.called.items };
 }
 
 impl Situation {
@@ -61,7 +61,7 @@ impl Situation {
     }
 
     /// The graph.
-    pub fn graph(&self) -> &Plain
+    pub fn graph(&self) -> &ReferenceGraph
         ensures { result.now ≡ self.now.state }
     {
         &self.graph

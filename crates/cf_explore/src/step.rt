@@ -6,15 +6,15 @@ use cf_model::{Ask, Call};
 /// One step of a caller.
 #[derive(Clone, Copy, Debug, Drop, PartialEq, Eq)]
 pub enum Step {
-    /// A changing call. One that the graph doesn't take, as it names a stage that isn't there, changes nothing.
+    /// A changing call. If the graph doesn't take it, because it names a stage that isn't there, it changes nothing.
     Do(Call),
     /// A question, which changes nothing.
     Look(Ask),
-    /// Looks whether a stage is settled, until it is, and so many times at most. It looks once at least.
+    /// Looks at a stage until it is settled, but at most this many times. It looks at least once.
     Join(u16, u16),
 }
 
-/// How far a caller has come: the number of its next step, and how often it has looked in it.
+/// How far a caller has come: the number of its next step, and how often that step has looked already.
 #[derive(Clone, Copy, Debug, Drop, PartialEq, Eq)]
 pub struct Place {
     pub at: u16,
@@ -27,14 +27,14 @@ pub enum Hand {
     Idle,
     /// A claim of this stage was granted with these arguments; its function is to be called.
     Granted(u16, Args),
-    /// The function of this stage was called and answered so; the stage is to be finished.
+    /// The function of this stage was called and gave this answer; the stage is to be finished.
     Called(u16, Answer),
 }
 
-/// One move: who goes on.
+/// One move: who takes a step, and which.
 #[derive(Clone, Copy, Debug, Drop, PartialEq, Eq)]
 pub enum Move {
-    /// This caller takes its next step, or looks once more in it.
+    /// This caller takes its next step, or looks once more where that is a join.
     Step(u8),
     /// This worker claims this stage.
     Claim(u8, u16),

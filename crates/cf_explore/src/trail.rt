@@ -1,7 +1,7 @@
 //! How each situation was come to.
 use crate::step::Move;
 
-/// The number of the situation before, and the move from it. Number 0 is the start.
+/// How a situation was come to: the number of the one before it, and the move between them. The start has number 0.
 #[derive(Clone, Copy, Debug, Drop, PartialEq, Eq)]
 pub struct Trace {
     pub before: u32,

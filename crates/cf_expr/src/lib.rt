@@ -1,20 +1,21 @@
 //! What a quiet plain graph holds: the expression of each stage.
 //!
-//! The expression of a stage (`expr`) is what the stage ends as by the meanings of the functions and by what the sources
-//! are settled with. It knows no states, no claims and no order of work.
+//! The expression of a stage (`expr`) is the outcome that follows from the meanings of the functions and from what the
+//! sources are settled with. It knows no states, no claims and no order of work.
 //!
 //! The theorem: after a plain history that ends quiet, the outcome of each stage is its expression's.
 //!
-//! - Plain (`IsPlain`, `IsPlainPlan`): no stage is an either form or an anyOf, sources alone are settled from outside and
-//!   none before it is there, no limit comes due, and each finish that wins has the answer that the function means.
-//! - Quiet (`IsQuiet`): nothing is ready or claimed any more.
+//! - A history is plain (`IsPlain`, `IsPlainPlan`) if no stage is an either form or an anyOf, only sources are settled
+//!   from outside and none before it is there, no limit comes due, and each finish that wins has the answer that the
+//!   function means.
+//! - It ends quiet (`IsQuiet`) if no stage is ready or claimed any more.
 //!
-//! So the outcomes are the same for every order in which the work was done, and for any number of workers. The plan is the
-//! one that was reached: the stages that were attached are in it, and are told of as the others are.
+//! So the outcomes are the same for every order of work, and for any number of workers. The plan is the one that was
+//! reached: the attached stages are in it, and the theorem covers them too.
 //!
-//! Each function here is a law: it does nothing, and its contract is the statement. The statements speak of the same
-//! definitions as the contracts of `cf_core`'s calls, so they are about these calls: a graph answers each call, and is
-//! left in the state, that `answered` says.
+//! Each function here is a law: it does nothing, and its contract is the statement. The statements use the same
+//! definitions as the contracts of `cf_core`, so they are about its calls: `answered` says what a graph replies to each
+//! call, and in which state the call leaves it.
 #![tactic(auto)]
 
 ghost use Rattle.cf_expr.specs.Examples.{PremisesAreMet, PremisesAreNeeded};

@@ -4,8 +4,8 @@ ghost use Rattle.cf_forms.specs.Plans.{calls_function, fits_count, fits_form};
 
 use crate::forms::Form;
 
-/// Whether a stage with so many sources, and with a function or without one, fits the form: a `PlanBuilder` then has
-/// no `WrongSourceCount`, `FunctionMissing` or `FunctionUnwanted` for it.
+/// Whether a stage with so many sources, and with a function or without one, fits the form. If so, a `PlanBuilder`
+/// doesn't refuse it as `WrongSourceCount`, `FunctionMissing` or `FunctionUnwanted`.
 pub fn fits_form(form: Form, sources: u16, has_function: bool) -> bool
     ensures { result ≡ fits_form form sources has_function }
 {

@@ -27,7 +27,8 @@ pub trait Functions {
         ensures { calls self.old number args.now result self.new };
 }
 
-/// The functions of a list at their numbers, which remember nothing. A number without a function is answered by nil.
+/// A list of functions, called by their places in it. They remember nothing. A number without a function is answered
+/// with nil.
 #[derive(Drop)]
 pub struct Each<'a, F> {
     /// The list.
@@ -45,10 +46,11 @@ impl<F: StageFn> Functions for Each<'_, F> {
     }
 }
 
-/// What a closure is called by: a function's number and its arguments.
+/// A boxed closure that is called with a function's number and its arguments.
 type BoxedFn = Box<dyn FnMut(u16, Args) -> Answer>;
 
-/// A closure as the functions of all stages, by their numbers. It may change what it holds, as one that counts its calls does.
+/// One closure as the functions of all stages, by their numbers. It may change what it holds, as a closure that counts
+/// its calls does.
 #[derive(Drop)]
 pub struct Closure {
     call: BoxedFn,

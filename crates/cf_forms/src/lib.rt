@@ -1,13 +1,14 @@
 //! Forms of stages: what each takes from its sources, and where a finish lands.
 //!
-//! The forms are those of Java SE 17's `CompletionStage` and `CompletableFuture`; what a stage of a form does when its
-//! sources settle, and what becomes of its function's answer, is said by three tables: `due_one`, `due_two` and
-//! `landing`. What a stage's function does is a `StageFn`, whose answers depend on its arguments alone. Functions that
-//! remember what they were called with are a `Functions`: all of a plan by their numbers, with one memory. A list of the
-//! former is one (`Each`), and so is a boxed closure (`Closure`) and any type that says what its calls do.
+//! The forms are those of Java SE 17's `CompletionStage` and `CompletableFuture`. Three tables say what a stage of a
+//! form does when its sources settle, and what becomes of its function's answer: `due_one`, `due_two` and `landing`.
 //!
-//! What a plan is, as a list of stages and limits, and what is true of each that was built, is said here by definitions
-//! (`specs/Plans.antt`). How one is built and kept is `cf_plan`'s.
+//! A stage's function is a `StageFn`, whose answers depend on its arguments alone. `Functions` stands for all functions
+//! of a plan, called by their numbers, with one memory that a call may change. A list of `StageFn` is a `Functions`
+//! (`Each`), and so is a boxed closure (`Closure`) and any type that says what its calls do.
+//!
+//! `specs/Plans.antt` defines what a plan is, as a list of stages and limits, and what is true of each plan that was
+//! built. `cf_plan` builds and keeps plans.
 #![tactic(auto)]
 
 mod fitting;

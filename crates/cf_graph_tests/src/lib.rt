@@ -1,7 +1,8 @@
-//! Tests of what one caller can do, by public calls alone: outcomes, plans, events, the graph, the plain graph beside it, and the
-//! search of all orders. They stand in a crate of their own, since a crate that has tests is proved twice, with them and without.
+//! Tests of what one caller can do, through public calls alone: outcomes, plans, events, the graph, the reference graph
+//! beside it, and the search of all orders. They have a crate of their own because a crate with tests is proved
+//! twice, with them and without.
 //!
-//! A test is mostly a table of steps, which one loop takes: its proof is then that of its table.
+//! Most tests are a table of steps that one loop goes through. The proof of such a test is that of its table.
 #![tactic(auto)]
 
 #[cfg(test)]
@@ -15,6 +16,6 @@ mod graph;
 #[cfg(test)]
 mod outcome;
 #[cfg(test)]
-mod plain;
-#[cfg(test)]
 mod plan;
+#[cfg(test)]
+mod reference;

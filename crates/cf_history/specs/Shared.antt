@@ -1,5 +1,5 @@
 -- When a history fits whose callers' numbers several sessions had, and of which not each reply is known.
-use Rattle.std.specs.Prelude.{◌≡◌, ℕ, Bool, true, false, cond, eqb, ltb, List, [], ◌∷◌, length, map, get_or, option_map}
+use Rattle.std.specs.Prelude.{◌≡◌, ◌↔◌, ℕ, Bool, true, false, cond, eqb, ltb, List, [], ◌∷◌, length, map, get_or, option_map}
 use Rattle.std.specs.List.{AllZip}
 use Rattle.cf_forms.specs.Plans.{Planned}
 use Rattle.cf_model.specs.declared.events.Event.{Event}
@@ -76,6 +76,10 @@ IsFilled (Unanswered place e) r = (reply : Reply) × (r ≡ Did place e reply)
 abbrev pub AreAllFilled : List (List Entry) → List (List Record) → Type 0
 AreAllFilled entries records = AllZip (AllZip IsFilled) entries records
 
+-- these callers have the records of the sessions, with some reply where none is known
+abbrev pub AreFilledBy : SharedHistory → List Caller → Type 0
+AreFilledBy shared callers = AreAllFilled (entries_of shared.callers.items) (records_of callers)
+
 -- The history says what the sessions say, with some reply where none is known: each caller's records are those of its sessions, by
 -- their places.
 pub record Fills (shared : SharedHistory) (h : History) : Type 0 where
@@ -89,6 +93,10 @@ pub record FitsWithSomeReplies (plan : Planned) (shared : SharedHistory) : Type 
   pub history : History
   pub fills : Fills shared history
   pub fits : FitsOneGraph plan history
+
+-- the history fits just where there are replies with which what the sessions tell does
+abbrev pub FitsJustAs : Planned → SharedHistory → History → Type 0
+FitsJustAs plan shared h = FitsOneGraph plan h ↔ FitsWithSomeReplies plan shared
 
 -- ---- the sequential graph's replies
 
@@ -109,11 +117,22 @@ filled replies (Unanswered place e) = Did place e (get_or replies place (Flag fa
 abbrev pub all_filled : List Reply → List (List Entry) → List (List Record)
 all_filled replies entries = map (map (filled replies)) entries
 
+-- the graph of a plan takes these events
+abbrev pub AreTaken : ℕ → ℕ → Planned → List Event → Type 0
+AreTaken callers functions plan events = AreEventsOf callers functions (start plan) events
+
+-- where it takes them, these are its replies, by their places
+abbrev pub AreReplies : ℕ → ℕ → Planned → List Event → List Reply → Type 0
+AreReplies callers functions plan events replies = AreTaken callers functions plan events → replies ≡ replies_at (start plan) events
+
 -- where the words are those of events that the graph takes, each reply that isn't known is the one that the graph gives at its place
+abbrev pub HaveGraphsReplies : Planned → SharedHistory → List Caller → Type 0
+HaveGraphsReplies plan shared callers =
+    AreTaken (length shared.callers.items) shared.functions plan (decoded shared.words.items)
+    → records_of callers ≡ all_filled (replies_at (start plan) (decoded shared.words.items)) (entries_of shared.callers.items)
+
 abbrev pub HasGraphsReplies : Planned → SharedHistory → History → Type 0
-HasGraphsReplies plan shared h =
-    AreEventsOf (length shared.callers.items) shared.functions (start plan) (decoded shared.words.items)
-    → records_of h.callers.items ≡ all_filled (replies_at (start plan) (decoded shared.words.items)) (entries_of shared.callers.items)
+HasGraphsReplies plan shared h = HaveGraphsReplies plan shared h.callers.items
 
 -- What the verdict tells on what sessions tell: it is the one on a history that says the same, with the graph's replies.
 pub record IsSharedVerdict (plan : Planned) (shared : SharedHistory) (verdict : Verdict) : Type 0 where

@@ -1,6 +1,6 @@
 -- What each verdict tells. Of several reasons that hold at one spot the first is told, in the order in which they stand in their type:
 -- each says that none before it holds. So there is one verdict on a history.
-use Rattle.std.specs.Prelude.{◌≡◌, ◌≢◌, ℕ, zero, suc, ◌+◌, ◌-◌, ◌<◌, ◌≤◌, Option, Some, None, List, [], ◌∷◌, length, take, drop, slice_get}
+use Rattle.std.specs.Prelude.{◌≡◌, ◌≢◌, ℕ, zero, suc, ◌+◌, ◌-◌, ◌<◌, ◌≤◌, Option, Some, None, MatchOption, MatchResult, Result, List, [], ◌∷◌, length, take, drop, slice_get}
 use Rattle.cf_forms.specs.Plans.{Planned}
 use Rattle.cf_outcome.specs.declared.outcome.Outcome.{Outcome}
 use Rattle.cf_model.specs.declared.events.Event.{Event}
@@ -22,7 +22,7 @@ use Rattle.cf_history.specs.declared.verdict.Verdict.{Verdict}
 use Rattle.cf_history.specs.declared.verdict.Verdict.TheVariants.{Fits, Event as AtEvent, Record as AtRecord, Missing, Outcome as AtOutcome, Stages}
 use Rattle.cf_event.specs.Events.{own, AreEventsOf, IsEventOf, NamesFunction}
 use Rattle.cf_event.specs.Histories.{place_of}
-use Rattle.cf_history.specs.Records.{IsRight, state_in}
+use Rattle.cf_history.specs.Records.{IsRight, RecordGoesOn, state_in}
 use Rattle.cf_history.specs.Histories.{AllRight, AreOutcomesOf, AreOutcomesTo, AreWordsOf, FitsOneGraph, said}
 
 -- why an event can't stand where the graph is in this state
@@ -39,6 +39,15 @@ IsFirstUnfit callers functions s zero (e ∷ events) why = IsUnfit callers funct
 IsFirstUnfit callers functions s (suc k) (e ∷ events) why =
     IsEventOf callers functions s e × IsFirstUnfit callers functions ((answered s e).1) k events why
 
+-- whether an event can stand where the graph is in this state, and why not
+abbrev pub JudgesEvent : ℕ → ℕ → State → Event → Option Unfit → Type 0
+JudgesEvent callers functions s e found = MatchOption found (IsEventOf callers functions s e) (λ why. IsUnfit callers functions s e why)
+
+-- how many of these events can stand there, up to the first that can't, and why that one can't; nothing where all can
+abbrev pub FindsUnfit : ℕ → ℕ → State → List Event → Option (ℕ × Unfit) → Type 0
+FindsUnfit callers functions s events found =
+    MatchOption found (AreEventsOf callers functions s events) (λ (u : ℕ × Unfit). IsFirstUnfit callers functions s u.0 events u.1)
+
 -- the word behind the first k is the first that can't stand there, for this reason
 abbrev pub IsUnfitWord : ℕ → ℕ → State → List ℕ → ℕ → Unfit → Type 0
 IsUnfitWord callers functions s words k NoEvent =
@@ -49,6 +58,11 @@ IsUnfitWord callers functions s words k why = IsFirstUnfit callers functions s k
 abbrev pub IsOfWords : ℕ → ℕ → State → List ℕ → Verdict → Type 0
 IsOfWords callers functions s words (AtEvent place why) = (k : ℕ) × (place ≡ k + 1) × IsUnfitWord callers functions s words k why
 IsOfWords callers functions s words verdict = ⊥
+
+-- the verdict on the first word that can't stand there, or none where the words are those of these events
+abbrev pub JudgesWords : ℕ → ℕ → State → List ℕ → List Event → Option Verdict → Type 0
+JudgesWords callers functions s words events found =
+    MatchOption found (AreWordsOf callers functions s words events) (IsOfWords callers functions s words)
 
 -- the caller's next event stands behind n others
 pub record IsNext (c : ℕ) (rest : List Event) (n : ℕ) : Type 0 where
@@ -95,6 +109,10 @@ IsMisfit c s rest at (Saw place ask answer) (Tells given) =
     IsReached c rest at (Saw place ask answer) × AskFits (length (state_in s rest (place - at)).plan.stages) ask
     × (given ≡ told (state_in s rest (place - at)) ask) × (given ≢ answer)
 
+-- what reading a record comes to: it fits, and s' is the state at its place, or why it doesn't
+abbrev pub IsRead : ℕ → State → List Event → ℕ → Record → Result (Unit {0}) Misfit → State → Type 0
+IsRead c s rest at r read s' = MatchResult read (λ _. RecordGoesOn c s rest at r s') (λ why. IsMisfit c s rest at r why)
+
 -- the record behind the first k of these doesn't fit for this reason, and they do
 abbrev pub IsFirstMisfit : ℕ → State → List Event → ℕ → ℕ → List Record → Misfit → Type 0
 IsFirstMisfit c s rest at k [] why = ⊥
@@ -121,6 +139,10 @@ IsOfCallers s events callers (Missing caller place) =
     (here : Caller) × ComesTo s events callers caller here × LeavesOut caller s events 0 here.records.items place
 IsOfCallers s events callers verdict = ⊥
 
+-- the verdict on the first caller that doesn't fit, or none where all do
+abbrev pub JudgesCallers : State → List Event → List Caller → Option Verdict → Type 0
+JudgesCallers s events callers found = MatchOption found (AllRight s events 0 callers) (IsOfCallers s events callers)
+
 -- an outcome is said of each stage, the first stages have those, and the next has this one, which isn't what is said
 pub record IsFirstOther (s : State) (outcomes : List (Option Outcome)) (stage : ℕ) (outcome : Option Outcome) : Type 0 where
   pub all : length outcomes ≡ length s.plan.stages
@@ -129,12 +151,21 @@ pub record IsFirstOther (s : State) (outcomes : List (Option Outcome)) (stage : 
   pub there : stage < length outcomes
   pub other : slice_get outcomes stage ≢ Some outcome
 
+-- the first stage of which another outcome is said, with the one that it has, or none where each is as it is said
+abbrev pub FindsOther : State → List (Option Outcome) → Option (ℕ × Option Outcome) → Type 0
+FindsOther s outcomes found =
+    MatchOption found (AreOutcomesTo s outcomes (length outcomes)) (λ (o : ℕ × Option Outcome). IsFirstOther s outcomes o.0 o.1)
+
 -- a verdict on outcomes that are said
 abbrev pub IsOfOutcomes : State → Option (List (Option Outcome)) → Verdict → Type 0
 IsOfOutcomes s None verdict = ⊥
 IsOfOutcomes s (Some outcomes) (AtOutcome stage outcome) = IsFirstOther s outcomes stage outcome
 IsOfOutcomes s (Some outcomes) (Stages count) = (count ≡ length s.plan.stages) × (length outcomes ≢ count)
 IsOfOutcomes s (Some outcomes) verdict = ⊥
+
+-- the verdict on outcomes that are said, or none where they are those of the stages
+abbrev pub JudgesOutcomes : State → Option (List (Option Outcome)) → Option Verdict → Type 0
+JudgesOutcomes s outcomes found = MatchOption found (AreOutcomesOf s outcomes) (IsOfOutcomes s outcomes)
 
 -- the verdict where all records fit
 abbrev pub IsEnd : State → Option (List (Option Outcome)) → Verdict → Type 0

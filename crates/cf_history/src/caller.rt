@@ -1,11 +1,11 @@
 //! One caller's records, read along a history.
-ghost use Rattle.std.specs.Prelude.{◌≡◌, ◌<◌, ◌≤◌, ◌↔◌, [], IsTrue, MatchResult, length, take, drop};
+ghost use Rattle.std.specs.Prelude.{◌≡◌, ◌<◌, ◌≤◌, ◌↔◌, [], IsTrue, length, take, drop};
 ghost use Rattle.cf_model.specs.Ranges.{AskFits, EventsFit};
 ghost use Rattle.cf_event.specs.Events.{own};
 ghost use Rattle.cf_event.specs.Words.{IsEvent};
-ghost use Rattle.cf_history.specs.Records.{RecordGoesOn, state_in};
+ghost use Rattle.cf_history.specs.Records.{state_in};
 ghost use Rattle.cf_history.specs.Callers.{IsJudged};
-ghost use Rattle.cf_history.specs.Verdicts.{IsMisfit, IsNext, IsOwnAt};
+ghost use Rattle.cf_history.specs.Verdicts.{IsNext, IsOwnAt, IsRead};
 ghost use Rattle.cf_event.specs.declared.record.Record.TheVariants.{Did, Saw};
 
 use crate::verdict::Misfit;
@@ -61,7 +61,7 @@ fn judge_record(
     told: &Record,
 ) -> Result<(), Misfit>
     requires { EventsFit graph.old.state rest.now }
-    ensures { MatchResult result (λ _. RecordGoesOn caller graph.old.state rest.now at told.now graph.new.state) (λ why. IsMisfit caller graph.old.state rest.now at told.now why) }
+    ensures { IsRead caller graph.old.state rest.now at told.now result graph.new.state }
 {
     match *told {
         Record::Did {
@@ -86,7 +86,7 @@ fn judge_call(
     reply: Reply,
 ) -> Result<(), Misfit>
     requires { EventsFit graph.old.state rest.now }
-    ensures { MatchResult result (λ _. RecordGoesOn caller graph.old.state rest.now at (Did place event reply) graph.new.state) (λ why. IsMisfit caller graph.old.state rest.now at (Did place event reply) why) }
+    ensures { IsRead caller graph.old.state rest.now at (Did place event reply) result graph.new.state }
 {
     if place <= at {
         return Err(Misfit::Before);
@@ -144,7 +144,7 @@ fn judge_question(
     told: Told,
 ) -> Result<(), Misfit>
     requires { EventsFit graph.old.state rest.now }
-    ensures { MatchResult result (λ _. RecordGoesOn caller graph.old.state rest.now at (Saw place ask told) graph.new.state) (λ why. IsMisfit caller graph.old.state rest.now at (Saw place ask told) why) }
+    ensures { IsRead caller graph.old.state rest.now at (Saw place ask told) result graph.new.state }
 {
     if place < at {
         return Err(Misfit::Before);

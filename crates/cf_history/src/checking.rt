@@ -1,5 +1,5 @@
 //! The verdict over a whole history.
-ghost use Rattle.std.specs.Prelude.{◌≡◌, ◌+◌, ◌↔◌, IfNone, IfOk, MatchOption, Some, length, true};
+ghost use Rattle.std.specs.Prelude.{◌≡◌, ◌+◌, ◌↔◌, IfNone, IfOk, Some, length, true};
 ghost use Rattle.cf_forms.specs.Plans.{has_place, with_room};
 ghost use Rattle.cf_model.specs.States.{start};
 ghost use Rattle.cf_model.specs.Events.{state_after};
@@ -7,8 +7,8 @@ ghost use Rattle.cf_model.specs.Ranges.{EventsFit};
 ghost use Rattle.cf_event.specs.Decoding.{decoded};
 ghost use Rattle.cf_history.specs.Callers.{IsJudged};
 ghost use Rattle.cf_history.specs.declared.verdict.Verdict.TheVariants.{Fits};
-ghost use Rattle.cf_history.specs.Histories.{AllRight, AreOutcomesOf, AreWordsOf, FitsOneGraph, said};
-ghost use Rattle.cf_history.specs.Verdicts.{IsEnd, IsOfCallers, IsOfOutcomes, IsOfWords, IsVerdict};
+ghost use Rattle.cf_history.specs.Histories.{FitsOneGraph, said};
+ghost use Rattle.cf_history.specs.Verdicts.{IsEnd, IsVerdict, JudgesCallers, JudgesOutcomes, JudgesWords};
 
 use crate::caller::{Judged, judge_caller};
 use crate::events::{find_unfit, read_events};
@@ -22,8 +22,8 @@ use cf_outcome::Outcome;
 use cf_plan::Plan;
 use std::alloc::{AllocError, Global};
 
-/// Whether the records of a history are those of one sequential graph, which begins with this plan and room for so many
-/// stages more. It fails only where there is no memory.
+/// Whether the records of a history are those of one sequential graph, which begins with this plan and has room for `room`
+/// more stages. It fails only for want of memory.
 #[tactic(auto, using(crate::proofs::Whole::both_ways))]
 pub fn check(
     alloc: Global,
@@ -102,7 +102,7 @@ fn judge_words(
     functions: u32,
 ) -> Option<Verdict>
     requires { events.now ≡ decoded words.now }
-    ensures found { MatchOption result (AreWordsOf callers functions graph.old.state words.now events.now) (IsOfWords callers functions graph.old.state words.now) }
+    ensures found { JudgesWords callers functions graph.old.state words.now events.now result }
     ensures state { IfNone result (graph.new.state ≡ state_after graph.old.state events.now) }
 {
     match find_unfit(graph, events, callers, functions) {
@@ -130,7 +130,7 @@ fn judge_callers(
 ) -> Result<Option<Verdict>, AllocError>
     requires place { has_place plan.now.stages room ≡ true }
     requires fits { EventsFit (start (with_room plan.now room)) events.now }
-    ensures { IfOk result (λ told. MatchOption told (AllRight (start (with_room plan.now room)) events.now 0 callers.now) (IsOfCallers (start (with_room plan.now room)) events.now callers.now)) }
+    ensures { IfOk result (JudgesCallers (start (with_room plan.now room)) events.now callers.now) }
 {
     for (caller, own) in callers.iter().enumerate() {
         let judged = judge_one(alloc, plan, room, events, caller, &own.records)?;
@@ -180,7 +180,7 @@ fn judge_end(graph: &mut Graph, history: &History) -> Verdict
 
 /// The verdict on the outcomes that a history says, where they aren't those of the graph.
 fn judge_outcomes(graph: &mut Graph, history: &History) -> Option<Verdict>
-    ensures { MatchOption result (AreOutcomesOf graph.old.state (said history.now)) (IsOfOutcomes graph.old.state (said history.now)) }
+    ensures { JudgesOutcomes graph.old.state (said history.now) result }
 {
     match &history.outcomes {
         None => None,
@@ -190,7 +190,7 @@ fn judge_outcomes(graph: &mut Graph, history: &History) -> Option<Verdict>
 
 /// The same of outcomes that are said.
 fn judge_said(graph: &mut Graph, outcomes: &[Option<Outcome>]) -> Option<Verdict>
-    ensures { MatchOption result (AreOutcomesOf graph.old.state (Some outcomes.now)) (IsOfOutcomes graph.old.state (Some outcomes.now)) }
+    ensures { JudgesOutcomes graph.old.state (Some outcomes.now) result }
 {
     let count = graph.stages() as usize;
     if outcomes.len() != count {

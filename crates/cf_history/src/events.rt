@@ -1,10 +1,10 @@
 //! The words of a history as events that the graph takes.
-ghost use Rattle.std.specs.Prelude.{◌≡◌, ◌<◌, ◌↔◌, All, IfNone, IfOk, IfSome, IsTrue, MatchOption, length};
+ghost use Rattle.std.specs.Prelude.{◌≡◌, ◌<◌, ◌↔◌, All, IfNone, IfOk, IfSome, IsTrue, length};
 ghost use Rattle.cf_model.specs.Events.{state_after};
 ghost use Rattle.cf_event.specs.Decoding.{decoded};
 ghost use Rattle.cf_event.specs.Words.{IsEvent};
-ghost use Rattle.cf_event.specs.Events.{AreEventsOf, IsEventOf, NamesFunction};
-ghost use Rattle.cf_history.specs.Verdicts.{IsFirstUnfit, IsUnfit};
+ghost use Rattle.cf_event.specs.Events.{NamesFunction};
+ghost use Rattle.cf_history.specs.Verdicts.{FindsUnfit, JudgesEvent};
 
 use crate::verdict::Unfit;
 use cf_core::Graph;
@@ -34,7 +34,7 @@ pub(crate) fn find_unfit(
     functions: u32,
 ) -> Option<(usize, Unfit)>
     requires { All IsEvent events.now }
-    ensures found { MatchOption result (AreEventsOf callers functions graph.old.state events.now) (λ u. IsFirstUnfit callers functions graph.old.state u.0 events.now u.1) }
+    ensures found { FindsUnfit callers functions graph.old.state events.now result }
     ensures within { IfSome result (λ u. u.0 < length events.now) }
     ensures state { IfNone result (graph.new.state ≡ state_after graph.old.state events.now) }
 {
@@ -50,7 +50,7 @@ pub(crate) fn find_unfit(
 /// Why an event that has a word can't stand here, if it can't.
 fn unfit(graph: &Graph, event: &Event, callers: usize, functions: u32) -> Option<Unfit>
     requires { IsEvent event.now }
-    ensures { MatchOption result (IsEventOf callers functions graph.now.state event.now) (λ why. IsUnfit callers functions graph.now.state event.now why) }
+    ensures { JudgesEvent callers functions graph.now.state event.now result }
 {
     if event.who() as usize >= callers {
         return Some(Unfit::NoCaller);

@@ -1,14 +1,12 @@
 //! The replies that nobody knows, by the sequential graph.
-ghost use Rattle.std.specs.Prelude.{◌≡◌, ◌↔◌, [], All, IfOk, IsTrue, false, get_or, length, map, true};
+ghost use Rattle.std.specs.Prelude.{◌≡◌, ◌↔◌, [], All, IfOk, IsTrue, false, get_or, map, true};
 ghost use Rattle.cf_forms.specs.Plans.{has_place, with_room};
 ghost use Rattle.cf_model.specs.Ranges.{EventsFit};
 ghost use Rattle.cf_model.specs.States.{start};
 ghost use Rattle.cf_model.specs.declared.events.Reply.TheVariants.{Flag};
 ghost use Rattle.cf_event.specs.Decoding.{decoded};
-ghost use Rattle.cf_event.specs.Events.{AreEventsOf};
 ghost use Rattle.cf_event.specs.Words.{IsEvent};
-ghost use Rattle.cf_history.specs.Histories.{FitsOneGraph};
-ghost use Rattle.cf_history.specs.Shared.{Fills, FitsWithSomeReplies, HasGraphsReplies, IsSharedVerdict, AreAllFilled, all_filled, entries_of, filled, merged_all, records_of, replies_at};
+ghost use Rattle.cf_history.specs.Shared.{AreFilledBy, AreReplies, AreTaken, Fills, FitsJustAs, FitsWithSomeReplies, HasGraphsReplies, HaveGraphsReplies, IsSharedVerdict, all_filled, entries_of, filled, merged_all, records_of, replies_at};
 ghost use Rattle.cf_history.specs.declared.verdict.Verdict.TheVariants.{Fits};
 
 use crate::checking::check;
@@ -23,8 +21,8 @@ use cf_model::{Event, Reply};
 use cf_plan::Plan;
 use std::alloc::{AllocError, Global};
 
-/// Whether there are replies with which a history that sessions tell is that of one sequential graph, as `check` says it. It
-/// fails only where there is no memory.
+/// Whether some replies, put in where none is known, make what sessions tell a history of one sequential graph, with the
+/// verdict of `check`. It fails only for want of memory.
 pub fn check_shared(
     alloc: Global,
     plan: &Plan,
@@ -41,8 +39,8 @@ pub fn check_shared(
     verdict
 }
 
-/// What sessions tell, as a history: the records of a caller are those of its sessions, by their places, and a reply that
-/// nobody knows is the sequential graph's, where the words are events that it takes. It fails only where there is no memory.
+/// What sessions tell, as a history. The records of a caller are those of its sessions, by their places. A reply that nobody
+/// knows is the sequential graph's, if the words are events that it takes. It fails only for want of memory.
 pub fn fill_in(
     alloc: Global,
     plan: &Plan,
@@ -52,7 +50,7 @@ pub fn fill_in(
     requires place { has_place plan.now.stages room ≡ true }
     ensures fills { IfOk result (λ history. Fills shared history) }
     ensures replies { IfOk result (λ history. HasGraphsReplies (with_room plan.now room) shared history) }
-    ensures fits { IfOk result (λ history. FitsOneGraph (with_room plan.now room) history ↔ FitsWithSomeReplies (with_room plan.now room) shared) }
+    ensures fits { IfOk result (FitsJustAs (with_room plan.now room) shared) }
 {
     let history = filled_in(alloc, plan, room, shared)?;
     Ok(history)
@@ -86,8 +84,8 @@ fn filled_callers(
     shared: &SharedHistory,
 ) -> Result<Vec<Caller>, AllocError>
     requires place { has_place plan.now.stages room ≡ true }
-    ensures fills { IfOk result (λ callers. AreAllFilled (entries_of shared.now.callers.items) (records_of callers.items)) }
-    ensures replies { IfOk result (λ callers. AreEventsOf (length shared.now.callers.items) shared.now.functions (start (with_room plan.now room)) (decoded shared.now.words.items) → records_of callers.items ≡ all_filled (replies_at (start (with_room plan.now room)) (decoded shared.now.words.items)) (entries_of shared.now.callers.items)) }
+    ensures fills { IfOk result (λ callers. AreFilledBy shared.now callers.items) }
+    ensures replies { IfOk result (λ callers. HaveGraphsReplies (with_room plan.now room) shared.now callers.items) }
 {
     let callers = shared.callers.as_slice();
     let replies = known_replies(
@@ -104,7 +102,10 @@ fn filled_callers(
 
 /// What sessions tell, with these for its callers.
 fn of_callers(shared: SharedHistory, callers: Vec<Caller>) -> History
-    ensures { result ≡ record { functions = shared.functions; words = shared.words; callers = callers; outcomes = shared.outcomes } }
+    ensures callers { result.callers ≡ callers }
+    ensures functions { result.functions ≡ shared.functions }
+    ensures words { result.words ≡ shared.words }
+    ensures outcomes { result.outcomes ≡ shared.outcomes }
 {
     let SharedHistory {
         functions,
@@ -130,7 +131,7 @@ fn known_replies(
     functions: u32,
 ) -> Result<Vec<Reply>, AllocError>
     requires place { has_place plan.now.stages room ≡ true }
-    ensures { IfOk result (λ replies. AreEventsOf callers functions (start (with_room plan.now room)) (decoded words.now) → replies.items ≡ replies_at (start (with_room plan.now room)) (decoded words.now)) }
+    ensures { IfOk result (λ v. AreReplies callers functions (with_room plan.now room) (decoded words.now) v.items) }
 {
     let events = read_events(alloc, words)?;
     replies_where_fit(alloc, plan, room, &events, callers, functions)
@@ -147,7 +148,7 @@ fn replies_where_fit(
 ) -> Result<Vec<Reply>, AllocError>
     requires place { has_place plan.now.stages room ≡ true }
     requires words { All IsEvent events.now }
-    ensures { IfOk result (λ replies. AreEventsOf callers functions (start (with_room plan.now room)) events.now → replies.items ≡ replies_at (start (with_room plan.now room)) events.now) }
+    ensures { IfOk result (λ v. AreReplies callers functions (with_room plan.now room) events.now v.items) }
 {
     if all_fit(alloc, plan, room, events, callers, functions)? {
         replies_anew(alloc, plan, room, events)
@@ -167,7 +168,7 @@ fn all_fit(
 ) -> Result<bool, AllocError>
     requires place { has_place plan.now.stages room ≡ true }
     requires words { All IsEvent events.now }
-    ensures { IfOk result (λ fit. IsTrue fit ↔ AreEventsOf callers functions (start (with_room plan.now room)) events.now) }
+    ensures { IfOk result (λ fit. IsTrue fit ↔ AreTaken callers functions (with_room plan.now room) events.now) }
 {
     let mut graph = Graph::growing_of(alloc, plan, room)?;
     let unfit = find_unfit(&mut graph, events, callers, functions);

@@ -1,7 +1,6 @@
 //! The outcomes that a history says its stages have in the end.
-ghost use Rattle.std.specs.Prelude.{◌≡◌, MatchOption, length};
-ghost use Rattle.cf_history.specs.Histories.{AreOutcomesTo};
-ghost use Rattle.cf_history.specs.Verdicts.{IsFirstOther};
+ghost use Rattle.std.specs.Prelude.{◌≡◌, length};
+ghost use Rattle.cf_history.specs.Verdicts.{FindsOther};
 
 use cf_core::Graph;
 use cf_outcome::Outcome;
@@ -12,7 +11,7 @@ pub(crate) fn first_other(
     outcomes: &[Option<Outcome>],
 ) -> Option<(usize, Option<Outcome>)>
     requires { length outcomes.now ≡ length graph.old.state.plan.stages }
-    ensures { MatchOption result (AreOutcomesTo graph.old.state outcomes.now (length outcomes.now)) (λ o. IsFirstOther graph.old.state outcomes.now o.0 o.1) }
+    ensures { FindsOther graph.old.state outcomes.now result }
 {
     let count = graph.stages();
     for i in 0..count {

@@ -12,26 +12,26 @@ pub enum Verdict {
         place: usize,
         why: Unfit,
     },
-    /// Record `record` of this caller, both counted from 0, doesn't fit. All callers before it fit, and its own records
-    /// before.
+    /// Record `record` of this caller, both counted from 0, doesn't fit. All callers before it fit, and so do its own earlier
+    /// records.
     Record {
         caller: usize,
         record: usize,
         why: Misfit,
     },
-    /// The event at this place is the caller's, and none of its records is of it. All callers before it fit, and all its
-    /// records do.
+    /// The event at this place is the caller's, but is in none of its records. All callers before it fit, and so do all its
+    /// records.
     Missing {
         caller: usize,
         place: usize,
     },
-    /// All records fit. The sequential graph leaves stage `stage` with this outcome, or none, and the history says
+    /// All records fit. The sequential graph leaves stage `stage` with this outcome, or none, but the history says
     /// otherwise.
     Outcome {
         stage: usize,
         outcome: Option<Outcome>,
     },
-    /// All records fit. The sequential graph has so many stages in the end, and the history has another number of outcomes.
+    /// All records fit. The sequential graph has `count` stages in the end, but the history has another number of outcomes.
     Stages {
         count: usize,
     },
@@ -53,12 +53,12 @@ pub enum Unfit {
 /// Why a record doesn't fit the history, where all before it do.
 #[derive(Clone, Copy, Debug, PartialEq, Eq)]
 pub enum Misfit {
-    /// Its place is before what the caller had been told of: that of the record before it, or for a changing call at most
-    /// there.
+    /// Its place comes before what the caller had been told of: before the place of the record before it, or, for a changing
+    /// call, at or before that place.
     Before,
     /// Its place is behind the history.
     Behind,
-    /// The event at this place, after the record before and before this one's place, is the caller's too.
+    /// The event at this place, between the record before it and its own place, is the caller's too.
     Skips(usize),
     /// Another event stands at its place, or one of another caller.
     Other,

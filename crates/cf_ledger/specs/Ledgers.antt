@@ -1,6 +1,6 @@
 -- What a contract sees of a ledger, and what a word does to it.
-use Rattle.std.specs.Prelude.{◌≡◌, ℕ, ◌+◌, ◌<◌, zero, suc, Bool, true, Some, None, List, [], ◌∷◌, ◌++◌, length, map, position, take}
-use Rattle.cf_forms.specs.Plans.{Planned, has_place}
+use Rattle.std.specs.Prelude.{◌≡◌, ◌≢◌, ℕ, ◌+◌, ◌<◌, zero, suc, Bool, true, Some, None, List, [], ◌∷◌, ◌++◌, length, map, position, take}
+use Rattle.cf_forms.specs.Plans.{Planned, has_place, with_room}
 use Rattle.cf_model.specs.States.{State, start}
 use Rattle.cf_model.specs.declared.events.Event.{Event}
 use Rattle.cf_model.specs.declared.events.Event.TheVariants.{Attach as Attaches}
@@ -75,6 +75,10 @@ IsFirstRefused s zero (w ∷ words) why = LedgerRefuses s w why
 IsFirstRefused s (suc k) (w ∷ words) why =
     (e : Event) × (event_of w ≡ Some e) × IsTaken s e × IsFirstRefused ((answered s e).1) k words why
 
+-- from the start of this plan on, word k isn't done for this reason, unless that is want of memory
+abbrev pub IsFirstMisfit : Planned → ℕ → List ℕ → LedgerFault → Type 0
+IsFirstMisfit plan k words why = why ≢ NoMemory → IsFirstRefused (start plan) k words why
+
 -- The plan and the words of a ledger: its graph is in the state that they leave, with no turn left, no flag is set, and it has noted which stages each changed.
 pub record IsKept (plan : Planned) (words : List ℕ) (g : Graph) (changed : List Bool) (lists : List (List ℕ)) : Type 0 where
   pub place : has_place plan.stages plan.room ≡ true
@@ -89,6 +93,10 @@ pub record IsKept (plan : Planned) (words : List ℕ) (g : Graph) (changed : Lis
 -- the ledger of a plan and of these words
 abbrev pub ledger_of : Planned → List ℕ → Ledger
 ledger_of plan words = record { plan = plan; events = decoded words }
+
+-- the ledger of a plan that was opened with this room, and of these words
+abbrev pub opened_with : Planned → ℕ → List ℕ → Ledger
+opened_with plan room words = ledger_of (with_room plan room) words
 
 -- the ledger with room for more stages, by which nothing else changes
 abbrev pub with_more : Ledger → ℕ → Ledger

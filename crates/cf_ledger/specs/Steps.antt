@@ -41,9 +41,13 @@ pub record IsTakenBy (who from : ℕ) (old : Ledger) (t : Taken) (new : Ledger) 
   pub done : Does t.word old (ToldClaim (Granted t.args)) new
   pub function : t.function ≡ function_at (state_of old).plan.stages t.stage
 
+-- no stage from a number on is ready
+abbrev pub NoneReadyFrom : ℕ → Ledger → Type 0
+NoneReadyFrom from l = NoneReady from (length (state_of l).plan.stages) (state_of l).stages
+
 -- and where none is ready nothing is done
 abbrev pub Takes : ℕ → ℕ → Ledger → Option Taken → Ledger → Type 0
-Takes who from old None new = NoneReady from (length (state_of old).plan.stages) (state_of old).stages × (new ≡ old)
+Takes who from old None new = NoneReadyFrom from old × (new ≡ old)
 Takes who from old (Some t) new = IsTakenBy who from old t new
 
 -- what is held is finished, and then the next ready stage is taken

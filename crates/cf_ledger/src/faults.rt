@@ -3,7 +3,7 @@ ghost use Rattle.std.specs.Prelude.{◌≡◌};
 
 use std::alloc::AllocError;
 
-/// Why a word isn't done. All is as it was then.
+/// Why a word isn't done. Nothing has changed then.
 #[derive(Clone, Copy, Debug, PartialEq, Eq)]
 pub enum LedgerFault {
     /// There is no memory for it, and nothing else stands against it.
@@ -47,7 +47,7 @@ impl From<AllocError> for Misfit {
     }
 }
 
-/// Why a step isn't done. All is as it was then.
+/// Why a step isn't done. Nothing has changed then.
 #[derive(Clone, Copy, Debug, PartialEq, Eq)]
 pub enum StepFault {
     /// There is no memory for it, and nothing else stands against it.

@@ -1,12 +1,12 @@
 //! The ledger.
-ghost use Rattle.std.specs.Prelude.{◌≡◌, ◌+◌, ◌≢◌, ◌<◌, ◌≤◌, ◌↔◌, [], IfErr, IfNone, IfOk, IfSome, IsTrue, None, OnErr, OnOk, false, length, map, get_or, replicate, take, true};
+ghost use Rattle.std.specs.Prelude.{◌≡◌, ◌+◌, ◌<◌, ◌≤◌, ◌↔◌, [], IfErr, IfNone, IfOk, IfSome, IsTrue, None, OnErr, OnOk, false, length, map, get_or, replicate, take, true};
 ghost use Rattle.cf_forms.specs.Plans.{function_at, has_place, reopened, with_room};
 ghost use Rattle.cf_model.specs.Graphs.{NoneReady, stage_in};
 ghost use Rattle.cf_model.specs.States.{claim_at, is_ready, lowest_ready_of, outcome_at, start};
 ghost use Rattle.cf_event.specs.Words.{word_of};
-ghost use Rattle.cf_ledger.specs.Ledgers.{Does, DoesAll, HasRoomFor, IsFirstRefused, LedgerRefuses, state_at, state_of, with_more};
+ghost use Rattle.cf_ledger.specs.Ledgers.{Does, DoesAll, HasRoomFor, IsFirstMisfit, LedgerRefuses, state_at, state_of, with_more};
 ghost use Rattle.cf_ledger.specs.News.{AreNews};
-ghost use Rattle.cf_ledger.specs.Steps.{IsNoStep, Steps};
+ghost use Rattle.cf_ledger.specs.Steps.{IsNoStep, NoneReadyFrom, Steps};
 ghost use Rattle.cf_event.specs.Decoding.{decoded};
 
 use crate::faults::{LedgerFault, Misfit, StepFault};
@@ -24,10 +24,10 @@ use std::alloc::{AllocError, Global};
 use std::marker::Model;
 use std::mem;
 
-/// A graph with the words of all that was done to it, and with the stages that each changed.
+/// A graph, with the words of all that was done to it and the stages that each word changed.
 ///
-/// A contract sees its plan with its room, and the events of its words. The graph is in the state that these leave, and no
-/// turn is left.
+/// A contract sees the plan with its room, and the events of the words. The graph is in the state that these events
+/// leave, and no turn is left.
 #[derive(Drop)]
 pub struct Ledger {
     plan: Plan,
@@ -53,8 +53,8 @@ impl Model for Ledger {
 }
 
 impl Ledger {
-    /// The ledger of a plan with room for so many stages more, in which nothing is written. It fails only where there is no
-    /// memory.
+    /// The ledger of a plan, with room for so many stages more. Nothing is written in it yet. It fails only where there
+    /// is no memory.
     pub fn new(alloc: Global, plan: &Plan, room: u16) -> Result<Ledger, AllocError>
         requires place { has_place plan.now.stages room ≡ true }
         ensures { IfOk result (λ ledger. ledger ≡ record { plan = with_room plan.now room; events = [] }) }
@@ -72,12 +72,12 @@ impl Ledger {
         })
     }
 
-    /// Does a word, and writes it behind the others. It is refused for the first of: it is no event's word, its stages, its
-    /// room, memory. A refused word leaves all as it was.
+    /// Does a word, and appends it to the others. The reasons to refuse it are looked at in this order: it is no
+    /// event's word, its stages, its room, memory. A refused word leaves all as it was.
     ///
     /// It costs what the graph's call costs with all turns that it makes due, some nanoseconds for each stage that it
-    /// changes, and from time to time a growth of the two rows. It stands in its callers' own code, where the reply is read as it was
-    /// written, part by part.
+    /// changes, and from time to time a growth of the two rows. It is inlined into its callers, where the reply is read
+    /// as it was written, part by part.
     #[inline(always)]
     pub fn apply(&mut self, word: u64) -> Result<Reply, LedgerFault>
         ensures done { IfOk result (λ reply. Does word self.old reply self.new) }
@@ -107,11 +107,13 @@ impl Ledger {
         ))
     }
 
-    /// One step of a caller, in one call: finishes what it holds, if it holds a stage, and claims the lowest ready stage from a
-    /// number on, if there is one. Each is a word that is written. It is refused for the first of: its caller's number, the
-    /// stage that is held, its claim, memory. A refused step leaves all as it was.
+    /// One step of a caller, in one call: it finishes the stage that the caller holds, if there is one, and claims the
+    /// lowest ready stage from a number on, if there is one. Each of the two is a word that is written. The reasons to
+    /// refuse it are looked at in this order: the caller's number, the stage that is held, its claim, memory. A refused
+    /// step leaves all as it was.
     ///
-    /// It costs what the two words cost by `apply`, and a look at each stage between.
+    /// It costs what the two words cost by `apply`, and a look at each stage from that number up to the one that is
+    /// claimed.
     pub fn step(&mut self, who: u8, held: Option<Held>, from: u16) -> Result<Step, StepFault>
         ensures done { IfOk result (λ step. Steps who held from self.old step self.new) }
         ensures refused { OnErr result (self.new ≡ self.old) }
@@ -157,7 +159,8 @@ impl Ledger {
         Ok(Step { finish, taken })
     }
 
-    /// Does words one after another, up to the first that can't be done, which is told. Those before it are done then.
+    /// Does words one after another, up to the first that can't be done, and says which that is and why. The words before
+    /// it are done then.
     pub fn apply_all(&mut self, words: &[u64]) -> Result<(), Misfit>
         ensures all { OnOk result (DoesAll self.old words.now self.new) }
         ensures front { IfErr result (λ m. DoesAll self.old (take m.place words.now) self.new) }
@@ -188,7 +191,7 @@ impl Ledger {
         self.words.len()
     }
 
-    /// The stages that the event at a place changed, rising: these and no others.
+    /// The stages that the event at a place changed, in rising order: these and no others.
     pub fn news(&self, place: usize) -> &[u16]
         requires { place < length self.now.events }
         ensures { AreNews (state_at self.now place).stages (state_at self.now (place + 1)).stages result.now }
@@ -243,7 +246,7 @@ impl Ledger {
         ensures above { IfSome result (λ i. from ≤ i) }
         ensures there { IfSome result (λ i. i < length (state_of self.now).plan.stages) }
         ensures first { IfSome result (λ i. NoneReady from i (state_of self.now).stages) }
-        ensures none { IfNone result (NoneReady from (length (state_of self.now).plan.stages) (state_of self.now).stages) }
+        ensures none { IfNone result (NoneReadyFrom from self.now) }
     {
         self.graph.next_ready(from)
     }
@@ -265,14 +268,14 @@ impl Ledger {
         self.graph.lowest_ready()
     }
 
-    /// The ledger of these words, from a plan with room for so many stages on. Where one of them can't be done, the first such
-    /// is told.
+    /// The ledger of these words, which are done from the start of a plan with room for so many stages. Where a word
+    /// can't be done, it says which is the first, and why.
     pub fn of_words(alloc: Global, plan: &Plan, room: u16, words: &[u64]) -> Result<Ledger, Misfit>
         requires place { has_place plan.now.stages room ≡ true }
         ensures plan { IfOk result (λ ledger. ledger.plan ≡ with_room plan.now room) }
         ensures words { IfOk result (λ ledger. map word_of ledger.events ≡ words.now) }
         ensures events { IfOk result (λ ledger. ledger.events ≡ decoded words.now) }
-        ensures refused { IfErr result (λ m. m.why ≢ LedgerFault.NoMemory → IsFirstRefused (start (with_room plan.now room)) m.place words.now m.why) }
+        ensures refused { IfErr result (λ m. IsFirstMisfit (with_room plan.now room) m.place words.now m.why) }
     {
         let mut ledger = Ledger::new(alloc, plan, room)?;
         match ledger.apply_all(words) {
@@ -284,12 +287,12 @@ impl Ledger {
         }
     }
 
-    /// Starts again: nothing is written then, and all of its room is free. It takes no memory, and keeps what its rows have.
+    /// Starts again: nothing is written then, and all of its room is free. It takes no memory, and gives none back.
     pub fn restart(&mut self)
         ensures { self.new ≡ record self.old { events = [] } }
     {
         // A plan is opened with all its stages.
-        let _stages = self.plan.stages();
+        let _known = self.plan.stages();
         start_again(&mut self.graph);
         self.words.clear();
         self.changed.reset(self.graph.stages() + self.graph.room());
@@ -305,8 +308,8 @@ impl Ledger {
         more as usize <= MAX_STAGES && self.plan.has_place(self.room + more)
     }
 
-    /// Makes room for so many stages more, by doing all words again. It fails only where there is no memory, and then all is as
-    /// it was.
+    /// Makes room for so many stages more, by doing all words again. It fails only where there is no memory, and then
+    /// changes nothing.
     #[tactic(auto, using(cf_forms::proofs::PlanLemmas::place_is))]
     pub fn grow(&mut self, alloc: Global, more: u16) -> Result<(), LedgerFault>
         requires place { has_place self.old.plan.stages (self.old.plan.room + more) ≡ true }
@@ -341,7 +344,7 @@ fn start_again(graph: &mut Graph)
     graph.restart();
     graph.nudge(u32::MAX);
     // A plan has so few stages and edges that these are fewer turns.
-    let _stages = graph.stages();
+    let _known = graph.stages();
 }
 
 /// The graph once all turns that are left are taken.
@@ -352,7 +355,7 @@ fn worked_out(graph: Graph) -> Graph
     let mut graph = graph;
     graph.nudge(u32::MAX);
     // A plan has so few stages and edges that these are fewer turns.
-    let _stages = graph.stages();
+    let _known = graph.stages();
     graph
 }
 

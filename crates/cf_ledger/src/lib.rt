@@ -1,11 +1,13 @@
-//! A graph that is called by words, and remembers them: the flight recorder of one request.
+//! The flight recorder of one request: a graph, with the words of all that was done to it.
 //!
-//! A `Ledger` is one graph with the row of the words of all that was done to it, in order. It is opened of a plan with
-//! room, or made again of its words. Each word that is done is written behind the others, with the stages that it changed
-//! (`Ledger::news`), by which whoever waits is woken; what is written is never changed. Memory is found before a call
-//! changes anything. Whoever shares a ledger has it under one lock.
+//! A `Ledger` keeps one graph and the words of the events that were done to it, in order. It is opened with a plan and
+//! with room for attached stages, or made again from its words. Each word that is done is appended to the others, with
+//! the stages that it changed (`Ledger::news`), so that whoever waits for them can be woken. What is written never
+//! changes. A call finds the memory that it needs before it changes anything. Callers that share a ledger keep it under
+//! one lock.
 //!
-//! Its words are those that a desk's history has, so `of_words` makes a ledger of one in which no attach found the room full.
+//! Its words are those of a desk's history. So `of_words` makes a ledger from a history, unless an attach in it found
+//! the room full.
 #![tactic(auto)]
 
 mod faults;

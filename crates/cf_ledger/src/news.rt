@@ -25,7 +25,11 @@ impl Model for News {
     ghost use Rattle.std.specs.Vec.{vec_capacity};
     ghost use Rattle.cf_ledger.specs.News.{AreEnds, parts};
 
-    ghost view = { λ n. record { lists = parts 0 n.all.items n.ends.items; free = vec_capacity n.all - length n.all.items; more = vec_capacity n.ends - length n.ends.items } };
+    ghost view = { λ n. record {
+      lists = parts 0 n.all.items n.ends.items;
+      free = vec_capacity n.all - length n.all.items;
+      more = vec_capacity n.ends - length n.ends.items;
+    } };
 
     ghost invariant = { λ n. AreEnds 0 (length n.all.items) n.ends.items };
 }

@@ -1,13 +1,13 @@
 //! How the parts of a ledger do an event, and write its word.
 //!
 //! Room for the word and for the stages that it changes was found before, so nothing here is refused.
-ghost use Rattle.std.specs.Prelude.{◌≡◌, ◌+◌, ◌*◌, ◌<◌, ◌≤◌, Some, length, vec_capacity};
+ghost use Rattle.std.specs.Prelude.{◌≡◌, ◌+◌, ◌<◌, ◌≤◌, Some, length, vec_capacity};
 ghost use Rattle.cf_forms.specs.Plans.{with_room};
 ghost use Rattle.cf_model.specs.Events.{answered};
 ghost use Rattle.cf_model.specs.States.{claim_at};
 ghost use Rattle.cf_event.specs.Words.{word_of};
 ghost use Rattle.cf_event.specs.Decoding.{event_of};
-ghost use Rattle.cf_ledger.specs.Ledgers.{Does, IsKept, IsTaken, ledger_of};
+ghost use Rattle.cf_ledger.specs.Ledgers.{Does, IsKept, IsTaken, opened_with};
 ghost use Rattle.cf_ledger.specs.Steps.{Finishes, Takes};
 
 use crate::news::News;
@@ -38,7 +38,8 @@ pub(crate) fn write(
     requires free { length changed.old ≤ news.old.free }
     requires more { 0 < news.old.more }
     ensures kept { IsKept (with_room plan.now room) words.new.items graph.new changed.new news.new.lists }
-    ensures does { Does word (ledger_of (with_room plan.now room) words.old.items) result (ledger_of (with_room plan.now room) words.new.items) }
+    ensures does { Does word (opened_with plan.now room words.old.items)
+        result (opened_with plan.now room words.new.items) }
     ensures told { (result, graph.new.state) ≡ answered graph.old.state event.now }
     ensures one { length words.new.items ≡ length words.old.items + 1 }
     ensures place { vec_capacity words.new ≡ vec_capacity words.old }
@@ -47,9 +48,9 @@ pub(crate) fn write(
     ensures flags { length changed.new ≡ length changed.old }
 {
     // There is a state for each stage, before and after.
-    let _before = graph.stages();
+    let _known_before = graph.stages();
     let reply = graph.answer_telling(event, changed);
-    let _after = graph.stages();
+    let _known_after = graph.stages();
     words.push_reserved(word);
     news.push(changed);
     reply
@@ -74,7 +75,8 @@ pub(crate) fn finish(
     requires free { length changed.old ≤ news.old.free }
     requires more { 0 < news.old.more }
     ensures kept { IsKept (with_room plan.now room) words.new.items graph.new changed.new news.new.lists }
-    ensures does { Finishes who (Some held) (ledger_of (with_room plan.now room) words.old.items) (Some result) (ledger_of (with_room plan.now room) words.new.items) }
+    ensures does { Finishes who (Some held) (opened_with plan.now room words.old.items)
+        (Some result) (opened_with plan.now room words.new.items) }
     ensures one { length words.new.items ≡ length words.old.items + 1 }
     ensures place { vec_capacity words.new ≡ vec_capacity words.old }
     ensures free { news.old.free ≤ news.new.free + length changed.old }
@@ -82,7 +84,7 @@ pub(crate) fn finish(
     ensures flags { length changed.new ≡ length changed.old }
 {
     // No stage's number is above 4,095.
-    let _stages = graph.stages();
+    let _known = graph.stages();
     let event = Event::Finish {
         who,
         stage: held.stage,
@@ -113,10 +115,11 @@ pub(crate) fn take(
     requires free { length changed.old ≤ news.old.free }
     requires more { 0 < news.old.more }
     ensures kept { IsKept (with_room plan.now room) words.new.items graph.new changed.new news.new.lists }
-    ensures does { Takes who from (ledger_of (with_room plan.now room) words.old.items) result (ledger_of (with_room plan.now room) words.new.items) }
+    ensures does { Takes who from (opened_with plan.now room words.old.items)
+        result (opened_with plan.now room words.new.items) }
 {
     // No stage's number is above 4,095.
-    let _stages = graph.stages();
+    let _known = graph.stages();
     let Some(stage) = graph.next_ready(from) else {
         return None;
     };

@@ -1,6 +1,6 @@
 //! The words after the program's name.
 use anyhow::{Result, anyhow};
-use cf_orders::OrderShape;
+use cf_question::OrderShape;
 use clap::{Arg, ArgAction, ArgMatches, Command, Error};
 use std::alloc::{AllocError, Global};
 use std::rt::{Env, Files};

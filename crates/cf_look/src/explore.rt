@@ -3,7 +3,7 @@ use crate::args::Exploring;
 use crate::input::json_in;
 use anyhow::{Result, anyhow};
 use cf_explore::{Found, Search, Witness};
-use cf_orders::{
+use cf_question::{
     Grouped, OrderShape, Question, QuestionFault, Standing, grouped_by, json_of, read_question,
     standing_of, text_of, witness_of, witnesses,
 };

@@ -1,5 +1,5 @@
 //! Why what is on standard input can't be shown or judged, and where that stands in it.
-use cf_reading::ReadingFault;
+use cf_script_reading::ReadingFault;
 use thiserror::Error;
 
 /// What is wrong with an account, or with what a script says for people. Each names the member that it is about, by its path.

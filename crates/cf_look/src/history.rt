@@ -14,7 +14,7 @@ use cf_history::{
 use cf_model::{Ask, Told};
 use cf_outcome::Outcome;
 use cf_plan::Plan;
-use cf_reading::{large, script_of, small, value};
+use cf_script_reading::{script_of, u16_of, u32_of, value};
 use serde_json::Value as Json;
 use std::alloc::{AllocError, Global};
 
@@ -81,7 +81,7 @@ fn shared_of(alloc: Global, json: &Json) -> Result<(Plan, u16, SharedHistory)> {
 fn sessions_of(alloc: Global, json: &Json, count: u32) -> Result<SharedHistory> {
     let functions = match json.get("functions") {
         None => count,
-        Some(said) => large(said).ok_or(Unreadable::Member("functions"))?,
+        Some(said) => u32_of(said).ok_or(Unreadable::Member("functions"))?,
     };
     Ok(SharedHistory {
         functions,
@@ -221,7 +221,7 @@ fn did(place: usize, said: &Json, words: &[&str]) -> Option<Entry> {
 
 /// The entry of a look at a stage's present state, for which these words are told.
 fn saw_now(place: usize, json: &Json, words: &[&str]) -> Option<Entry> {
-    let stage = small(json.get(2usize)?)?;
+    let stage = u16_of(json.get(2usize)?)?;
     let absent = value(json.get(3usize)?)?;
     let told = Told::Now(now(words)?);
     let ask = Ask::Now(stage, absent);
@@ -230,7 +230,7 @@ fn saw_now(place: usize, json: &Json, words: &[&str]) -> Option<Entry> {
 
 /// The entry of a look at a stage's outcome, for which these words are told.
 fn saw_outcome(place: usize, stage: &Json, words: &[&str]) -> Option<Entry> {
-    let ask = Ask::Outcome(small(stage)?);
+    let ask = Ask::Outcome(u16_of(stage)?);
     let told = Told::Outcome(settled(words)?);
     Some(Entry::Known(Record::Saw { place, ask, told }))
 }

@@ -1,28 +1,31 @@
 //! Looks at what others made.
 //!
-//! `cf_look check` reads a history from standard input, a plan with the words of its events and the records of each caller,
-//! and says whether one sequential graph would have answered all callers so; where it wouldn't, the first thing that doesn't
-//! fit, and what the sequential graph answers there. With `--lines` each line is a history, and each has its line, so that
-//! many are judged in one run. It ends with status 0 where all fit, and 1 where one doesn't.
+//! `cf_look check` reads a history from standard input: a plan with the words of its events, and the records of each
+//! caller. It says whether one sequential graph would have answered all callers so. Where it wouldn't, it tells the
+//! first thing that doesn't fit, and what the sequential graph answers there. With `--lines` each line is a history
+//! and gets a line of its own, so that one run judges many. It ends with status 0 where all fit, and 1 where one
+//! doesn't.
 //!
-//! `cf_look explain` reads a script, and says what is wrong with it: the fault that `cf run` would tell, where it sits, and
-//! what would be right there; and what is odd about it. It ends with status 0 where nothing is wrong, 1 where `cf run` would
-//! refuse the script, and 3 where it is only odd.
+//! `cf_look explain` reads a script, and says what is wrong with it: the fault that `cf run` would tell, where it is,
+//! and what would be right there; and what is odd about it. It ends with status 0 where nothing is wrong, 1 where
+//! `cf run` would refuse the script, and 3 where it is only odd.
 //!
-//! `cf_look dot` reads a script, and writes its plan as a picture in the language of Graphviz, with what becomes of each stage
-//! by the script's steps. It ends with status 0, or with 1 where `cf run` would refuse the script, for the fault whose line
-//! then is on standard error.
+//! `cf_look dot` reads a script, and writes its plan as a picture in the language of Graphviz, with what becomes of
+//! each stage by the script's steps. It ends with status 0, or with 1 where `cf run` would refuse the script; then
+//! the line of the fault is on standard error.
 //!
-//! `cf_look page` reads an account, which is a history and what it says for people, or a script, and writes a page for a browser
-//! on which its events can be gone through; `cf_look trace` writes the same as a trace. They end with status 0, or with 1 where
-//! what is there is neither, for what `cf_look explain` says of it on standard error; and then nothing else is written.
+//! `cf_look page` reads a script or an account, which is a history with what it says for people, and writes a page
+//! for a browser on which its events can be gone through. `cf_look trace` writes the same as a trace. They end with
+//! status 0. Where what they read is neither, they end with 1, write nothing else, and say on standard error what
+//! `cf_look explain` says of it.
 //!
-//! `cf_look explore` reads a question, which is a script with a list of steps for each of several callers, and searches all orders
-//! in which these can come. It ends with status 0 where all that must hold holds, 1 where something doesn't, 2 where the question
-//! has a fault, which is on standard error, and 3 where a bound ended it before all orders were seen.
+//! `cf_look explore` reads a question, which is a script with a list of steps for each of several callers, and
+//! searches all orders in which these can come. It ends with status 0 where all that must hold holds, 1 where
+//! something doesn't, 2 where the question has a fault, which is on standard error, and 3 where a bound ended it
+//! before all orders were seen.
 //!
-//! All end with 2 where the words or what is on standard input can't be read, and where standard output can't be written or
-//! memory is refused, which a line on standard error tells. The verdicts are those of `cf_history`, `cf_explain`,
+//! All end with 2 where the words or standard input can't be read, where standard output can't be written, and where
+//! memory is refused; a line on standard error says which. The verdicts are those of `cf_history`, `cf_explain`,
 //! `cf_picture` and `cf_page`, which are proved; this program reads in and writes out.
 #![tactic(auto)]
 

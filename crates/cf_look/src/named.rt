@@ -3,7 +3,7 @@ use crate::input::json_in;
 use crate::people::people_in;
 use anyhow::Result;
 use cf_explain::{Area, Place};
-use cf_reading::Part;
+use cf_script_reading::{Part, stage_place};
 use cf_text::is_shown;
 use serde_json::Value as Json;
 use std::alloc::{AllocError, Global};
@@ -71,13 +71,10 @@ impl Named {
     fn stage_of_step(&self, k: usize) -> Option<usize> {
         let steps = self.json.get("steps")?;
         let step = steps.get(k)?;
-        match step.get(0usize)?.as_str()? {
-            "complete" | "fail" | "failAs" | "cancel" | "now" | "outcome" => number(step.get(
-                1usize,
-            )),
-            "claim" | "finish" => number(step.get(2usize)),
-            "attach" => self.stages_before(k),
-            _ => None,
+        match stage_place(step.get(0usize)?.as_str()?) {
+            Some(place) => number(step.get(place)),
+            None if is_attach(step) => self.stages_before(k),
+            None => None,
         }
     }
 

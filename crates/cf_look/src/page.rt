@@ -9,7 +9,7 @@ use cf_explain::{Explanation, explain};
 use cf_history::Verdict;
 use cf_page::{People, page_of, scene_of, spans_of, trace_of, words_of};
 use cf_plan::Plan;
-use cf_reading::{Func, ReadingFault, Script, Step, read_script};
+use cf_script_reading::{Func, ReadingFault, Script, Step, read_script};
 use cf_text::ScriptFault;
 use serde_json::Value as Json;
 use std::alloc::{AllocError, Global};

@@ -6,7 +6,7 @@ use cf_explain::stage_name;
 use cf_history::{Caller, Record};
 use cf_model::Reply;
 use cf_page::People;
-use cf_reading::small;
+use cf_script_reading::u16_of;
 use serde_json::Value as Json;
 use std::alloc::{AllocError, Global};
 
@@ -169,8 +169,8 @@ fn listed<'a>(said: Option<&'a Json>, member: &'static str) -> Result<&'a [Json]
 }
 
 fn pair(json: &Json) -> Option<(u16, u16)> {
-    let stage = small(json.get(0usize)?)?;
-    let to = small(json.get(1usize)?)?;
+    let stage = u16_of(json.get(0usize)?)?;
+    let to = u16_of(json.get(1usize)?)?;
     Some((stage, to))
 }
 

@@ -5,7 +5,7 @@ use crate::people::people_in;
 use anyhow::Result;
 use cf_explain::{Explanation, Place, Remark, Verdict, explain};
 use cf_picture::draw_script;
-use cf_reading::MAX_BYTES;
+use cf_script_reading::MAX_BYTES;
 use cf_text::ScriptFault;
 use std::alloc::{AllocError, Global};
 use std::fmt::Display;

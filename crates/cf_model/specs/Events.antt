@@ -106,6 +106,10 @@ firing count s (limit ∷ limits) =
     let done = settling s limit.stage (limit_outcome limit.kind) in
     firing (if done.0 then count + 1 else count) done.1 limits
 
+-- the next so many limits, from the first unused one on
+abbrev pub next_limits : ℕ → State → List Limit
+next_limits count s = take count (drop s.used s.plan.limits)
+
 -- the unused limits whose moment has come
 abbrev pub due_limits : State → ℕ → List Limit
 due_limits s now = take_while (λ (limit : Limit). nat_le limit.at now) (drop s.used s.plan.limits)

@@ -28,6 +28,15 @@ pub record Graph : Type 0 where
 abbrev pub most_turns : List PlannedStage → ℕ
 most_turns plan = edges_of plan + length plan
 
+-- a call counts its turns: there are no fewer than before, and no more than a graph of its plan takes
+pub record CountsTurns (old new : Graph) : Type 0 where
+  pub counted : old.turns ≤ new.turns
+  pub few : new.turns ≤ most_turns new.state.plan.stages
+
+-- the graph once it is moment now, and this many more limits are used
+abbrev pub advanced : Graph → ℕ → ℕ → Graph
+advanced g now count = record g { state = record g.state { moment = now; used = g.state.used + count } }
+
 -- ---- no more turns than are needed
 
 -- no turn is left for a stage up to this one

@@ -1,5 +1,5 @@
 -- Work: the functions of ready stages are called, the lowest stage first.
-use Rattle.std.specs.Prelude.{ℕ, ◌+◌, zero, suc, length}
+use Rattle.std.specs.Prelude.{◌≡◌, ℕ, ◌+◌, zero, suc, length}
 use Rattle.std.specs.Option.{option_map_or}
 use Rattle.cf_forms.specs.Meanings.{Meanings, stage_answer}
 use Rattle.cf_model.specs.States.{State, lowest_ready_of}
@@ -7,6 +7,7 @@ use Rattle.cf_model.specs.declared.replies.Claimed.TheVariants.{Granted}
 use Rattle.cf_model.specs.declared.events.Event.TheVariants.{Claim as Claims, Finish as Finishes}
 use Rattle.cf_model.specs.declared.events.Reply.{Reply}
 use Rattle.cf_model.specs.declared.events.Reply.TheVariants.{Claim as ToldClaim}
+use Rattle.cf_model.specs.Calling.{AreStateless, CallsOf}
 use Rattle.cf_model.specs.Events.{answered}
 
 -- the stage i is finished by a caller with what its function answers to the arguments that a claim granted
@@ -33,3 +34,8 @@ working (suc most) who meanings s =
 -- are enough.
 abbrev pub worked : ℕ → Meanings → State → ℕ × State
 worked who meanings s = working (length s.plan.stages) who meanings s
+
+-- Where the functions remember nothing, work calls as many, and leads to the state, as their meanings say.
+abbrev pub WorksAsMeant : {M : Type 0} → CallsOf M → ℕ → M → State → ℕ → State → Type 0
+WorksAsMeant calls who m s count t =
+    (meanings : Meanings) → AreStateless calls m meanings → (count, t) ≡ worked who meanings s

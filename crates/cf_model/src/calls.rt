@@ -21,7 +21,7 @@ pub enum Call {
     Claim(u16),
     /// Finishes a stage that the caller has claimed, with what its function answered.
     Finish(u16, Answer),
-    /// Lets it be this moment, in milliseconds.
+    /// Lets time pass up to this moment, in milliseconds.
     Tick(u32),
     /// Attaches a stage of this form to these sources, with this function's number where the form calls one.
     Attach(Form, Of, Option<u16>),

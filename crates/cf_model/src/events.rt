@@ -89,8 +89,8 @@ impl Event {
         }
     }
 
-    /// Whether a graph of so many stages takes it: the stages that it names are there, and one that it attaches fits its
-    /// form.
+    /// Whether a graph of so many stages takes the event: the stages that it names are there, and a stage that it
+    /// attaches fits its form.
     pub fn fits(&self, stages: u16) -> bool
         ensures told { result ≡ fits stages self.now }
         ensures fitting { IsTrue result ↔ EventFits stages self.now }
@@ -113,7 +113,7 @@ impl Event {
     }
 }
 
-/// What an event is answered.
+/// The answer to an event.
 #[derive(Clone, Copy, Debug, PartialEq, Eq)]
 pub enum Reply {
     /// To complete, fail and fail as: whether the stage was settled by it. To cancel: whether the stage is cancelled then.

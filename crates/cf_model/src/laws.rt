@@ -22,8 +22,8 @@ pub fn no_event_makes_more_claimable()
     ensures { NeverMoreClaimable }
 {}
 
-/// Each granted claim leaves fewer stages that may be claimed, now or later. So to claim and finish the lowest ready stage
-/// until none is ready comes to an end.
+/// Each granted claim leaves fewer stages that may be claimed, now or later. So claiming and finishing the lowest ready
+/// stage, until none is ready, comes to an end.
 pub fn granted_claims_leave_fewer_claimable()
     ensures { GrantsLeaveFewer }
 {}
@@ -43,8 +43,8 @@ pub fn grown_plans_are_growing()
     ensures { GrownAreGrowing }
 {}
 
-/// A plan with room is, whatever events came, once more what it was at the opening when it is reopened. So a graph that is
-/// restarted is at its very start.
+/// Whatever events came, a plan with room that is reopened is what it was at the opening. So a graph that is restarted
+/// is at its very start.
 pub fn grown_plans_reopen_as_they_were()
     ensures { GrownReopenAsTheyWere }
 {}
@@ -64,8 +64,8 @@ pub fn reached_states_link_lower()
     ensures { ReachedLinkLower }
 {}
 
-/// While an either form, an anyOf or a form of one source is pending, none of its sources has settled. So it is decided by
-/// the first source that settles.
+/// While an either form, an anyOf or a form of one source is pending, none of its sources has settled. So the first
+/// source that settles decides it.
 pub fn pending_stages_have_no_settled_source()
     ensures { PendingHasNoneSettled }
 {}

@@ -7,13 +7,13 @@ use crate::outcome::{Cause, Outcome, Value};
 /// What a caller that asks for the present state of a stage is told (`CompletableFuture.getNow`).
 #[derive(Clone, Copy, Debug, PartialEq, Eq)]
 pub enum Now {
-    /// The stage isn't settled: the value that the caller handed in for that.
+    /// The stage isn't settled. This is the value that the caller handed in for that case.
     Absent(Value),
     /// The stage gave this value.
     Got(Value),
     /// The stage failed with this cause, told as a completion exception.
     Completion(Cause),
-    /// The stage was cancelled itself, told as a cancellation exception.
+    /// The stage itself was cancelled, told as a cancellation exception.
     Cancellation,
 }
 

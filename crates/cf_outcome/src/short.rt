@@ -10,8 +10,8 @@ use std::marker::Model;
 /// How many bytes a short text has room for: an outcome's, with words before it and a line feed behind it.
 pub const SHORT_ROOM: usize = 48;
 
-/// A text of at most `SHORT_ROOM` bytes. Contracts see it as its bytes. Nothing that is put into it can fail: who calls
-/// shows that there is room.
+/// A text of at most `SHORT_ROOM` bytes. Contracts see it as its bytes. Putting something into it can't fail: the
+/// caller shows that there is room.
 #[derive(Drop)]
 pub struct ShortText {
     bytes: [u8; SHORT_ROOM],

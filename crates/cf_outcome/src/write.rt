@@ -9,8 +9,8 @@ use crate::short::ShortText;
 use std::io::Write;
 use thiserror::Error;
 
-/// The writer failed, or took no byte of some that it was given. A front of the text, which may be empty or the
-/// whole, has then gone out.
+/// The writer failed, or took none of the bytes that it was given. A front of the text has gone out by then; it may be
+/// empty, or the whole text.
 #[derive(Clone, Copy, PartialEq, Eq, Debug, Error)]
 #[error("WriteFault")]
 pub struct WriteFault;

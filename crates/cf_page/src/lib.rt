@@ -1,13 +1,13 @@
-//! A request, told for people: which page, trace or list of spans shows what its words did?
+//! Shows people what the words of a request did: as a page, as a trace or as a list of spans.
 //!
-//! A scene is made of a plan and the words of its events (`scene.rt`). They are done again over a `Ledger`, so each reply, and
-//! which stages each event changed and to what, are the proved graph's; nothing here settles anything. Each event is told in
-//! words as it is done (`saying.rt`), and each stage is noted with the place by which it settled and the stage from which its
-//! outcome came (`noting.rt`). Then the stages are laid out in layers (`layout.rt`).
+//! A scene is made of a plan and the words of its events (`scene.rt`). The events are done again over a `Ledger`. So
+//! each reply, and each change of a stage, is the proved graph's; nothing here settles anything. Each event is told
+//! in words as it is done (`saying.rt`). Each stage is noted with the place at which it settled and the stage from
+//! which its outcome came (`noting.rt`). Then the stages are laid out in layers (`layout.rt`).
 //!
-//! A scene is written as a page (`page.rt`), which is a fixed text with the scene as JSON in its middle; as a trace for
-//! Chrome's viewer and Perfetto (`trace.rt`); or as OpenTelemetry's spans (`spans.rt`). What an account says of its own
-//! (`People`) goes into these as JSON strings alone, in which no byte stands that could end a string or a script
+//! A scene is written as a page (`page.rt`), which is a fixed text with the scene as JSON in its middle, as a trace
+//! for Chrome's viewer and Perfetto (`trace.rt`), or as OpenTelemetry's spans (`spans.rt`). What an account says in
+//! words of its own (`People`) goes into these only as JSON strings, in which no byte can end a string or a script
 //! (`text.rt`).
 #![tactic(auto)]
 

@@ -11,9 +11,9 @@ pub struct People {
     pub verdict: String,
     /// Whether the verdict is that it fits.
     pub fits: bool,
-    /// A name for each stage; an empty one is none.
+    /// A name for each stage. An empty one counts as none.
     pub names: Vec<String>,
-    /// When each event was done, in nanoseconds; of any beginning.
+    /// When each event was done, in nanoseconds from any moment on.
     pub times: Vec<u64>,
     /// A name for each caller.
     pub lanes: Vec<String>,

@@ -28,7 +28,7 @@ pub struct Scene {
     pub(crate) size: Size,
 }
 
-/// The scene of a plan with room for so many stages more, and of the words of its events, up to the first that no graph takes.
+/// The scene of a plan with room for this many stages more, and of the words of its events up to the first that no graph takes.
 /// It fails only where there is no memory.
 pub fn scene_of(
     alloc: Global,

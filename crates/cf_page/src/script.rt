@@ -7,10 +7,10 @@ use cf_forms::StageFn;
 use cf_ledger::{Held, Ledger, LedgerFault, Step as Done, StepFault, Taken};
 use cf_model::Event;
 use cf_plan::{MAX_STAGES, Plan};
-use cf_reading::{Func, Step, WORKER};
+use cf_script_reading::{Func, Step, WORKER};
 use std::alloc::{AllocError, Global};
 
-/// The words of the events that a script's steps are: each that changes something, and the claims and finishes of its work.
+/// The words of the events that a script's steps make: its changing calls, and the claims and finishes of its work.
 /// It fails only where there is no memory.
 pub fn words_of(
     alloc: Global,

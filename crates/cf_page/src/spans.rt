@@ -7,10 +7,10 @@ use crate::text::Text;
 use cf_outcome::Outcome;
 use std::alloc::{AllocError, Global};
 
-/// The spans of a scene: one for the request, and within it one for each call of a function, with a link to each of its sources
-/// that has one. Without times an event takes a microsecond. It fails only where there is no memory.
+/// The spans of a scene: one for the request, and within it one for each call of a function. A span has a link to that of each
+/// source that has one. Where events have no times, each takes a microsecond. It fails only where there is no memory.
 ///
-/// `words` are those of the scene: by them one request always has the same trace's number.
+/// `words` are those of the scene. The number of the trace is made of them, so a request always has the same one.
 pub fn spans_of(
     alloc: Global,
     scene: &Scene,

@@ -7,9 +7,9 @@ use crate::text::Text;
 use cf_model::Event;
 use std::alloc::{AllocError, Global};
 
-/// The trace of a scene: a row for each caller, and further ones where its calls of functions overlap, a bar for each call of a
-/// function, a mark for each other call, an arrow from each source's bar. Without times an event takes a microsecond. It fails
-/// only where there is no memory.
+/// The trace of a scene. Each caller has a row, and more of them where its calls of functions overlap. A call of a function is a
+/// bar, any other call a mark, and an arrow leads to a bar from that of each source. Where events have no times, each takes a
+/// microsecond. It fails only where there is no memory.
 pub fn trace_of(alloc: Global, scene: &Scene, people: &People) -> Result<String, AllocError> {
     let rows = rows_of(alloc, scene)?;
     let mut out = Text::new(alloc);

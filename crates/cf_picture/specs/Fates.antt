@@ -40,10 +40,14 @@ abbrev pub linked_by : Answer → Option ℕ
 linked_by (Links j) = Some j
 linked_by answer = None
 
+-- with this note of a stage
+abbrev pub with_note : List Note → ℕ → Bool → Option ℕ → List Note
+with_note notes i is_open link = slice_set notes i (record { is_open = is_open; link = link })
+
 -- the notes once an event was answered so: a granted claim is open, and the finish that won closes it
 abbrev pub noted : Event → Reply → List Note → List Note
-noted (Claims who i) (ToldClaim (Granted args)) notes = slice_set notes i (record { is_open = true; link = None })
-noted (Finishes who i answer) (ToldFinish Won) notes = slice_set notes i (record { is_open = false; link = linked_by answer })
+noted (Claims who i) (ToldClaim (Granted args)) notes = with_note notes i true None
+noted (Finishes who i answer) (ToldFinish Won) notes = with_note notes i false (linked_by answer)
 noted event reply notes = notes
 
 -- the note of a stage

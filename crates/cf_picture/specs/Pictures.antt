@@ -1,7 +1,7 @@
 -- What drawing gives, and of which state.
 use Rattle.std.specs.Prelude.{◌≡◌, Result, Ok, Err, IsOk}
-use Rattle.cf_reading.specs.declared.fault.ReadingFault.{ReadingFault}
-use Rattle.cf_reading.specs.Scripts.{Script, opening}
+use Rattle.cf_script_reading.specs.declared.fault.ReadingFault.{ReadingFault}
+use Rattle.cf_script_reading.specs.Scripts.{Script, opening}
 use Rattle.cf_model.specs.States.{State, start}
 use Rattle.cf_text.specs.declared.fault.ScriptFault.{ScriptFault}
 use Rattle.cf_text.specs.declared.fault.ScriptFault.TheVariants as faults

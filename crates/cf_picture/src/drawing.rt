@@ -1,17 +1,17 @@
 //! The picture of a script, whole.
-ghost use Rattle.cf_reading.specs.Reading.{reading};
+ghost use Rattle.cf_script_reading.specs.Reading.{reading};
 ghost use Rattle.cf_picture.specs.Pictures.{Draws};
 
 use crate::limits::write_limits;
 use crate::run::{RunScript, run_of};
 use crate::stages::{Context, write_attached, write_opening};
-use cf_reading::{Script, read_script};
+use cf_script_reading::{Script, read_script};
 use cf_text::ScriptFault;
 use std::alloc::{AllocError, Global};
 
-/// The picture of the script that the bytes say, as a text in the language of Graphviz, or the fault with which `run_script`
-/// would refuse it. `NoMemory` is a growth that was refused. `names` are those of the stages; an empty one is none, and so is
-/// one that isn't there.
+/// The picture of the script that the bytes say, as a text in the language of Graphviz, or the fault for which `run_script`
+/// would refuse it. `NoMemory` means that memory was refused. `names` are the names of the stages. A stage has none where its
+/// name is empty or isn't there.
 pub fn draw_script(alloc: Global, bytes: &[u8], names: &[String]) -> Result<String, ScriptFault>
     ensures { Draws (reading bytes.now) result }
 {

@@ -1,7 +1,7 @@
 //! Edges to a stage: from its sources, and from the stages that it may take its outcome from.
 use crate::kinds::is_ordered;
 use cf_forms::{Form, composes};
-use cf_reading::Func;
+use cf_script_reading::Func;
 use std::alloc::AllocError;
 
 /// Adds an edge from each source, in the order of arguments.

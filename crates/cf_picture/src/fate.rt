@@ -7,7 +7,7 @@ use crate::notes::Note;
 use cf_core::Graph;
 use cf_model::Claimed;
 use cf_outcome::{Cause, Outcome};
-use cf_reading::WORKER;
+use cf_script_reading::WORKER;
 use std::alloc::AllocError;
 
 /// What became of a stage.

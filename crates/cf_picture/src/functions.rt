@@ -1,6 +1,6 @@
 //! Functions of stages, in the words of a script.
 use cf_outcome::Value;
-use cf_reading::Func;
+use cf_script_reading::Func;
 use std::alloc::AllocError;
 
 /// Adds a function, behind a blank.

@@ -1,6 +1,6 @@
 //! What the steps did to claims, stage by stage.
-ghost use Rattle.std.specs.Prelude.{◌≡◌, IfOk, replicate, slice_set};
-ghost use Rattle.cf_picture.specs.Fates.{linked_by, no_note, note_at, noted};
+ghost use Rattle.std.specs.Prelude.{◌≡◌, IfOk, replicate};
+ghost use Rattle.cf_picture.specs.Fates.{linked_by, no_note, note_at, noted, with_note};
 
 use cf_forms::Answer;
 use cf_model::{Claimed, Event, Finished, Reply};
@@ -52,7 +52,7 @@ impl Notes {
     }
 
     fn put(&mut self, stage: u16, is_open: bool, link: Option<u16>)
-        ensures { self.new.notes.items ≡ slice_set self.old.notes.items stage (record { is_open = is_open; link = link }) }
+        ensures { self.new.notes.items ≡ with_note self.old.notes.items stage is_open link }
     {
         if let Some(note) = self.notes.get_mut(stage as usize) {
             *note = Note { is_open, link };

@@ -1,14 +1,14 @@
 //! The steps of a script, done.
 ghost use Rattle.std.specs.Prelude.{◌≡◌, IfOk, length};
-ghost use Rattle.cf_reading.specs.Scripts.{StepFits, StepsFit, extent_of};
+ghost use Rattle.cf_script_reading.specs.Scripts.{StepFits, StepsFit, extent_of};
 ghost use Rattle.cf_script.specs.Reports.{after_step, after_steps};
 ghost use Rattle.cf_picture.specs.Pictures.{after_script};
 
 use crate::notes::Notes;
 use cf_core::Graph;
 use cf_plan::Plan;
-use cf_reading::{Func, Script, Step};
 use cf_script::{StepAnswer, do_step};
+use cf_script_reading::{Func, Script, Step};
 use std::alloc::{AllocError, Global};
 
 /// A script whose steps are done.

@@ -11,7 +11,7 @@ use cf_core::Graph;
 use cf_forms::{Form, Of};
 use cf_model::Event;
 use cf_plan::Plan;
-use cf_reading::{Func, Step};
+use cf_script_reading::{Func, Step};
 use std::alloc::AllocError;
 
 /// What is known of all stages, beside the graph.

@@ -3,7 +3,7 @@ use Rattle.std.specs.Prelude.{◌≡◌, ℕ, ◌+◌, ◌*◌, ◌<◌, ◌≤�
 use Rattle.cf_plan.specs.declared.growing.AttachedRow.{AttachedRow}
 use Rattle.cf_plan.specs.declared.attached_lists.Cell.{Cell}
 use Rattle.cf_plan.specs.declared.attached_lists.Head.{Head}
-use Rattle.cf_forms.specs.Plans.{IsGrowing, Planned, PlannedStage, dependents_from, edges_of, plan_of}
+use Rattle.cf_forms.specs.Plans.{IsGrowing, Planned, PlannedStage, dependents_from, dependents_of, edges_of, opening_of, plan_of}
 use Rattle.cf_plan.specs.AttachedLists.{AreAttachedLists}
 
 -- the stage that a row stands for
@@ -18,6 +18,10 @@ grown_of opening rows room = record {
   opened = length opening.stages;
   room = room;
 }
+
+-- the stages of the opening that name stage i
+abbrev pub opening_dependents : Planned → ℕ → List ℕ
+opening_dependents plan i = dependents_of (opening_of plan).stages i
 
 -- the attached stages that name stage i, the newest first
 abbrev pub attached_dependents_of : Planned → List AttachedRow → ℕ → List ℕ

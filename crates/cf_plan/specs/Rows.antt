@@ -43,10 +43,21 @@ pub record AreStartsOf (starts sources : List ℕ) (n : ℕ) : Type 0 where
   pub steps : (i : ℕ) → i < n → slice_index starts (i + 1) ≡ slice_index starts i + mentions i sources
   pub total : slice_index starts n ≡ length sources
 
+-- the part of stage i in a block: from where it starts up to where the next one does
+abbrev pub part_of : List ℕ → List ℕ → ℕ → List ℕ
+part_of starts block i = slice_range block (slice_index starts i) (slice_index starts (i + 1))
+
+-- how often each of so many stages is named as a source
+abbrev pub AreMentions : List ℕ → ℕ → List ℕ → Type 0
+AreMentions counts stages sources = (i : ℕ) → i < stages → slice_index counts i ≡ mentions i sources
+
 -- the block has the dependents of each stage, one stage after another, from where it starts up to where the next one does
 pub record AreDependents (starts block : List ℕ) (stages : List PlannedStage) : Type 0 where
   pub len : length starts ≡ length stages + 1
   pub within : (i : ℕ) → i < length stages →
       (slice_index starts i ≤ slice_index starts (i + 1)) × (slice_index starts (i + 1) ≤ length block)
-  pub parts : (i : ℕ) → i < length stages →
-      slice_range block (slice_index starts i) (slice_index starts (i + 1)) ≡ dependents_of stages i
+  pub parts : (i : ℕ) → i < length stages → part_of starts block i ≡ dependents_of stages i
+
+-- the same of the stages that these rows stand for
+abbrev pub AreDependentsOf : List ℕ → List ℕ → List ℕ → List Row → Type 0
+AreDependentsOf starts block edges rows = AreDependents starts block (stages_of edges rows)

@@ -1,7 +1,7 @@
 //! Lists of attached stages, one for each stage, linked through one block of cells.
-ghost use Rattle.std.specs.Prelude.{◌≡◌, ◌+◌, ◌<◌, ◌≤◌, [], ◌∷◌, ◌++◌, IfOk, IfSome, drop, length, replicate, slice_get, slice_set};
+ghost use Rattle.std.specs.Prelude.{◌≡◌, ◌+◌, ◌<◌, ◌≤◌, [], ◌∷◌, ◌++◌, IfOk, IfSome, drop, length, replicate, slice_get};
 ghost use Rattle.std.specs.Vec.{vec_capacity};
-ghost use Rattle.cf_plan.specs.AttachedLists.{IsAttachedList, head_at, list_of};
+ghost use Rattle.cf_plan.specs.AttachedLists.{HasListAt, empty_head, head_at, heads_with, list_of, new_cell};
 
 use std::alloc::{AllocError, Global};
 use std::marker::Model;
@@ -34,7 +34,7 @@ impl AttachedLists {
         stages: usize,
         cells: usize,
     ) -> Result<AttachedLists, AllocError>
-        ensures heads { IfOk result (λ made. made.heads.items ≡ replicate stages (record { first = 0; count = 0 })) }
+        ensures heads { IfOk result (λ made. made.heads.items ≡ replicate stages empty_head) }
         ensures cells { IfOk result (λ made. made.cells.items ≡ []) }
         ensures room { IfOk result (λ made. vec_capacity made.cells ≡ cells) }
     {
@@ -49,8 +49,8 @@ impl AttachedLists {
         requires room { length self.old.cells.items < vec_capacity self.old.cells }
         requires few { length self.old.cells.items < 65535 }
         requires short { (head_at self.old.heads.items target).count < 65535 }
-        ensures heads { self.new.heads.items ≡ slice_set self.old.heads.items target (record { first = length self.old.cells.items; count = (head_at self.old.heads.items target).count + 1 }) }
-        ensures cells { self.new.cells.items ≡ self.old.cells.items ++ record { stage = stage; next = (head_at self.old.heads.items target).first } ∷ [] }
+        ensures heads { self.new.heads.items ≡ heads_with self.old.heads.items target (length self.old.cells.items) }
+        ensures cells { self.new.cells.items ≡ self.old.cells.items ++ new_cell self.old.heads.items target stage ∷ [] }
         ensures room { vec_capacity self.new.cells ≡ vec_capacity self.old.cells }
     {
         let head = self.heads[target as usize];
@@ -67,7 +67,7 @@ impl AttachedLists {
 
     /// Empties all lists. It takes no memory.
     pub(crate) fn clear(&mut self)
-        ensures heads { self.new.heads.items ≡ replicate (length self.old.heads.items) (record { first = 0; count = 0 }) }
+        ensures heads { self.new.heads.items ≡ replicate (length self.old.heads.items) empty_head }
         ensures cells { self.new.cells.items ≡ [] }
         ensures room { vec_capacity self.new.cells ≡ vec_capacity self.old.cells }
     {
@@ -95,7 +95,7 @@ impl AttachedLists {
     /// The list of a stage.
     pub(crate) fn list(&self, i: u16) -> AttachedDependents<'_>
         requires stage { i < length self.now.heads.items }
-        requires list { IsAttachedList (head_at self.now.heads.items i).count self.now.cells.items (head_at self.now.heads.items i).first }
+        requires list { HasListAt self.now.heads.items self.now.cells.items i }
         ensures { result ≡ list_of self.now.cells.items (head_at self.now.heads.items i) }
     {
         AttachedDependents {

@@ -1,6 +1,6 @@
 //! Plans to which stages are attached.
 ghost use Rattle.std.specs.Prelude.{◌≡◌, ℕ, ◌+◌, ◌*◌, ◌<◌, ◌≤◌, ◌++◌, true, All, IfOk, is_some, length, reverse};
-ghost use Rattle.cf_plan.specs.Growing.{attached_of};
+ghost use Rattle.cf_plan.specs.Growing.{attached_of, opening_dependents};
 ghost use Rattle.cf_forms.specs.Plans.{AreBelow, IsGrowing, and_stage, attached_stage, dependents_of, edges_of, fits_form, form_at, function_at, has_place, opening_of, reopened, sources_at, sources_of, with_room};
 
 use crate::attached_lists::{AttachedDependents, AttachedLists};
@@ -21,9 +21,9 @@ pub(crate) struct AttachedRow {
 /// A plan to which stages may be attached, as many as it has room for. The room is made at the opening, so that attaching
 /// takes no memory.
 ///
-/// The plan that it was opened with stays as it is, so the dependents of a stage stand in two places: those of the opening
-/// in one slice, in rising order, and those attached since in a list, the newest first. Where there is no room, there are
-/// no such lists, and it takes no memory but the opening's.
+/// The plan that it was opened with stays as it is, so the dependents of a stage stand in two places: those of the
+/// opening in one slice, in rising order, and those attached since in a list, the newest first. Where there is no room,
+/// there are no such lists, and no memory but the opening's is taken.
 #[derive(Drop)]
 pub struct GrowingPlan {
     opening: Plan,
@@ -43,7 +43,8 @@ impl Model for GrowingPlan {
     ghost view = { λ p. grown_of p.opening p.rows.items p.room };
 
     ghost invariant = { λ p.
-        AreGrowing p.opening p.rows.items p.lists.heads.items p.lists.cells.items p.room (vec_capacity p.rows) (vec_capacity p.lists.cells) };
+        AreGrowing p.opening p.rows.items p.lists.heads.items p.lists.cells.items p.room
+        (vec_capacity p.rows) (vec_capacity p.lists.cells) };
 }
 
 impl GrowingPlan {
@@ -148,7 +149,7 @@ impl GrowingPlan {
     /// The stages of the opening that name stage i as a source, in rising order, once for each mention.
     pub fn dependents(&self, i: u16) -> &[u16]
         requires { i < length self.now.stages }
-        ensures dependents { result.now ≡ dependents_of (opening_of self.now).stages i }
+        ensures dependents { result.now ≡ opening_dependents self.now i }
         ensures above { All (λ k. i < k) result.now }
         ensures below { All (λ k. k < length self.now.stages) result.now }
     {
@@ -159,11 +160,11 @@ impl GrowingPlan {
         }
     }
 
-    /// The attached stages that name stage i as a source, the newest first, once for each mention: behind those of the
-    /// opening they are, the other way round, the rest of its dependents.
+    /// The attached stages that name stage i as a source, the newest first, once for each mention. In reverse order
+    /// they are the dependents of stage i that follow those of the opening.
     pub fn attached_dependents(&self, i: u16) -> AttachedDependents<'_>
         requires { i < length self.now.stages }
-        ensures rest { dependents_of self.now.stages i ≡ dependents_of (opening_of self.now).stages i ++ reverse result }
+        ensures rest { dependents_of self.now.stages i ≡ opening_dependents self.now i ++ reverse result }
         ensures above { All (λ k. i < k) result }
         ensures below { All (λ k. k < length self.now.stages) result }
     {
@@ -174,7 +175,7 @@ impl GrowingPlan {
         }
     }
 
-    /// Attaches a stage, whose number is that of the stages so far.
+    /// Attaches a stage. Its number is how many stages there were before.
     pub fn attach(&mut self, form: Form, of: Of, function: Option<u16>)
         requires room { 0 < self.old.room }
         requires fits { fits_form form (length (sources_of of)) (is_some function) ≡ true }
@@ -194,7 +195,7 @@ impl GrowingPlan {
         }
     }
 
-    /// Takes out all attached stages: it is the plan as it was opened, with its room free again. It takes no memory, and
+    /// Takes out all attached stages: the plan is as it was opened, with its room free again. It takes no memory, and
     /// does nothing where no stage was attached.
     pub fn restart(&mut self)
         ensures { self.new ≡ reopened self.old }
@@ -202,7 +203,7 @@ impl GrowingPlan {
         let attached = self.rows.len();
         if attached > 0 {
             // A plan that was built is within its bounds.
-            let _stages = self.opening.stages();
+            let _known = self.opening.stages();
             self.room += attached as u16;
             self.rows.clear();
             self.lists.clear();

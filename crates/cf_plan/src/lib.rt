@@ -1,12 +1,13 @@
 //! Plans of stages: which stages there are, and what each names as its sources.
 //!
-//! A plan is built by a `PlanBuilder`, call by call, and is then the list of the calls that were accepted: each stage
-//! with its form, its sources, which are lower, and the number of its function, and the limits in firing order. The
-//! sources of all stages stand in one block, and so do their dependents, so that both are looked up as slices.
+//! A `PlanBuilder` builds a plan, call by call. The plan is the list of the calls that were accepted: each stage with
+//! its form, its sources (all of them lower stages) and its function's number, and the limits in firing order. The
+//! sources of all stages stand in one block, and so do their dependents, so both are looked up as slices.
 //!
-//! A `GrowingPlan` is a built plan with room for stages that are attached later, each with at most two sources. They
-//! stand behind those of the opening, whose dependents stay where they are: each stage has beside them a list of the
-//! attached stages that name it. A restart takes them all out again.
+//! A `GrowingPlan` is a built plan with room for stages that are attached later, each with at most two sources.
+//! Attached stages are numbered after those of the opening. The dependents of the opening's stages stay where they are;
+//! beside them each stage has a list of the attached stages that name it. A restart takes all attached stages out
+//! again.
 #![tactic(auto)]
 
 mod attached_lists;

@@ -166,8 +166,8 @@ impl Plan {
             && self.edges() as usize + 2 * room as usize <= MAX_EDGES
     }
 
-    /// The same plan again, over the same memory: it takes none. It fails only where more copies than a memory holds are
-    /// there at the same time.
+    /// The same plan again. Both share one memory, so it takes none. It fails only where more copies are alive than a
+    /// memory could hold.
     pub fn copy(&self) -> Result<Plan, PlanFault>
         ensures same { IfOk result (λ plan. plan ≡ self.now) }
         ensures refused { IsOkUnless result PlanFault.NoMemory }
@@ -175,7 +175,7 @@ impl Plan {
         Ok(self.share()?)
     }
 
-    /// What `copy` gives, for who tells want of memory in another way.
+    /// What `copy` gives, for a caller with another error for want of memory.
     pub fn share(&self) -> Result<Plan, AllocError>
         ensures same { IfOk result (λ plan. plan ≡ self.now) }
     {

@@ -12,8 +12,10 @@ use Rattle.cf_desk.specs.Views.{Desk, IsOf, Pass}
 use Rattle.cf_pool.specs.declared.pool.Left.{Left}
 use Rattle.cf_pool.specs.Answering.{Answers}
 use Rattle.cf_model.specs.Calling.{CallsOf}
-use Rattle.cf_pool.specs.Calling.{TellsOf}
+use Rattle.cf_pool.specs.declared.races.RaceTerms.{RaceTerms}
+use Rattle.cf_pool.specs.Calling.{TellsOf, first_answers}
 use Rattle.cf_pool.specs.Closings.{HadThreads, HaveCalled, RanOut}
+use Rattle.cf_pool.specs.Races.{IsRaced, race_plan}
 
 -- caller 0 has done the first of the steps in order, so many of them
 pub record HasTaken (d : Desk) (steps : List Event) (taken : ℕ) (p : Pass) : Type 0 where
@@ -70,3 +72,11 @@ pub record HaveCalledInRace {M : Type 0} (tells : TellsOf M) (calls : CallsOf M)
   pub ran : RanOut answers desk passes left.closed.history.items left.closed.passes.items left.closed.graph.state
   pub called : HaveCalled tells calls passes ms left
   pub threads : HadThreads answers desk passes left false
+
+-- each worker of a race has called its functions so, where all workers' functions answer as the first one's do
+abbrev pub HaveCalledRacing : {M : Type 0} → TellsOf M → CallsOf M → (M → Answers) → RaceTerms → List M → Left M → Type 0
+HaveCalledRacing tells calls answers terms ms left = HaveCalledInRace tells calls (first_answers answers ms) terms.steps.now ms left
+
+-- the graph that is left is as such a race leaves it
+abbrev pub HasRaced : {M : Type 0} → (M → Answers) → RaceTerms → List M → Left M → Type 0
+HasRaced answers terms ms left = IsRaced (first_answers answers ms) (race_plan terms) terms.steps.now terms.workers left.closed.graph.state

@@ -9,7 +9,7 @@ use Rattle.cf_model.specs.Calling.{CallsOf}
 use Rattle.cf_model.specs.declared.calls.Call.TheVariants.{Finish}
 use Rattle.cf_desk.specs.declared.calls.Rec.{Rec}
 use Rattle.cf_desk.specs.declared.calls.Rec.TheVariants.{Did}
-use Rattle.cf_desk.specs.Views.{Pass}
+use Rattle.cf_desk.specs.Views.{Pass, state_of}
 use Rattle.cf_pool.specs.Works.{Owed, owed_by}
 
 -- what a gate does: from the first memory, being told that a caller runs a stage next leaves the second memory
@@ -69,6 +69,17 @@ pub record Calls {M : Type 0} (tells : TellsOf M) (calls : CallsOf M) (stages : 
 pub record CallsOnce {M : Type 0} (tells : TellsOf M) (calls : CallsOf M) (stages : List PlannedStage) (who : ℕ) (records now : List Rec) (m n : M) : Type 0 where
   pub each : Calls tells calls stages who records now m n
   pub once : (i : ℕ) → calls_of i each.more ≤ 1
+
+-- the same of a pass that was p and is q now, by the plan as it has seen it
+abbrev pub HasCalled : {M : Type 0} → TellsOf M → CallsOf M → Pass → Pass → M → M → Type 0
+HasCalled tells calls p q m n = Calls tells calls (state_of q.known).plan.stages p.known.caller p.records q.records m n
+
+abbrev pub HasCalledOnce : {M : Type 0} → TellsOf M → CallsOf M → Pass → Pass → M → M → Type 0
+HasCalledOnce tells calls p q m n = CallsOnce tells calls (state_of q.known).plan.stages p.known.caller p.records q.records m n
+
+-- the caller of this pass runs stage i once, of the plan as the pass has seen it
+abbrev pub RunsStageOf : {M : Type 0} → TellsOf M → CallsOf M → Pass → ℕ → Args → Answer → M → M → Type 0
+RunsStageOf tells calls p i args answer m n = RunsStage tells calls (state_of p.known).plan.stages p.known.caller i args answer m n
 
 -- the same of each of these passes, with its records now, as the memory of its worker goes from one to the other
 abbrev pub EachCalls : {M : Type 0} → TellsOf M → CallsOf M → List PlannedStage → List Pass → List (List Rec) → List M → List M → Type 0

@@ -22,9 +22,9 @@ use Rattle.cf_pool.specs.declared.pool.Met.{Met}
 use Rattle.cf_pool.specs.declared.pool.Unbegun.{Unbegun}
 use Rattle.cf_pool.specs.declared.pool.Worked.{Worked}
 use Rattle.cf_model.specs.Calling.{CallsOf}
-use Rattle.cf_pool.specs.Calling.{EachCalls, TellsOf, calls_of_all}
+use Rattle.cf_pool.specs.Calling.{EachCalls, TellsOf, calls_of_all, first_answers}
 use Rattle.cf_pool.specs.Claims.{WereOpen}
-use Rattle.cf_pool.specs.Runs.{HasCome, HasEnded, IsLowest, IsWorkedFrom, OfEach, is_any_alone}
+use Rattle.cf_pool.specs.Runs.{HasCome, HasEnded, IsLowest, IsWorkedFrom, OfEach, is_any_alone, passes_of, workers_of}
 use Rattle.cf_pool.specs.Works.{Works}
 
 -- the function of each stage is called at most once for the records of all these passes
@@ -119,3 +119,17 @@ RunRefuses tells calls answers d ps ms (NoThread left) =
     IsLeft answers d ps left × HaveCalled tells calls ps ms left × HadThreads answers d ps left true
 RunRefuses tells calls answers d ps ms (ToldDesk fault left) =
     RunTells answers d ps fault left.closed × HaveCalled tells calls ps ms left × HadThreads answers d ps left false
+
+-- the same of a run whose workers all answer as the first one does: what it leaves, that no thread was refused, and why it tells a fault
+abbrev pub HasRunOut : {M : Type 0} → (M → Answers) → Desk → List Pass → List M → Left M → Type 0
+HasRunOut answers d ps ms left =
+    RanOut (first_answers answers ms) d ps left.closed.history.items left.closed.passes.items left.closed.graph.state
+
+abbrev pub HadEachThread : {M : Type 0} → (M → Answers) → Desk → List Pass → List M → Left M → Type 0
+HadEachThread answers d ps ms left = HadThreads (first_answers answers ms) d ps left false
+
+abbrev pub RefusesRun : {M : Type 0} → TellsOf M → CallsOf M → (M → Answers) → Desk → List Pass → List M → PoolFault M → Type 0
+RefusesRun tells calls answers d ps ms fault = RunRefuses tells calls (first_answers answers ms) d ps ms fault
+
+abbrev pub RefusesPairs : {M : Type 0} → TellsOf M → CallsOf M → (M → Answers) → Desk → List (Pass × M) → PoolFault M → Type 0
+RefusesPairs tells calls answers d pairs fault = RefusesRun tells calls answers d (passes_of pairs) (workers_of pairs) fault

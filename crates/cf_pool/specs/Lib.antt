@@ -4,6 +4,7 @@ pub mod Stops
 pub mod Waits
 pub mod Jobs
 pub mod Calling
+pub mod Sharing
 pub mod Counting
 pub mod Claims
 pub mod Runs

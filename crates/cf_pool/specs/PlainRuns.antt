@@ -12,6 +12,7 @@ use Rattle.cf_desk.specs.Laws.{call_of}
 use Rattle.cf_desk.specs.Records.{dids}
 use Rattle.cf_desk.specs.Views.{Desk, IsOf, Pass}
 use Rattle.cf_pool.specs.Answering.{as_meant}
+use Rattle.cf_pool.specs.declared.pool.Left.{Left}
 use Rattle.cf_pool.specs.Closings.{RanOut}
 
 -- the changing calls that a pass has made, in order
@@ -38,6 +39,10 @@ pub record EndsPlainly (meanings : Meanings) (plan : Planned) (ps : List Pass) (
       outcome_at graph i ≡ expr graph.plan history meanings i
   pub by_steps : (first : Pass) (others : List Pass) → ps ≡ first ∷ others → All MadeNone others → (i : ℕ) →
       expr graph.plan history meanings i ≡ expr graph.plan (made_by first) meanings i
+
+-- what a run leaves ends plainly
+abbrev pub LeavesPlainly : {M : Type 0} → Meanings → Planned → List Pass → Left M → Type 0
+LeavesPlainly meanings plan ps left = EndsPlainly meanings plan ps left.closed.history.items left.closed.graph.state
 
 -- Where all calls that the passes of a desk had made were plain steps, a run that answers Ok ends plainly.
 abbrev pub RunsEndPlainly : Type 0

@@ -1,6 +1,6 @@
 -- What a race does and leaves.
 use Rattle.std.specs.Prelude.{◌≡◌, ℕ, ◌+◌, ◌*◌, ◌<◌, ◌≤◌, true, Some, List, [], ◌∷◌, ◌++◌, length}
-use Rattle.cf_forms.specs.Plans.{Planned, IsBuilt}
+use Rattle.cf_forms.specs.Plans.{Planned, IsBuilt, with_room}
 use Rattle.std.specs.List.{All}
 use Rattle.cf_model.specs.declared.events.Event.{Event}
 use Rattle.cf_model.specs.declared.events.Event.TheVariants.{Claim as Claims, Finish as Finishes}
@@ -8,10 +8,13 @@ use Rattle.cf_model.specs.States.{State, start, outcome_at}
 use Rattle.cf_model.specs.Events.{answered, state_after}
 use Rattle.cf_model.specs.Calls.{is_from_outside, who_of}
 use Rattle.cf_model.specs.Ranges.{EventsFit}
+use Rattle.cf_desk.specs.declared.sizes.DeskSizes.{DeskSizes}
 use Rattle.cf_desk.specs.Faults.{AttachFits}
+use Rattle.cf_desk.specs.Views.{Desk}
 use Rattle.cf_forms.specs.declared.forms.Args.{Args}
 use Rattle.cf_pool.specs.declared.races.RaceFault.{RaceFault}
 use Rattle.cf_pool.specs.declared.races.RaceFault.TheVariants.{Size, NoMemory}
+use Rattle.cf_pool.specs.declared.races.RaceTerms.{RaceTerms}
 use Rattle.cf_forms.specs.Meanings.{Meanings}
 use Rattle.cf_pool.specs.Answering.{Answers, MayAnswer, as_meant}
 use Rattle.cf_expr.specs.Expressions.{expr}
@@ -24,6 +27,23 @@ log_words steps stages workers = steps + stages * (workers + 2) + 1
 -- how many functions a race knows: as many as stages can name
 abbrev pub race_functions : ℕ
 race_functions = 65536
+
+-- the plan of a race, with its room, and how many words its log has
+abbrev pub race_plan : RaceTerms → Planned
+race_plan terms = with_room terms.plan terms.room
+
+abbrev pub race_words : RaceTerms → ℕ
+race_words terms = log_words (length terms.steps.now) (length terms.plan.stages + terms.room) terms.workers
+
+-- the sizes of the desk of a race with so many steps, stages and workers
+abbrev pub AreRaceSizes : ℕ → ℕ → ℕ → DeskSizes → Type 0
+AreRaceSizes steps stages workers sizes =
+    (sizes.callers ≡ workers + 1) × (sizes.log ≡ log_words steps stages workers) × (sizes.calls ≡ steps + 2 * stages + 1)
+
+-- a desk of these sizes was opened for a race
+abbrev pub IsRaceDesk : RaceTerms → DeskSizes → Desk → Type 0
+IsRaceDesk terms sizes d =
+    (d.setting ≡ record { plan = race_plan terms; callers = sizes.callers; functions = race_functions }) × (d.words ≡ sizes.log)
 
 -- a step: caller 0 completes, fails or cancels a stage, attaches one, or tells a moment
 abbrev pub IsStep : Event → Type 0

@@ -1,5 +1,5 @@
 -- What a run of workers is told by each of them.
-use Rattle.std.specs.Prelude.{◌≡◌, ℕ, ◌<◌, nat_lt, Bool, true, false, Option, Some, None, MatchOption, List, ◌∷◌}
+use Rattle.std.specs.Prelude.{◌≡◌, ℕ, ◌<◌, nat_lt, Bool, true, false, Option, Some, None, MatchOption, MatchResult, Result, List, ◌∷◌, map}
 use Rattle.std.specs.List.{All, AllZip, Contains, list_any}
 use Rattle.cf_pool.specs.Answering.{Answers}
 use Rattle.cf_desk.specs.declared.faults.DeskFault.{DeskFault}
@@ -8,6 +8,7 @@ use Rattle.cf_desk.specs.Views.{Pass, IsSamePass, Desk, state_of}
 use Rattle.cf_model.specs.Calling.{CallsOf}
 use Rattle.cf_pool.specs.Calling.{CallsOnce, TellsOf}
 use Rattle.cf_pool.specs.declared.pool.Met.{Met}
+use Rattle.cf_pool.specs.declared.pool.WorkOf.{WorkOf}
 use Rattle.cf_pool.specs.declared.pool.Worked.{Worked}
 use Rattle.cf_pool.specs.Stops.{Stops}
 use Rattle.cf_pool.specs.Waits.{Ends}
@@ -25,6 +26,24 @@ IsWorkedFrom answers d patience p w = HasWorked answers d patience p w.pass w.fa
 pub record IsWorkedBy {M : Type 0} (tells : TellsOf M) (calls : CallsOf M) (answers : M → Answers) (d : Desk) (patience : ℕ) (h : Pass × M) (w : Worked M) : Type 0 where
   pub from : IsWorkedFrom (answers h.1) d patience h.0 w
   pub called : CallsOnce tells calls (state_of w.pass.known).plan.stages h.0.known.caller h.0.records w.pass.records h.1 w.worker
+
+-- A worker was started: its thread promises the work of this worker with this pass at this desk, or its thread was refused, and it has
+-- done that work alone.
+abbrev pub IsStarted : {H M : Type 0} → (H → WorkOf M) → TellsOf M → CallsOf M → (M → Answers) → Desk → Pass × M → Result H (Worked M) → Type 0
+IsStarted promise tells calls answers d one started =
+    MatchResult started (λ h. ((promise h).was.value ≡ one) × ((promise h).desk.value ≡ d)) (λ w. IsWorkedBy tells calls answers d 1000 one w × (w.alone ≡ true))
+
+-- what a worker that was started so comes to: what its thread promised, or what it came to alone
+abbrev pub EndsAs : {H M : Type 0} → (H → WorkOf M) → TellsOf M → CallsOf M → (M → Answers) → Result H (Worked M) → Worked M → Type 0
+EndsAs promise tells calls answers started w =
+    MatchResult started (λ h. IsWorkedBy tells calls answers (promise h).desk.value 1000 (promise h).was.value w × (w.alone ≡ false)) (λ x. w ≡ x)
+
+-- the passes, and the workers, of these pairs
+abbrev pub passes_of : {M : Type 0} → List (Pass × M) → List Pass
+passes_of {M} pairs = map (λ (w : Pass × M). w.0) pairs
+
+abbrev pub workers_of : {M : Type 0} → List (Pass × M) → List M
+workers_of {M} pairs = map (λ (w : Pass × M). w.1) pairs
 
 -- whether the thread of one of them was refused, so that it worked alone on the caller's
 abbrev pub is_any_alone : {M : Type 0} → List (Worked M) → Bool

@@ -1,13 +1,13 @@
 //! Workers on threads of their own. All memory is taken before the desk, its passes and the workers are touched, and a worker
 //! whose thread is refused works on the caller's, so that nothing is refused once they have begun.
-ghost use Rattle.std.specs.Prelude.{◌≡◌, ◌+◌, ◌<◌, ◌≤◌, ◌∷◌, nat_lt, [], false, true, All, IfErr, IfOk, MatchResult, map, length, vec_capacity, vec_len};
+ghost use Rattle.std.specs.Prelude.{◌≡◌, ◌+◌, ◌<◌, ◌≤◌, ◌∷◌, nat_lt, [], false, true, All, IfErr, IfOk, map, length, vec_capacity, vec_len};
 ghost use Rattle.std.specs.List.{AllZip};
 ghost use Rattle.cf_desk.specs.Rule.{AllShort};
 ghost use Rattle.cf_desk.specs.Views.{IsOf, knowns};
-ghost use Rattle.cf_pool.specs.Calling.{AnswerAlike, first_answers};
-ghost use Rattle.cf_pool.specs.Closings.{HadThreads, HaveCalled, RunRefuses, RanOut, told};
+ghost use Rattle.cf_pool.specs.Calling.{AnswerAlike};
+ghost use Rattle.cf_pool.specs.Closings.{HadEachThread, HasRunOut, HaveCalled, RefusesPairs, RefusesRun, told};
 ghost use Rattle.cf_pool.specs.PlainRuns.{RunsEndPlainly};
-ghost use Rattle.cf_pool.specs.Runs.{IsFirst, IsWorkedBy, SeesMore, SeesOn, first_with, is_any_alone, lower_of, stop_of};
+ghost use Rattle.cf_pool.specs.Runs.{EndsAs, IsFirst, IsStarted, IsWorkedBy, SeesMore, SeesOn, first_with, is_any_alone, lower_of, passes_of, stop_of, workers_of};
 
 use crate::faults::PoolFault;
 use crate::worker::work;
@@ -111,7 +111,7 @@ fn start<'s, E, W: Worker + Send + Drop + 's>(
     one: (Pass, W),
 ) -> Started<W>
     requires { IsOf desk.now one.0 }
-    ensures { MatchResult result (λ h. (h.promise.was.value ≡ one) × (h.promise.desk.value ≡ desk.now)) (λ w. IsWorkedBy W.tells W.calls W.answers desk.now 1000 one w × (w.alone ≡ true)) }
+    ensures { IsStarted (λ h. h.promise) W.tells W.calls W.answers desk.now one result }
 {
     let promise = WorkOf {
         was: Snapshot::of(&one),
@@ -161,7 +161,7 @@ fn start_all<'s, E, W: Worker + Send + Drop + 's>(
     requires all { All (λ w. IsOf desk.now w.0) workers.items }
     requires none { started.items ≡ [] }
     requires room { vec_len workers ≤ vec_capacity started }
-    ensures { AllZip (λ one s. MatchResult s (λ h. (h.promise.was.value ≡ one) × (h.promise.desk.value ≡ desk.now)) (λ w. IsWorkedBy W.tells W.calls W.answers desk.now 1000 one w × (w.alone ≡ true))) workers.items result.items }
+    ensures { AllZip (IsStarted (λ h. h.promise) W.tells W.calls W.answers desk.now) workers.items result.items }
 {
     let mut rest = workers.into_iter();
     'next: while let Some(one) = rest.next() {
@@ -173,7 +173,7 @@ fn start_all<'s, E, W: Worker + Send + Drop + 's>(
 
 /// What a worker has come to.
 fn ended<R: Threads, W: Worker + Drop>(rt: &R, started: Started<W>) -> Worked<W>
-    ensures { MatchResult started (λ h. IsWorkedBy W.tells W.calls W.answers h.promise.desk.value 1000 h.promise.was.value result × (result.alone ≡ false)) (λ w. result ≡ w) }
+    ensures { EndsAs (λ h. h.promise) W.tells W.calls W.answers started result }
 {
     match started {
         Ok(handle) => handle.join(rt),
@@ -189,7 +189,7 @@ fn join_all<R: Threads, W: Worker + Drop>(
 ) -> Vec<Worked<W>>
     requires none { worked.items ≡ [] }
     requires room { vec_len started ≤ vec_capacity worked }
-    ensures { AllZip (λ s x. MatchResult s (λ h. IsWorkedBy W.tells W.calls W.answers h.promise.desk.value 1000 h.promise.was.value x × (x.alone ≡ false)) (λ w. x ≡ w)) started.items result.items }
+    ensures { AllZip (EndsAs (λ h. h.promise) W.tells W.calls W.answers) started.items result.items }
 {
     let mut rest = started.into_iter();
     'next: while let Some(one) = rest.next() {
@@ -299,8 +299,11 @@ struct Room<W: Worker> {
 
 /// Room for so many workers.
 fn room_for<W: Worker + Drop>(alloc: Global, count: usize) -> Result<Room<W>, AllocError>
-    ensures none { IfOk result (λ r. (r.pairs.items ≡ []) × (r.started.items ≡ []) × (r.worked.items ≡ []) × (r.back.passes.items ≡ []) × (r.back.workers.items ≡ [])) }
-    ensures room { IfOk result (λ r. (count ≤ vec_capacity r.pairs) × (count ≤ vec_capacity r.started) × (count ≤ vec_capacity r.worked) × (count ≤ vec_capacity r.back.passes) × (count ≤ vec_capacity r.back.workers)) }
+    ensures none { IfOk result (λ r. (r.pairs.items ≡ []) × (r.started.items ≡ []) × (r.worked.items ≡ [])) }
+    ensures none_back { IfOk result (λ r. (r.back.passes.items ≡ []) × (r.back.workers.items ≡ [])) }
+    ensures pairs { IfOk result (λ r. count ≤ vec_capacity r.pairs) }
+    ensures room { IfOk result (λ r. (count ≤ vec_capacity r.started) × (count ≤ vec_capacity r.worked)) }
+    ensures back { IfOk result (λ r. (count ≤ vec_capacity r.back.passes) × (count ≤ vec_capacity r.back.workers)) }
 {
     let pairs = Vec::with_capacity(alloc, count)?;
     let started = Vec::with_capacity(alloc, count)?;
@@ -328,7 +331,8 @@ fn meet_all<W: Drop>(
     ensures others { AllZip SeesOn worked.items result.passes.items }
     ensures workers { result.workers.items ≡ map (λ w. w.worker) worked.items }
     ensures short { AllShort (length mine.new.known.seen) (knowns result.passes.items) }
-    ensures room { (vec_capacity back.passes ≤ vec_capacity result.passes) × (vec_capacity back.workers ≤ vec_capacity result.workers) }
+    ensures room { vec_capacity back.passes ≤ vec_capacity result.passes }
+    ensures room_too { vec_capacity back.workers ≤ vec_capacity result.workers }
 {
     let mut rest = worked.into_iter();
     'next: while let Some(w) = rest.next() {
@@ -388,11 +392,12 @@ fn run_each<R: Threads + Wait + Sync, W: Worker + Send + Drop>(
     requires passes { All (IsOf desk) (map (λ w. w.0) workers.items) }
     requires alike { AnswerAlike W.answers (map (λ w. w.1) workers.items) }
     requires none { (started.items ≡ []) × (worked.items ≡ []) × (back.passes.items ≡ []) × (back.workers.items ≡ []) }
-    requires room { (vec_len workers ≤ vec_capacity started) × (vec_len workers ≤ vec_capacity worked) × (vec_len workers ≤ vec_capacity back.passes) × (vec_len workers ≤ vec_capacity back.workers) }
-    ensures ran { IfOk result (λ left. RanOut (first_answers W.answers (map (λ w. w.1) workers.items)) desk (map (λ w. w.0) workers.items) left.closed.history.items left.closed.passes.items left.closed.graph.state) }
-    ensures called { IfOk result (HaveCalled W.tells W.calls (map (λ w. w.0) workers.items) (map (λ w. w.1) workers.items)) }
-    ensures threads { IfOk result (λ left. HadThreads (first_answers W.answers (map (λ w. w.1) workers.items)) desk (map (λ w. w.0) workers.items) left false) }
-    ensures refused { IfErr result (RunRefuses W.tells W.calls (first_answers W.answers (map (λ w. w.1) workers.items)) desk (map (λ w. w.0) workers.items) (map (λ w. w.1) workers.items)) }
+    requires room { (vec_len workers ≤ vec_capacity started) × (vec_len workers ≤ vec_capacity worked) }
+    requires back { (vec_len workers ≤ vec_capacity back.passes) × (vec_len workers ≤ vec_capacity back.workers) }
+    ensures ran { IfOk result (HasRunOut W.answers desk (passes_of workers.items) (workers_of workers.items)) }
+    ensures called { IfOk result (HaveCalled W.tells W.calls (passes_of workers.items) (workers_of workers.items)) }
+    ensures threads { IfOk result (HadEachThread W.answers desk (passes_of workers.items) (workers_of workers.items)) }
+    ensures refused { IfErr result (RefusesPairs W.tells W.calls W.answers desk workers.items) }
 {
     let one = workers.remove(0);
     let (mut mine, own) = one;
@@ -424,19 +429,20 @@ fn told<W>(refused: bool, first: Option<Met>, left: Left<W>) -> Result<Left<W>, 
 }
 
 /// Starts a thread for each of 1 to 32 workers, which works with its pass, and joins them all. Then the caller's pass meets
-/// each other one and its worker works until nothing is ready, and the desk is closed. `passes` holds all passes of the
-/// desk, the caller's own first, and `workers` the worker of each. Where their arguments determine what the functions
-/// answer, all workers' answer the same.
+/// each other one, its worker works until nothing is ready, and the desk is closed. `passes` holds all passes of the desk,
+/// the caller's own first, and `workers` the worker of each. If the arguments of their functions determine the answers, all
+/// workers' functions answer the same.
 ///
-/// After it nothing is ready, each worker has waited for its patience, and no claim is open but those that were granted
-/// and not finished before. After a fault of the desk, which is that of the lowest caller of whom a call was refused, the
-/// desk is closed too, and a claim that was granted may be open. In both cases what the desk tells is one history, and its
-/// graph is as that leaves it. The workers come back, and each has called its functions for the claims that its pass was
-/// granted, once each, and never else; over all workers together, a stage's function is called at most once.
+/// Afterwards nothing is ready, each worker has waited for its patience, and the only open claims are those that were
+/// granted before the run and not finished. If a call of a worker was refused, the run tells that fault, of the lowest
+/// caller that met one; the desk is closed then too, and a claim that was granted may be open. In both cases what the desk
+/// tells is one history, and its graph is as that history leaves it. The workers come back. Each has called its functions
+/// for the claims that its pass was granted, once for each, and never otherwise; over all workers together, a stage's
+/// function is called at most once.
 ///
-/// All memory is taken before anything begins: where it is refused, the desk, the passes and the workers come back as they
-/// were. A worker whose thread is refused works on the caller's, before the next is started; this is told at the end,
-/// before any other fault, with all that the run leaves.
+/// All memory is taken before anything begins: if it is refused, the desk, the passes and the workers come back as they
+/// were. A worker whose thread is refused works on the caller's, before the next one is started. The run tells this at the
+/// end, before any other fault, with all that it leaves.
 pub fn run<R: Threads + Wait + Sync, W: Worker + Send + Drop>(
     rt: &R,
     desk: Desk,
@@ -446,10 +452,10 @@ pub fn run<R: Threads + Wait + Sync, W: Worker + Send + Drop>(
     requires workers { (1 < vec_len workers) × (vec_len workers ≤ 33) × (desk.setting.callers ≡ vec_len workers) }
     requires alike { AnswerAlike W.answers workers.items }
     requires passes { All (IsOf desk) passes.items × (vec_len passes ≡ vec_len workers) }
-    ensures ran { IfOk result (λ left. RanOut (first_answers W.answers workers.items) desk passes.items left.closed.history.items left.closed.passes.items left.closed.graph.state) }
+    ensures ran { IfOk result (HasRunOut W.answers desk passes.items workers.items) }
     ensures called { IfOk result (HaveCalled W.tells W.calls passes.items workers.items) }
-    ensures threads { IfOk result (λ left. HadThreads (first_answers W.answers workers.items) desk passes.items left false) }
-    ensures refused { IfErr result (RunRefuses W.tells W.calls (first_answers W.answers workers.items) desk passes.items workers.items) }
+    ensures threads { IfOk result (HadEachThread W.answers desk passes.items workers.items) }
+    ensures refused { IfErr result (RefusesRun W.tells W.calls W.answers desk passes.items workers.items) }
 {
     let alloc = *passes.allocator();
     match room_for(alloc, workers.len()) {
@@ -465,8 +471,8 @@ pub fn run<R: Threads + Wait + Sync, W: Worker + Send + Drop>(
     }
 }
 
-/// Where all that a desk's passes had done before were plain steps, and no work, a run that answers Ok leaves the graph quiet
-/// and its history plain. So each stage of a plain plan holds its expression's outcome.
+/// If a desk's passes had only made plain steps before, and done no work, a run that answers Ok leaves the graph quiet and
+/// its history plain. So each stage of a plain plan holds its expression's outcome.
 pub fn runs_end_plainly()
     ensures { RunsEndPlainly }
 {}

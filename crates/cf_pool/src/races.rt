@@ -1,14 +1,14 @@
-//! Races: caller 0 settles what a plan's sources take and attaches stages, and then workers, each on a thread of its own,
-//! do all the work that there is.
+//! Races: caller 0 settles sources and attaches stages, and then workers, each on a thread of its own, do all the work that
+//! there is.
 mod beginning;
 mod sizes;
 
-ghost use Rattle.std.specs.Prelude.{◌≡◌, ◌+◌, ◌<◌, ◌≤◌, IfErr, IfOk, length, true, vec_len};
-ghost use Rattle.cf_forms.specs.Plans.{has_place, with_room};
-ghost use Rattle.cf_pool.specs.Calling.{AnswerAlike, first_answers};
-ghost use Rattle.cf_pool.specs.Beginnings.{HaveCalledInRace};
+ghost use Rattle.std.specs.Prelude.{◌≡◌, ◌+◌, ◌<◌, ◌≤◌, IfErr, IfOk, true, vec_len};
+ghost use Rattle.cf_forms.specs.Plans.{has_place};
+ghost use Rattle.cf_pool.specs.Calling.{AnswerAlike};
+ghost use Rattle.cf_pool.specs.Beginnings.{HasRaced, HaveCalledRacing};
 ghost use Rattle.cf_pool.specs.Closings.{AreCalledOnce, IsEachOnce, IsForRoom, IsHistoryOf};
-ghost use Rattle.cf_pool.specs.Races.{AreSteps, IsDueToRefuse, IsRaced, RacedIsExpression, RacesEndAlike, log_words, race_functions};
+ghost use Rattle.cf_pool.specs.Races.{AreSteps, IsDueToRefuse, RacedIsExpression, RacesEndAlike, race_functions, race_plan, race_words};
 
 use crate::faults::PoolFault;
 use crate::pool::{Left, run};
@@ -40,39 +40,51 @@ impl From<AllocError> for RaceFault {
     }
 }
 
-/// Does these steps as caller 0's, in order, and then lets so many workers, 1 to 32, work on threads of their own until
-/// nothing is ready. There is room for so many stages that steps attach. No caller has a number above the workers'.
-/// `hands` has the worker of caller 0 and then those of the others. Where their arguments determine what their functions
-/// answer, all answer the same. The race leaves the desk, closed, and the workers, each of which has called its functions
-/// for the claims that its pass was granted, once each, and never else; over all workers together, a stage's function is
-/// called at most once. What the desk tells is one history, and its graph is as that leaves it.
+/// What is raced, and by how many workers.
+#[derive(Drop)]
+pub struct RaceTerms<'a> {
+    /// The plan whose stages the workers run.
+    pub plan: Plan,
+    /// How many stages the steps may attach. The plan has a place for so many more (`Plan::has_place`).
+    pub room: u16,
+    /// What caller 0 does before the workers begin, in order: it completes, fails, cancels and attaches stages, and tells
+    /// moments.
+    pub steps: &'a [Event],
+    /// How many workers there are, 1 to 32, each on a thread of its own. Their callers' numbers begin with 1.
+    pub workers: u8,
+}
+
+/// Does the steps as caller 0's, in order, and then lets the workers work on threads of their own until nothing is ready.
+/// `hands` has the worker of caller 0 and then those of the others. If the arguments of their functions determine the
+/// answers, all of them answer the same. The race leaves the closed desk and the workers. Each worker has called its
+/// functions for the claims that its pass was granted, once for each, and never otherwise; over all workers together, a
+/// stage's function is called at most once. What the desk tells is one history, and the graph is as that history leaves
+/// it.
 #[tactic(auto, using(cf_forms::proofs::PlanLemmas::place_is))]
 pub fn race<R: Threads + Wait + Sync, W: Worker + Send + Drop>(
     rt: &R,
     alloc: Global,
-    plan: Plan,
-    room: u16,
-    steps: &[Event],
+    terms: RaceTerms<'_>,
     hands: Vec<W>,
-    workers: u8,
 ) -> Result<Left<W>, RaceFault>
-    requires workers { (0 < workers) × (workers ≤ 32) × (vec_len hands ≡ workers + 1) }
+    requires workers { (0 < terms.workers) × (terms.workers ≤ 32) × (vec_len hands ≡ terms.workers + 1) }
     requires alike { AnswerAlike W.answers hands.items }
-    requires room { has_place plan.stages room ≡ true }
-    requires steps { AreSteps (with_room plan room) steps.now }
-    ensures raced { IfOk result (λ left. IsRaced (first_answers W.answers hands.items) (with_room plan room) steps.now workers left.closed.graph.state) }
-    ensures history { IfOk result (λ left. IsHistoryOf (with_room plan room) race_functions left.closed) }
-    ensures each { IfOk result (λ left. IsEachOnce (workers + 1) left.closed.passes.items) }
+    requires room { has_place terms.plan.stages terms.room ≡ true }
+    requires steps { AreSteps (race_plan terms) terms.steps.now }
+    ensures raced { IfOk result (HasRaced W.answers terms.entry hands.items) }
+    ensures history { IfOk result (λ left. IsHistoryOf (race_plan terms.entry) race_functions left.closed) }
+    ensures each { IfOk result (λ left. IsEachOnce (terms.entry.workers + 1) left.closed.passes.items) }
     ensures once { IfOk result (λ left. AreCalledOnce left.closed.passes.items) }
-    ensures called { IfOk result (HaveCalledInRace W.tells W.calls (first_answers W.answers hands.items) steps.now hands.items) }
-    ensures size { IfOk result (λ left. log_words (length steps.now) (length plan.stages + room) workers ≤ 65535) }
-    ensures fault { IfErr result (IsDueToRefuse (log_words (length steps.now) (length plan.stages + room) workers)) }
+    ensures called { IfOk result (HaveCalledRacing W.tells W.calls W.answers terms.entry hands.items) }
+    ensures size { IfOk result (λ left. race_words terms.entry ≤ 65535) }
+    ensures fault { IfErr result (IsDueToRefuse (race_words terms.entry)) }
 {
-    let (log, calls) = match sizes(steps.len(), plan.stages() + room, workers) {
+    let stages = terms.plan.stages() + terms.room;
+    let sizes = match sizes(terms.steps.len(), stages, terms.workers) {
         Some(sizes) => sizes,
         None => return Err(RaceFault::Size),
     };
-    let (desk, passes) = begin(alloc, plan, room, workers + 1, steps, log, calls)?;
+    let (desk, passes) = begin(alloc, terms, sizes)?;
     match run(rt, desk, passes, hands) {
         Ok(left) => Ok(left),
         Err(fault) => Err(fault_of(fault)),

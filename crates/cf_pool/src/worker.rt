@@ -6,7 +6,7 @@ ghost use Rattle.cf_model.specs.Calls.{event_by};
 ghost use Rattle.cf_desk.specs.Faults.{HasRoom, IsOnStage};
 ghost use Rattle.cf_desk.specs.Results.{Refuses};
 ghost use Rattle.cf_desk.specs.Views.{Acts, Follows, IsOf, IsSamePass, state_of};
-ghost use Rattle.cf_pool.specs.Calling.{Calls, CallsOnce, RunsStage};
+ghost use Rattle.cf_pool.specs.Calling.{HasCalled, HasCalledOnce, RunsStageOf};
 ghost use Rattle.cf_pool.specs.Counting.{EndedWith, late_by, won_by};
 ghost use Rattle.cf_pool.specs.Jobs.{AddsWork, DoesJob, StopsJob, granted_by};
 ghost use Rattle.cf_pool.specs.Answering.{MayAnswer};
@@ -32,14 +32,14 @@ pub struct Done {
 }
 
 /// Claims the lowest ready stage, lets the gate know, calls the stage's function and finishes the stage with its answer,
-/// again and again. A stage may be one that another caller attached after the worker had started. It ends after so many
-/// looks in a row that found nothing ready, at least one. The pass is one of this desk's.
+/// again and again. A stage may be one that another caller attached after the worker had started. It ends once `patience`
+/// looks in a row, at least one, have found nothing ready. The pass is one of this desk's.
 ///
-/// For each claim that it is granted it tells the gate once and then calls the function once, with the claim's arguments,
-/// and calls nothing else. So no stage's function is called twice.
+/// For each claim that it is granted it tells the gate once and then calls the function once, with the claim's arguments.
+/// It calls nothing else, so no stage's function is called twice.
 ///
-/// It stops where its claim or its finish is refused, with that fault. The last claim that it was granted may then stay
-/// open; its function was called.
+/// If its claim or its finish is refused, it stops with that fault. The last claim that it was granted may then stay open;
+/// its function was called.
 pub fn work<W: Worker>(
     desk: &Desk,
     pass: &mut Pass,
@@ -54,7 +54,7 @@ pub fn work<W: Worker>(
     ensures nothing_ready { OnOk result (lowest_ready_of (state_of pass.new.known) ≡ None) }
     ensures waits { OnOk result (Waits desk.now patience pass.old pass.new) }
     ensures stops { IfErr result (Stops (W.answers worker.old) desk.now pass.old pass.new) }
-    ensures called { CallsOnce W.tells W.calls (state_of pass.new.known).plan.stages pass.old.known.caller pass.old.records pass.new.records worker.old worker.new }
+    ensures called { HasCalledOnce W.tells W.calls pass.old pass.new worker.old worker.new }
     ensures keeps { W.answers worker.new ≡ W.answers worker.old }
 {
     let room = pass.left();
@@ -105,7 +105,7 @@ fn take_job<W: Worker>(
     ensures more { OnOk result (length pass.old.records < length pass.new.records) }
     ensures looks { OnOk result (pass.new.known.looks ≡ pass.old.known.looks) }
     ensures stops { IfErr result (StopsJob (W.answers worker.old) desk.now pass.old pass.new) }
-    ensures called { Calls W.tells W.calls (state_of pass.new.known).plan.stages pass.old.known.caller pass.old.records pass.new.records worker.old worker.new }
+    ensures called { HasCalled W.tells W.calls pass.old pass.new worker.old worker.new }
     ensures keeps { W.answers worker.new ≡ W.answers worker.old }
 {
     let reply = desk.act(pass, Call::Claim(stage))?;
@@ -162,7 +162,7 @@ fn count(finished: Reply) -> Done
 /// What the function of a stage answers to these arguments, by one call of it, of which the gate is told before.
 fn answer_of<W: Worker>(pass: &Pass, worker: &mut W, stage: u16, args: &Args) -> Answer
     requires { stage < length (state_of pass.now.known).plan.stages }
-    ensures called { RunsStage W.tells W.calls (state_of pass.now.known).plan.stages pass.now.known.caller stage args.now result worker.old worker.new }
+    ensures called { RunsStageOf W.tells W.calls pass.now stage args.now result worker.old worker.new }
     ensures answers { MayAnswer (W.answers worker.old) (state_of pass.now.known).plan.stages stage args.now result }
     ensures keeps { W.answers worker.new ≡ W.answers worker.old }
 {

@@ -5,15 +5,16 @@ ghost use Rattle.cf_forms.specs.declared.forms.Answer.{Answer};
 ghost use Rattle.cf_forms.specs.declared.forms.Args.{Args};
 ghost use Rattle.cf_forms.specs.Meanings.{meanings_of};
 ghost use Rattle.cf_pool.specs.Answering.{Answers, IsAnswer, as_meant};
-ghost use Rattle.cf_pool.specs.Calling.{AnswerAlike, first_answers};
+ghost use Rattle.cf_pool.specs.Calling.{AnswerAlike};
+ghost use Rattle.cf_pool.specs.Sharing.{AnswerByList, shared_answers};
 
 use crate::gate::Gate;
 use cf_forms::{Answer, Args, Each, Functions, StageFn};
 use std::alloc::{AllocError, Global};
 
 /// The functions of stages and a gate, with one memory, which a call and the gate may change. So a worker may count and
-/// keep what it is called with, and its functions may answer what they like, as those do that read a file. Where their number
-/// and the arguments determine an answer, that stays so, and contracts tell it.
+/// keep what it is called with, and its functions may answer anything, for instance what they read from a file. If a
+/// function's number and its arguments determine the answer, they always determine the same one, and contracts tell it.
 pub trait Worker: Functions {
     // What the functions answer to their arguments, where these determine it.
     ghost answers: { Self → Answers };
@@ -71,8 +72,8 @@ pub fn share<'a, F: StageFn, G: Gate>(
     count: u8,
 ) -> Result<Vec<Shared<'a, F, G>>, AllocError>
     ensures count { IfOk result (λ v. vec_len v ≡ count) }
-    ensures alike { IfOk result (λ v. AnswerAlike (λ w. as_meant (meanings_of F.meaning w.functions.now)) v.items) }
-    ensures means { IfOk result (λ v. 0 < count → first_answers (λ w. as_meant (meanings_of F.meaning w.functions.now)) v.items ≡ as_meant (meanings_of F.meaning functions.now)) }
+    ensures alike { IfOk result (λ v. AnswerAlike (shared_answers F.meaning) v.items) }
+    ensures means { IfOk result (λ v. 0 < count → AnswerByList F.meaning functions.now v.items) }
 {
     let mut workers = Vec::with_capacity(alloc, count as usize)?;
     'workers: for _ in 0..count {

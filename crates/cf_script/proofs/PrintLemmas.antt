@@ -6,13 +6,13 @@ use Rattle.std.proofs.lemmas.List.{length-replicate}
 use Rattle.std.specs.Io.KnownBytes.{Appends}
 use Rattle.std.specs.declared.alloc.Global.{Global}
 use Rattle.cf_outcome.specs.Output.{AppendsFront}
-use Rattle.cf_reading.specs.declared.fault.ReadingFault.{ReadingFault}
-use Rattle.cf_reading.specs.declared.fault.ReadingFault.TheVariants as readings
-use Rattle.cf_reading.specs.Checks.{Fails}
-use Rattle.cf_reading.specs.Input.{IsOfInput}
-use Rattle.cf_reading.specs.Reading.{race_reading, reading}
-use Rattle.cf_reading.specs.Scripts.{Script}
-use Rattle.cf_reading.proofs.Texts.{race_too_long, reading_too_long}
+use Rattle.cf_script_reading.specs.declared.fault.ReadingFault.{ReadingFault}
+use Rattle.cf_script_reading.specs.declared.fault.ReadingFault.TheVariants as readings
+use Rattle.cf_script_reading.specs.Checks.{Fails}
+use Rattle.cf_script_reading.specs.Input.{IsOfInput}
+use Rattle.cf_script_reading.specs.Reading.{race_reading, reading}
+use Rattle.cf_script_reading.specs.Scripts.{Script}
+use Rattle.cf_script_reading.proofs.Texts.{race_too_long, reading_too_long}
 use Rattle.cf_text.specs.declared.fault.ScriptFault.{ScriptFault}
 use Rattle.cf_text.specs.declared.fault.ScriptFault.TheVariants as faults
 use Rattle.cf_text.specs.Faults.{fault_line, fault_of_reading}

@@ -11,11 +11,11 @@ use Rattle.cf_model.specs.Events.{answered}
 use Rattle.cf_model.specs.Ranges.{EventFits, EventsFit}
 use Rattle.cf_model.specs.States.{State, outcome_at, start}
 use Rattle.cf_expr.specs.Expressions.{expr}
-use Rattle.cf_reading.specs.declared.script.Step.{Step}
-use Rattle.cf_reading.specs.declared.script.Step.TheVariants.{Does, Asks, Work, Nudge}
-use Rattle.cf_reading.specs.Functions.{func_answer}
-use Rattle.cf_reading.specs.Purposes.{IsForRace}
-use Rattle.cf_reading.specs.Scripts.{Extent, Script, StepCalls, StepsFit, extent_after, extent_of, opening}
+use Rattle.cf_script_reading.specs.declared.script.Step.{Step}
+use Rattle.cf_script_reading.specs.declared.script.Step.TheVariants.{Does, Asks, Work, Nudge}
+use Rattle.cf_script_reading.specs.Functions.{func_answer}
+use Rattle.cf_script_reading.specs.Purposes.{IsForRace}
+use Rattle.cf_script_reading.specs.Scripts.{Extent, Script, StepCalls, StepsFit, extent_after, extent_of, opening}
 use Rattle.cf_pool.specs.Answering.{as_meant}
 use Rattle.cf_pool.specs.Races.{AreSteps, IsRaced, IsStep, RacedIsExpression, log_words}
 use Rattle.cf_script.specs.Reports.{stage_lines, stage_text}

@@ -7,10 +7,10 @@ use Rattle.cf_model.specs.declared.events.Event.TheVariants.{Complete as Complet
 use Rattle.cf_model.specs.States.{State, outcome_at, start}
 use Rattle.cf_model.specs.Events.{attached_by}
 use Rattle.cf_model.proofs.Shape.{answered-shape}
-use Rattle.cf_reading.specs.declared.func.Func.{Func}
-use Rattle.cf_reading.specs.declared.script.Step.{Step}
-use Rattle.cf_reading.specs.declared.script.Step.TheVariants.{Does, Asks, Work, Nudge}
-use Rattle.cf_reading.specs.Scripts.{Extent, StepFits, StepsFit, extent_after, extent_of, attached_by as extent_with}
+use Rattle.cf_script_reading.specs.declared.func.Func.{Func}
+use Rattle.cf_script_reading.specs.declared.script.Step.{Step}
+use Rattle.cf_script_reading.specs.declared.script.Step.TheVariants.{Does, Asks, Work, Nudge}
+use Rattle.cf_script_reading.specs.Scripts.{Extent, StepFits, StepsFit, extent_after, extent_of, attached_by as extent_with}
 use Rattle.cf_text.specs.Texts.{line}
 use Rattle.cf_script.specs.Reports.{after_step, after_steps, step_text, steps_lines, stage_text, stage_lines}
 use Rattle.cf_script.proofs.WorkLemmas.{worked-shape}

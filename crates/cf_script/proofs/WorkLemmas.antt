@@ -4,8 +4,8 @@ use Rattle.cf_forms.specs.Meanings.{meanings_of}
 use Rattle.cf_model.specs.States.{State}
 use Rattle.cf_model.specs.Growth.{SameShape}
 use Rattle.cf_model.proofs.Working as core
-use Rattle.cf_reading.specs.declared.func.Func.{Func}
-use Rattle.cf_reading.specs.Functions.{func_answer}
+use Rattle.cf_script_reading.specs.declared.func.Func.{Func}
+use Rattle.cf_script_reading.specs.Functions.{func_answer}
 use Rattle.cf_script.specs.Laws.{WorkLeavesNothingReady}
 use Rattle.cf_script.specs.Working.{worked}
 

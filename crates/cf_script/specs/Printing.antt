@@ -3,8 +3,8 @@ use Rattle.std.specs.Prelude.{◌≡◌, ℕ, List, Option, Result, Ok, Err, IfS
 use Rattle.std.specs.Io.KnownBytes.{Appends}
 use Rattle.std.specs.declared.alloc.Global.{Global}
 use Rattle.cf_outcome.specs.Output.{AppendsFront}
-use Rattle.cf_reading.specs.declared.fault.ReadingFault.{ReadingFault}
-use Rattle.cf_reading.specs.Scripts.{Script}
+use Rattle.cf_script_reading.specs.declared.fault.ReadingFault.{ReadingFault}
+use Rattle.cf_script_reading.specs.Scripts.{Script}
 use Rattle.cf_text.specs.declared.fault.ScriptFault.{ScriptFault}
 use Rattle.cf_text.specs.declared.fault.ScriptFault.TheVariants as faults
 use Rattle.cf_text.specs.Faults.{fault_line, fault_of_reading}

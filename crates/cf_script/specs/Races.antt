@@ -6,11 +6,11 @@ use Rattle.cf_model.specs.declared.events.Event.{Event}
 use Rattle.cf_model.specs.States.{State, start}
 use Rattle.cf_expr.specs.Expressions.{expr}
 use Rattle.cf_expr.specs.Histories.{IsPlain, IsPlainPlan, nothing_granted}
-use Rattle.cf_reading.specs.declared.script.Step.{Step}
-use Rattle.cf_reading.specs.declared.script.Step.TheVariants.{Does}
-use Rattle.cf_reading.specs.Functions.{func_answer}
-use Rattle.cf_reading.specs.Reading.{race_reading}
-use Rattle.cf_reading.specs.Scripts.{Script, opening}
+use Rattle.cf_script_reading.specs.declared.script.Step.{Step}
+use Rattle.cf_script_reading.specs.declared.script.Step.TheVariants.{Does}
+use Rattle.cf_script_reading.specs.Functions.{func_answer}
+use Rattle.cf_script_reading.specs.Reading.{race_reading}
+use Rattle.cf_script_reading.specs.Scripts.{Script, opening}
 use Rattle.cf_pool.specs.Answering.{as_meant}
 use Rattle.cf_pool.specs.Races.{IsRaced, log_words, plan_after}
 use Rattle.cf_text.specs.declared.fault.ScriptFault.{ScriptFault}

@@ -5,10 +5,10 @@ use Rattle.cf_outcome.specs.declared.outcome.Outcome.{Outcome}
 use Rattle.cf_forms.specs.Plans.{PlannedStage}
 use Rattle.cf_model.specs.States.{State, outcome_at, start}
 use Rattle.cf_model.specs.Events.{answered, told}
-use Rattle.cf_reading.specs.declared.func.Func.{Func}
-use Rattle.cf_reading.specs.declared.script.Step.{Step}
-use Rattle.cf_reading.specs.declared.script.Step.TheVariants.{Does, Asks, Work, Nudge}
-use Rattle.cf_reading.specs.Scripts.{Script, opening}
+use Rattle.cf_script_reading.specs.declared.func.Func.{Func}
+use Rattle.cf_script_reading.specs.declared.script.Step.{Step}
+use Rattle.cf_script_reading.specs.declared.script.Step.TheVariants.{Does, Asks, Work, Nudge}
+use Rattle.cf_script_reading.specs.Scripts.{Script, opening}
 use Rattle.cf_script.specs.declared.steps.StepAnswer.{StepAnswer}
 use Rattle.cf_script.specs.declared.steps.StepAnswer.TheVariants as answers
 use Rattle.cf_text.specs.Texts.{line, reply_text, settled_text, told_text}

@@ -1,7 +1,7 @@
 -- What a run gives.
 use Rattle.std.specs.Prelude.{◌≡◌, ℕ, List}
-use Rattle.cf_reading.specs.Reading.{reading}
-use Rattle.cf_reading.specs.Scripts.{Script}
+use Rattle.cf_script_reading.specs.Reading.{reading}
+use Rattle.cf_script_reading.specs.Scripts.{Script}
 use Rattle.cf_script.specs.Printing.{Given, MayGive}
 use Rattle.cf_script.specs.Reports.{report}
 

@@ -3,8 +3,8 @@ use Rattle.std.specs.Prelude.{ℕ, List}
 use Rattle.cf_forms.specs.Meanings.{meanings_of}
 use Rattle.cf_model.specs.States.{State}
 use Rattle.cf_model.specs.Working.{worked as worked_by}
-use Rattle.cf_reading.specs.declared.func.Func.{Func}
-use Rattle.cf_reading.specs.Functions.{func_answer}
+use Rattle.cf_script_reading.specs.declared.func.Func.{Func}
+use Rattle.cf_script_reading.specs.Functions.{func_answer}
 
 -- Work until nothing is ready. Each turn claims a stage, and none is claimed twice, so as many turns as there are stages
 -- are enough.

@@ -1,6 +1,6 @@
 //! Scripts: what they ask for, and what is printed.
 //!
-//! A script is a JSON text with a plan of stages, their functions, limits and steps. `cf_reading` makes it of bytes, or
+//! A script is a JSON text with a plan of stages, their functions, limits and steps. `cf_script_reading` makes it of bytes, or
 //! tells the first fault in them. This crate runs a script over a `Graph` and prints its report: a line for each step,
 //! then a line for each stage. The input is read and checked whole before anything is printed; the report is made whole
 //! in memory, and then written.
@@ -20,7 +20,7 @@ mod steps;
 
 pub use cf_plan::PlanFault;
 pub use cf_pool::{Gate, NoGate};
-pub use cf_reading::{Func, Part, ReadingFault, Script, Step, read_race, read_script};
+pub use cf_script_reading::{Func, Part, ReadingFault, Script, Step, read_race, read_script};
 pub use cf_text::ScriptFault;
 pub use race::race_script;
 pub use run::run_script;

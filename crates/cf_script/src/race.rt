@@ -1,9 +1,9 @@
 //! A whole race: from a reader's bytes to the lines of the stages that a writer gets.
 ghost use Rattle.std.specs.Prelude.{◌≡◌, ◌+◌, ◌<◌, ◌≤◌, All, IfErr, IfOk, List, ℕ, length, string_bytes};
 ghost use Rattle.cf_pool.specs.Races.{IsStep};
-ghost use Rattle.cf_reading.specs.Input.{TakesAtMost};
-ghost use Rattle.cf_reading.specs.Purposes.{IsForRace};
-ghost use Rattle.cf_reading.specs.Scripts.{IsScript, StepFits};
+ghost use Rattle.cf_script_reading.specs.Input.{TakesAtMost};
+ghost use Rattle.cf_script_reading.specs.Purposes.{IsForRace};
+ghost use Rattle.cf_script_reading.specs.Scripts.{IsScript, StepFits};
 ghost use Rattle.cf_script.specs.Reports.{stages_lines};
 ghost use Rattle.cf_script.specs.Printing.{IsInput, Prints, given_by};
 ghost use Rattle.cf_script.specs.Races.{IsRaceEnd, IsRaceRefused, RaceGives, events_of};
@@ -12,8 +12,8 @@ use crate::printing::print_given;
 use crate::report::write_stages;
 use cf_core::Graph;
 use cf_model::Event;
-use cf_pool::{Gate, RaceFault, race, share};
-use cf_reading::{MAX_BYTES, Script, Step, read_input, read_race};
+use cf_pool::{Gate, RaceFault, RaceTerms, race, share};
+use cf_script_reading::{MAX_BYTES, Script, Step, read_input, read_race};
 use cf_text::ScriptFault;
 use std::alloc::{AllocError, Global};
 use std::io::{Read, Write};
@@ -49,7 +49,13 @@ fn graph_of<R: Threads + Wait + Sync, G: Gate + Sync>(
     let (plan, room, functions, steps) = script.into_parts();
     let events = events(alloc, &steps)?;
     let hands = share(alloc, &functions, gate, workers + 1)?;
-    match race(rt, alloc, plan, room, &events, hands, workers) {
+    let terms = RaceTerms {
+        plan,
+        room,
+        steps: &events,
+        workers,
+    };
+    match race(rt, alloc, terms, hands) {
         Ok(left) => Ok(left.into_graph()),
         Err(RaceFault::NoMemory) => Err(ScriptFault::NoMemory),
         Err(RaceFault::Size) => Err(ScriptFault::RaceSize),

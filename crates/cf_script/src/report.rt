@@ -1,13 +1,13 @@
 //! The report of a script.
 ghost use Rattle.std.specs.Prelude.{◌≡◌, ◌++◌, ◌<◌, length, OnOk, IfOk, string_bytes};
 ghost use Rattle.cf_model.specs.States.{outcome_at};
-ghost use Rattle.cf_reading.specs.Scripts.{StepFits, StepsFit, extent_of};
+ghost use Rattle.cf_script_reading.specs.Scripts.{StepFits, StepsFit, extent_of};
 ghost use Rattle.cf_text.specs.Texts.{line};
 ghost use Rattle.cf_script.specs.Reports.{after_step, after_steps, report, stage_text, stages_lines, step_text, steps_lines};
 
 use crate::steps::{do_step, write_answer};
 use cf_core::Graph;
-use cf_reading::{Func, Script, Step};
+use cf_script_reading::{Func, Script, Step};
 use std::alloc::{AllocError, Global};
 
 /// Does a step, and adds its line.

@@ -1,12 +1,12 @@
 //! A whole run: from a reader's bytes to the report that a writer gets.
 ghost use Rattle.std.specs.Prelude.{List, ℕ, ◌+◌};
-ghost use Rattle.cf_reading.specs.Input.{TakesAtMost};
+ghost use Rattle.cf_script_reading.specs.Input.{TakesAtMost};
 ghost use Rattle.cf_script.specs.Printing.{IsInput, Prints, given_by};
 ghost use Rattle.cf_script.specs.Runs.{RunGives};
 
 use crate::printing::print_given;
 use crate::report::report_of;
-use cf_reading::{MAX_BYTES, read_input, read_script};
+use cf_script_reading::{MAX_BYTES, read_input, read_script};
 use cf_text::ScriptFault;
 use std::alloc::Global;
 use std::io::{Read, Write};

@@ -1,13 +1,13 @@
 //! The steps of a script, done one at a time.
 ghost use Rattle.std.specs.Prelude.{◌≡◌, ◌++◌, OnOk, length, string_bytes};
-ghost use Rattle.cf_reading.specs.Scripts.{StepFits};
+ghost use Rattle.cf_script_reading.specs.Scripts.{StepFits};
 ghost use Rattle.cf_script.specs.Reports.{after_step, answer_text, step_answer};
 ghost use Rattle.cf_script.specs.Working.{worked};
 
 use cf_core::Graph;
 use cf_forms::Each;
 use cf_model::{Reply, Told};
-use cf_reading::{Func, Step, WORKER};
+use cf_script_reading::{Func, Step, WORKER};
 use cf_text::{write_reply, write_told};
 use std::alloc::AllocError;
 

@@ -7,7 +7,7 @@ use cf_desk::{Call, Desk, DeskFault, Pass};
 use cf_forms::{Answer, Args, StageFn};
 use cf_model::{Ask, Claimed, Reply};
 use cf_outcome::Value;
-use cf_reading::Func;
+use cf_script_reading::Func;
 use std::sync::atomic::{AtomicU32, Ordering};
 use std::thread::yield_now;
 

@@ -2,8 +2,8 @@
 //!
 //! `cf_stress --callers N --log N --calls N --room N --functions N` says how many callers there are, how many words the log
 //! has, how many records a pass holds, for how many more stages there is room, and how many functions there are. Standard
-//! input has a script of the first version without steps, whose stages' functions are those of the lowest numbers, and
-//! beside it in the same object `calls`, an array of:
+//! input has a script of the first version without steps, whose stages' functions have the lowest numbers. The same object
+//! has `calls`, an array of:
 //!
 //! | Call | What is done |
 //! |---|---|
@@ -14,13 +14,13 @@
 //! | `["work"]` | up to four ready stages are claimed, and finished as their functions answer |
 //! | `["ready"]` | a look for a ready stage |
 //!
-//! They are dealt out to the callers in turn. Each caller does its own on a thread of its own, or with `--turns` one thread
-//! does them all in their order, and then the desk is closed. What is printed is the history, each pass's records and
-//! refusals in their order, and the stages' outcomes: `conformance/stress` makes what is read, and checks what comes against a
-//! model of its own. With `--history` it is one line of JSON, the history with each caller's records as `cf_look check`
-//! reads it (docs/FORMATS.md), which `conformance/closed` has judged.
+//! The calls are dealt out to the callers in turn. Each caller does its calls on a thread of its own; with `--turns` one
+//! thread does all calls in their order. Then the desk is closed, and the history is printed, with each pass's records and
+//! refusals in their order, and the stages' outcomes. `conformance/desks/stress` writes the input, and checks the output against a
+//! model of its own. With `--history` the output is one line of JSON: the history with each caller's records, in the form
+//! that `cf_look check` reads (docs/FORMATS.md). `conformance/desks/closed` has that judged.
 //!
-//! It ends with status 2 where the words are no run's, and 1 where there is no such run.
+//! It ends with status 2 if its arguments ask for no run, and with 1 if there can be no such run.
 #![tactic(auto)]
 
 mod args;
@@ -35,9 +35,9 @@ ghost use Rattle.std.specs.Prelude.{◌≡◌, All, IfOk, length, vec_len};
 
 use args::{Run, Sizes, Words, read_words};
 use caller::{Shared, take_part, take_turns};
-use cf_desk::{CloseFault, Closed, Desk, Pass};
+use cf_desk::{CloseFault, Closed, Desk, DeskGrowth, DeskSizes, Pass};
 use cf_plan::Plan;
-use cf_reading::{Func, Script, read_input, script_of};
+use cf_script_reading::{Func, Script, read_input, script_of};
 use hands::{Hand, Refusal, hands_of, parts_of};
 use history::write_history;
 use serde_json::Value as Json;
@@ -253,8 +253,16 @@ fn open(alloc: Global, plan: &Plan, sizes: Sizes) -> io::Result<(Desk, Vec<Pass>
         room,
         functions,
     } = sizes;
-    let functions = u32::from(functions);
-    match Desk::open_growing_of(alloc, plan, callers, log, calls, room, functions) {
+    let sizes = DeskSizes {
+        callers,
+        log,
+        calls,
+    };
+    let growth = DeskGrowth {
+        room,
+        functions: u32::from(functions),
+    };
+    match Desk::open_growing_of(alloc, plan, sizes, growth) {
         Ok(opened) => Ok(opened),
         Err(_) => Err(io::Error::other("the desk wasn't opened")),
     }

@@ -1,8 +1,9 @@
-//! The steps that callers do.
+//! The steps that callers do. They have a form of their own: a step never names its caller, a stage always comes first, and an attach
+//! has its form, its sources and its function one after another. So the table of a script's steps (`elements_of`) doesn't fit them.
 use cf_desk::Call;
 use cf_forms::{Answer, Form, Of};
 use cf_model::{Ask, Failure};
-use cf_reading::{large, small, value};
+use cf_script_reading::{u16_of, u32_of, value};
 use serde_json::Value as Json;
 use std::alloc::Global;
 use std::io::{Error, Result};
@@ -63,13 +64,13 @@ fn step_of(json: &Json) -> Option<Step> {
 }
 
 fn now(json: &Json) -> Option<Step> {
-    let stage = small(json.get(1usize)?)?;
+    let stage = u16_of(json.get(1usize)?)?;
     let absent = value(json.get(2usize)?)?;
     Some(Step::Asks(Ask::Now(stage, absent)))
 }
 
 fn outcome(json: &Json) -> Option<Step> {
-    let stage = small(json.get(1usize)?)?;
+    let stage = u16_of(json.get(1usize)?)?;
     Some(Step::Asks(Ask::Outcome(stage)))
 }
 
@@ -80,11 +81,11 @@ fn does(word: &str, json: &Json) -> Option<Step> {
 
 fn call(word: &str, first: &Json, json: &Json) -> Option<Call> {
     match word {
-        "tick" => Some(Call::Tick(large(first)?)),
+        "tick" => Some(Call::Tick(u32_of(first)?)),
         "attach" => attach(first, json),
-        "cancel" => Some(Call::Cancel(small(first)?)),
-        "claim" => Some(Call::Claim(small(first)?)),
-        _ => settling(word, small(first)?, json.get(2usize)?),
+        "cancel" => Some(Call::Cancel(u16_of(first)?)),
+        "claim" => Some(Call::Claim(u16_of(first)?)),
+        _ => settling(word, u16_of(first)?, json.get(2usize)?),
     }
 }
 
@@ -92,7 +93,7 @@ fn call(word: &str, first: &Json, json: &Json) -> Option<Call> {
 fn settling(word: &str, stage: u16, handed: &Json) -> Option<Call> {
     match word {
         "complete" => Some(Call::Complete(stage, value(handed)?)),
-        "fail" => Some(Call::Fail(stage, large(handed)?)),
+        "fail" => Some(Call::Fail(stage, u32_of(handed)?)),
         "failAs" => Some(Call::FailAs(stage, failure(handed)?)),
         "finish" => Some(Call::Finish(stage, answer(handed)?)),
         _ => None,
@@ -114,7 +115,7 @@ fn attach(form: &Json, json: &Json) -> Option<Call> {
     let sources = of(json.get(2usize)?)?;
     let function = match json.get(3usize) {
         None => None,
-        Some(number) => Some(small(number)?),
+        Some(number) => Some(u16_of(number)?),
     };
     Some(Call::Attach(form, sources, function))
 }
@@ -122,8 +123,8 @@ fn attach(form: &Json, json: &Json) -> Option<Call> {
 fn of(json: &Json) -> Option<Of> {
     match (json.get(0usize), json.get(1usize), json.get(2usize)) {
         (None, _, _) => Some(Of::None),
-        (Some(a), None, _) => Some(Of::One(small(a)?)),
-        (Some(a), Some(b), None) => Some(Of::Two(small(a)?, small(b)?)),
+        (Some(a), None, _) => Some(Of::One(u16_of(a)?)),
+        (Some(a), Some(b), None) => Some(Of::Two(u16_of(a)?, u16_of(b)?)),
         _ => None,
     }
 }
@@ -133,7 +134,7 @@ fn answer(json: &Json) -> Option<Answer> {
         return Some(Answer::Give(value(given)?));
     }
     if let Some(code) = json.get("throw") {
-        return Some(Answer::Throw(large(code)?));
+        return Some(Answer::Throw(u32_of(code)?));
     }
-    Some(Answer::Link(small(json.get("link")?)?))
+    Some(Answer::Link(u16_of(json.get("link")?)?))
 }

@@ -3,9 +3,9 @@ use Rattle.std.specs.Prelude.{ℕ, List, ◌++◌, codes}
 use Rattle.std.specs.Fmt.{decimal}
 use Rattle.cf_plan.specs.declared.faults.PlanFault.{PlanFault}
 use Rattle.cf_plan.specs.declared.faults.PlanFault.TheVariants as plans
-use Rattle.cf_reading.specs.Faults.{part_text}
-use Rattle.cf_reading.specs.declared.fault.ReadingFault.{ReadingFault}
-use Rattle.cf_reading.specs.declared.fault.ReadingFault.TheVariants as readings
+use Rattle.cf_script_reading.specs.Faults.{part_text}
+use Rattle.cf_script_reading.specs.declared.fault.ReadingFault.{ReadingFault}
+use Rattle.cf_script_reading.specs.declared.fault.ReadingFault.TheVariants as readings
 use Rattle.cf_text.specs.declared.fault.ScriptFault.{ScriptFault}
 use Rattle.cf_text.specs.declared.fault.ScriptFault.TheVariants as faults
 use Rattle.cf_text.specs.Texts.{line}

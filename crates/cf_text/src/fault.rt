@@ -1,12 +1,12 @@
 //! Why a script isn't done, and the line that says so.
 ghost use Rattle.std.specs.Prelude.{◌≡◌, ◌+◌, ◌++◌, ◌<◌, ◌≤◌, length};
 ghost use Rattle.std.specs.Fmt.{decimal};
-ghost use Rattle.cf_reading.specs.Faults.{part_text};
+ghost use Rattle.cf_script_reading.specs.Faults.{part_text};
 ghost use Rattle.cf_text.specs.Faults.{fault_line, fault_text, plan_number};
 
 use cf_outcome::ShortText;
 use cf_plan::PlanFault;
-use cf_reading::{Part, ReadingFault};
+use cf_script_reading::{Part, ReadingFault};
 use std::alloc::AllocError;
 use std::error::Error;
 use std::{fmt, str};
@@ -22,15 +22,15 @@ pub enum ScriptFault {
     Shape(Part),
     /// The builder of plans refused the stage, or for `NoSuchStage` and `TooManyLimits` the limit, at this position.
     Plan(PlanFault, u32),
-    /// The function of the stage at this position is none.
+    /// What stands as the function of the stage at this position is no function.
     Function(u32),
-    /// The step at this position is none, or there are more than 20,000.
+    /// What stands as the step at this position is no step, or there are more than 20,000.
     Step(u32),
     /// The reader failed, for whatever cause.
     Read,
     /// The writer failed or took no byte. Nothing more is written then.
     Write,
-    /// A growth was refused.
+    /// Memory was refused.
     NoMemory,
     /// A race of this script would need more than 65,535 words.
     RaceSize,
@@ -55,7 +55,7 @@ impl From<ReadingFault> for ScriptFault {
     }
 }
 
-/// A growth that was refused.
+/// Memory that was refused.
 impl From<AllocError> for ScriptFault {
     ghost use Rattle.cf_text.specs.declared.fault.ScriptFault.TheVariants.{NoMemory};
 
@@ -66,8 +66,8 @@ impl From<AllocError> for ScriptFault {
     }
 }
 
-/// The line of a fault, of which the longest, `fault 3 shape stage 4294967295`, has 31 bytes with its line feed. It always
-/// fits, and takes no memory, so that want of memory can be told too.
+/// The line of a fault. The longest, `fault 3 shape stage 4294967295`, has 31 bytes with its line feed. So the line always fits,
+/// and takes no memory: want of memory can be told too.
 pub fn line_of(fault: ScriptFault) -> ShortText
     ensures { result ≡ fault_line fault }
 {

@@ -1,12 +1,12 @@
-//! Texts: how what a graph replies and tells is written, and a caller's record of it; the line of a fault; and which characters of a
-//! name are shown.
+//! Texts: how replies, answers to questions and a caller's records are written, the line that tells a fault, and
+//! which characters of a name are shown.
 //!
-//! `specs/Texts.antt` has the words of replies, outcomes and what a question is told, `specs/Records.antt` an account's records,
-//! `specs/Faults.antt` the line that tells each fault of a script, and `specs/Names.antt` which characters stand in a line as they
-//! are. What is printed of a whole script is `cf_script`'s.
+//! `specs/Texts.antt` has the words of replies, of outcomes and of what a question is told, `specs/Records.antt` the
+//! records of an account, `specs/Faults.antt` the line of each fault of a script, and `specs/Names.antt` which
+//! characters stand in a line as they are. What is printed of a whole script belongs to `cf_script`.
 //!
-//! Reading answers a `ReadingFault`, of which a `ScriptFault` is made by `From`. That adds the two faults that come after
-//! reading.
+//! Reading a script gives a `ReadingFault`. `From` makes a `ScriptFault` of it, which adds the two faults that come
+//! after reading.
 #![tactic(auto)]
 
 mod fault;

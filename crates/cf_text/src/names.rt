@@ -2,8 +2,8 @@
 ghost use Rattle.std.specs.Prelude.{◌≡◌};
 ghost use Rattle.cf_text.specs.Names.{is_control, is_shown, is_turn};
 
-/// Whether the character of this number can stand in a line for people: no control character, none of Unicode's line separators,
-/// embeddings, overrides and isolates, and neither U+200E nor U+200F, which turn a line's direction, too.
+/// Whether the character of this number can stand in a line for people. That is no control character, none of Unicode's line
+/// separators, and none that turns a line's direction: its embeddings, overrides and isolates, U+200E and U+200F.
 pub fn is_shown(number: u32) -> bool
     ensures { result ≡ is_shown number }
 {

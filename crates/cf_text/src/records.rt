@@ -8,7 +8,7 @@ use cf_model::{Ask, Reply, Told};
 use cf_outcome::Value;
 use std::alloc::AllocError;
 
-/// Adds the record of a changing call: the place of its event, the event's word, and what it was answered.
+/// Adds the record of a changing call: the place of its event, the event's word, and the answer.
 pub fn write_did(text: &mut String, place: usize, word: u64, reply: Reply) -> Result<(), AllocError>
     ensures { OnOk result
         (string_bytes text.new ≡ string_bytes text.old ++ did_text place word reply) }
@@ -18,7 +18,7 @@ pub fn write_did(text: &mut String, place: usize, word: u64, reply: Reply) -> Re
     write!(text, "\"]")
 }
 
-/// Adds the record of a question: behind how many events it was asked, what, and what it was told.
+/// Adds the record of a question: after how many events it was asked, what was asked, and what was told.
 pub fn write_saw(text: &mut String, place: usize, ask: Ask, told: Told) -> Result<(), AllocError>
     ensures { OnOk result
         (string_bytes text.new ≡ string_bytes text.old ++ saw_text place ask told) }

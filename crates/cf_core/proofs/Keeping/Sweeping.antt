@@ -22,7 +22,8 @@ use Rattle.cf_core.specs.Keeping.Links.{IsFree, list_at}
 use Rattle.cf_model.specs.Calling.{AreRun, CallsOf, Runs}
 use Rattle.cf_core.specs.Keeping.Serving.{ServesOnce}
 use Rattle.cf_core.specs.Keeping.Sound.{AreTreated, IsSound, StayTaken, is_bound, is_waiting, kept_at, links_after, mark_all, mark_one, marks_after, settled_view}
-use Rattle.cf_core.specs.Keeping.Sweeps.{AreServed, AreSwept, IsReadyWith, IsSwept, Serves, Visits, ready_with, turns_after}
+use Rattle.cf_core.specs.Keeping.Sweeps.{AreServed, AreSwept, IsReadyWith, IsSwept, Serves, Visits, turns_after}
+use Rattle.cf_core.specs.Keeping.Taking.{ready_with}
 use Rattle.cf_core.specs.Keeping.Offers.{args_of}
 use Rattle.cf_core.specs.Keeping.Turns.{planned_at}
 use Rattle.cf_core.proofs.Keeping.Lowest.{all_flags, flag_at, get_is, ready_first, ready_none}

@@ -1,5 +1,5 @@
 -- A stage that is attached to stages that were all treated.
-use Rattle.std.specs.Prelude.{◌≡◌, ℕ, ◌+◌, Bool, ◌||◌, is_some, List, [], ◌∷◌, ◌++◌, length, map}
+use Rattle.std.specs.Prelude.{◌≡◌, ℕ, ◌+◌, Bool, ◌||◌, is_some, List, [], ◌∷◌, ◌++◌, length, if◌then◌else◌}
 use Rattle.std.specs.List.{list_any}
 use Rattle.cf_forms.specs.declared.forms.Due.{Due}
 use Rattle.cf_forms.specs.declared.forms.Form.{Form}
@@ -9,12 +9,13 @@ use Rattle.cf_model.specs.declared.stage.Stage.{Stage}
 use Rattle.cf_model.specs.declared.stage.Stage.TheVariants.{Pending, Settled}
 use Rattle.cf_model.specs.States.{new_states}
 use Rattle.cf_core.specs.declared.kept.KeptStage.{KeptStage}
-use Rattle.cf_core.specs.Keeping.Treatment.{all_treated, dated_in, due_kept, outcome_part}
+use Rattle.cf_core.specs.declared.stages.Stages.{Stages}
+use Rattle.cf_core.specs.Keeping.Treatment.{all_treated, due_kept, outcomes_in}
 use Rattle.cf_core.specs.Keeping.Sound.{kept_at, settled_view}
 
 -- what a stage does by what its sources have now, in argument order
 abbrev pub due_now : List KeptStage → Form → List ℕ → Due
-due_now kept form sources = follows form (map outcome_part (map (dated_in kept) sources))
+due_now kept form sources = follows form (outcomes_in kept sources)
 
 -- the stage, attached in this step
 abbrev pub attached_kept : List KeptStage → Form → List ℕ → ℕ → KeptStage
@@ -29,7 +30,11 @@ AttachingIsAfter =
 
 -- whether a stage that is attached takes something: it starts by itself, or one of its sources is settled
 abbrev pub takes_now : List KeptStage → Form → List ℕ → Bool
-takes_now kept form sources = starts form sources || list_any is_some (map outcome_part (map (dated_in kept) sources))
+takes_now kept form sources = starts form sources || list_any is_some (outcomes_in kept sources)
+
+-- how many turns there were once it is attached
+abbrev pub turns_attached : Stages → Form → List ℕ → ℕ
+turns_attached s form sources = s.turns + (if takes_now s.kept.items form sources then 1 else 0)
 
 -- how many of these sources aren't settled
 abbrev pub open_one : Stage → ℕ

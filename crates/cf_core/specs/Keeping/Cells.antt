@@ -7,6 +7,8 @@ use Rattle.cf_outcome.specs.declared.outcome.Cause.TheVariants as causes
 use Rattle.cf_outcome.specs.declared.outcome.Outcome.{Outcome}
 use Rattle.cf_outcome.specs.declared.outcome.Outcome.TheVariants as outcomes
 use Rattle.cf_forms.specs.declared.forms.Args.TheVariants as arguments
+use Rattle.cf_forms.specs.declared.forms.Form.{Form}
+use Rattle.cf_forms.specs.Forms.{due_one}
 use Rattle.cf_model.specs.declared.stage.Stage.{Stage}
 use Rattle.cf_model.specs.declared.stage.Stage.TheVariants as stages
 use Rattle.cf_core.specs.declared.kept.KeptStage.{KeptStage}
@@ -15,6 +17,7 @@ use Rattle.cf_core.specs.declared.cell.Kind.TheVariants as kinds
 use Rattle.cf_core.specs.declared.cell.Detail.{Detail}
 use Rattle.cf_core.specs.declared.cell.Detail.TheVariants as details
 use Rattle.cf_core.specs.declared.cell.Cell.{Cell}
+use Rattle.cf_core.specs.Keeping.Treatment.{due_kept}
 
 -- what is kept of the stages, and for how many there is room
 pub record KeptStages : Type 0 where
@@ -39,6 +42,13 @@ outcome_in details.Cancelled flag number payload = outcomes.Fault causes.Cancell
 outcome_in details.TimedOut flag number payload = outcomes.Fault causes.TimedOut flag
 outcome_in details.BadAnswer flag number payload = outcomes.Fault causes.BadAnswer flag
 
+-- the outcome that a cell keeps, and the same outcome wrapped
+abbrev pub outcome_of_cell : Cell → Outcome
+outcome_of_cell c = outcome_in c.detail c.flag c.number c.payload
+
+abbrev pub wrapped_of_cell : Cell → Outcome
+wrapped_of_cell c = outcome_in c.detail true c.number c.payload
+
 abbrev pub stage_in : Kind → Detail → Bool → ℤ → ℕ → Stage
 stage_in kinds.Pending detail flag number payload = stages.Pending
 stage_in kinds.Linked detail flag number payload = stages.Linked (payload % 65536)
@@ -51,6 +61,10 @@ stage_in kinds.Settled detail flag number payload = stages.Settled (outcome_in d
 
 abbrev pub kept_of : Cell → KeptStage
 kept_of c = record { stage = stage_in c.kind c.detail c.flag c.number c.payload; step = c.step }
+
+-- a pending stage, by its own step, once it has taken what its one source keeps, which has settled
+abbrev pub taken_from : Form → Cell → ℕ → KeptStage
+taken_from form from step = due_kept (due_one form (outcome_of_cell from)) from.step step
 
 -- a cell of a pending stage
 abbrev pub blank : Cell

@@ -1,5 +1,5 @@
 -- A sweep that stops at each function, and goes on.
-use Rattle.std.specs.Prelude.{◌≡◌, ◌+◌, ◌<◌, ◌≤◌, ℕ, List, None, Some, Option, length, slice_get}
+use Rattle.std.specs.Prelude.{◌≡◌, ◌+◌, ◌<◌, ◌≤◌, ℕ, List, None, Some, Option, length, slice_get, unwrap_or}
 use Rattle.cf_forms.specs.Plans.{IsGrowing, Planned, PlannedStage, function_at}
 use Rattle.cf_forms.specs.declared.forms.Answer.{Answer}
 use Rattle.cf_forms.specs.declared.forms.Args.{Args}
@@ -29,6 +29,10 @@ pub record StopsAt (s : State) (stop : Stop) : Type 0 where
 -- the state once a stage is claimed and finished by a caller
 abbrev pub served_by : ℕ → State → ℕ → Answer → State
 served_by who s i answer = (answered ((answered s (Claims who i)).1) (Finishes who i answer)).1
+
+-- the stage that a sweep stands at is claimed and finished, by whichever caller
+abbrev pub LandsAnswer : Sweep → Answer → Sweep → Type 0
+LandsAnswer old answer new = (who : ℕ) → new.state ≡ served_by who old.state (unwrap_or old.stands 0) answer
 
 -- the stages behind a sweep are served, and the next one is ready with these arguments, if there are any
 abbrev pub IsAt : List PlannedStage → ℕ → Option Args → Stages → Type 0

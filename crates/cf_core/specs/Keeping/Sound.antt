@@ -40,9 +40,13 @@ abbrev pub mark_all : List KeptStage → List ℕ → List Bool → List Bool
 mark_all kept [] marks = marks
 mark_all kept (i ∷ stages) marks = mark_all kept stages (mark_one kept i marks)
 
+-- the marks once stage d has settled: its dependents and the stages linked to it are marked, where they wait
+abbrev pub marks_settled : List PlannedStage → List KeptStage → List (List ℕ) → List Bool → ℕ → List Bool
+marks_settled plan kept links marks d = mark_all kept (list_at links d) (mark_all kept (dependents_of plan d) marks)
+
 -- the marks once stage d is written: a settled stage marks its dependents and the stages linked to it
 abbrev pub marks_after : List PlannedStage → List KeptStage → List (List ℕ) → List Bool → ℕ → Stage → List Bool
-marks_after plan kept links marks d (Settled o) = mark_all kept (list_at links d) (mark_all kept (dependents_of plan d) marks)
+marks_after plan kept links marks d (Settled o) = marks_settled plan kept links marks d
 marks_after plan kept links marks d stage = marks
 
 -- the lists of linked stages then

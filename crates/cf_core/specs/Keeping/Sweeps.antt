@@ -3,12 +3,12 @@ use Rattle.std.specs.Prelude.{◌≡◌, ◌+◌, ℕ, if◌then◌else◌, Bool
 use Rattle.cf_forms.specs.Plans.{PlannedStage}
 use Rattle.cf_forms.specs.declared.forms.Args.{Args}
 use Rattle.cf_model.specs.declared.stage.Stage.{Stage}
-use Rattle.cf_model.specs.declared.stage.Stage.TheVariants.{Ready}
 use Rattle.cf_core.specs.declared.kept.KeptStage.{KeptStage}
 use Rattle.cf_core.specs.declared.stages.Stages.{Stages}
 use Rattle.cf_model.specs.Calling.{CallsOf}
 use Rattle.cf_core.specs.Keeping.Serving.{ServesOnce}
-use Rattle.cf_core.specs.Keeping.Sound.{AreTreated, IsSound, is_waiting, kept_at, settled_view}
+use Rattle.cf_core.specs.Keeping.Sound.{AreTreated, IsSound, is_waiting, settled_view}
+use Rattle.cf_core.specs.Keeping.Taking.{ready_with}
 
 -- The first n stages are treated, and of the first m none is ready, with the marks and the ready stages that there would
 -- be if each had been treated and served by calls.
@@ -22,13 +22,13 @@ pub record IsSwept (plan : List PlannedStage) (n m : ℕ) (kept : List KeptStage
 abbrev pub AreSwept : List PlannedStage → ℕ → ℕ → Stages → Type 0
 AreSwept plan n m s = IsSwept plan n m s.kept.items s.links s.steps s.turns
 
+-- all stages are behind the sweep
+abbrev pub AreAllSwept : List PlannedStage → Stages → Type 0
+AreAllSwept plan s = AreSwept plan (length plan) (length plan) s
+
 -- how many turns there were once a stage that waited is treated, by what it is then
 abbrev pub turns_after : ℕ → Stage → ℕ
 turns_after turns stage = if is_waiting stage then turns else turns + 1
-
--- stage m with these arguments, as if it were written
-abbrev pub ready_with : List KeptStage → ℕ → Args → List KeptStage
-ready_with kept m args = slice_set kept m (record { stage = Ready args; step = (kept_at kept m).step })
 
 -- stage m of a sweep is ready with these arguments, whether it is written as that or not
 pub record IsReadyWith (plan : List PlannedStage) (m : ℕ) (args : Args) (s : Stages) : Type 0 where

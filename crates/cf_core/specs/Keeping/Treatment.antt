@@ -3,6 +3,7 @@ use Rattle.std.specs.Prelude.{◌≡◌, ℕ, ◌+◌, ◌≤◌, Option, Some, 
 use Rattle.std.specs.Option.{option_map, option_map_or}
 use Rattle.cf_outcome.specs.declared.outcome.Outcome.{Outcome}
 use Rattle.cf_outcome.specs.Outcomes.{wrap}
+use Rattle.cf_forms.specs.declared.forms.Args.{Args}
 use Rattle.cf_forms.specs.declared.forms.Form.{Form}
 use Rattle.cf_forms.specs.declared.forms.Due.{Due}
 use Rattle.cf_forms.specs.declared.forms.Due.TheVariants.{Waits, Settles, Needs}
@@ -38,6 +39,10 @@ latest (x ∷ q) = max (option_map_or (λ y. y.1) x 0) (latest q)
 abbrev pub outcome_part : Option (Outcome × ℕ) → Option Outcome
 outcome_part x = option_map (λ y. y.0) x
 
+-- the outcomes of these sources
+abbrev pub outcomes_in : List KeptStage → List ℕ → List (Option Outcome)
+outcomes_in kept sources = map outcome_part (map (dated_in kept) sources)
+
 abbrev pub step_part : Option (Outcome × ℕ) → ℕ
 step_part x = option_map_or (λ y. y.1) x 0
 
@@ -47,6 +52,14 @@ late_due form q =
     if is_decided_by_first form then (due_of_first form (outcome_part (earliest q)), step_part (earliest q))
     else (follows form (map outcome_part q), latest q)
 
+-- a stage that settled at this step, and one that is ready
+abbrev pub settled_kept : Outcome → ℕ → KeptStage
+settled_kept o step = record { stage = Settled o; step = step }
+
+abbrev pub ready_kept : Args → ℕ → KeptStage
+ready_kept args step = record { stage = Ready args; step = step }
+
+-- a pending stage, by its own step, once it has taken what is due, at the step at which that is
 abbrev pub due_kept : Due → ℕ → ℕ → KeptStage
 due_kept Waits at step = record { stage = Pending; step = step }
 due_kept (Settles o) at step = record { stage = Settled o; step = at }

@@ -1,24 +1,24 @@
 //! Any call, as an event that is answered or a question that is told.
-ghost use Rattle.std.specs.Prelude.{◌≡◌, ◌≤◌, ◌↔◌, IsTrue, length};
+ghost use Rattle.std.specs.Prelude.{◌≡◌, ◌↔◌, IsTrue, length};
 ghost use Rattle.cf_model.specs.Events.{answered, told};
-ghost use Rattle.cf_model.specs.Graphs.{MovesOwn, NoneLeftUpTo, Rests, asked_stage, most_turns};
+ghost use Rattle.cf_model.specs.Graphs.{CountsTurns, MovesOwn, NoneLeftUpTo, Rests, asked_stage};
 ghost use Rattle.cf_model.specs.Ranges.{AskFits, EventFits};
 
 use crate::graph::Graph;
 use cf_model::{Ask, Event, Reply, Told};
 
 impl Graph {
-    /// Does an event, and gives its reply. The stages that it names are there, and a stage that it attaches fits its form.
+    /// Does an event, and gives its reply. The stages that it names are there, and a stage that it attaches fits its
+    /// form.
     ///
-    /// It stands in its callers' own code, which often know the kind of the event.
+    /// It is inlined into its callers, which often know the kind of the event.
     #[inline(always)]
     pub fn answer(&mut self, e: &Event) -> Reply
         requires { EventFits (length self.old.state.plan.stages) e.now }
         ensures told { (result, self.new.state) ≡ answered self.old.state e.now }
         ensures rests { Rests e.now self.old self.new }
         ensures alone { MovesOwn e.now self.old self.new }
-        ensures counted { self.old.turns ≤ self.new.turns }
-        ensures few { self.new.turns ≤ most_turns self.new.state.plan.stages }
+        ensures counted { CountsTurns self.old self.new }
     {
         match *e {
             Event::Complete { stage, value, .. } => Reply::Flag(self.complete(stage, value)),
@@ -37,7 +37,8 @@ impl Graph {
         }
     }
 
-    /// Whether it takes an event: the stages that it names are there, and one that it attaches fits its form.
+    /// Whether the graph takes an event: the stages that the event names are there, and a stage that it attaches fits its
+    /// form.
     #[inline(always)]
     pub fn takes(&self, e: &Event) -> bool
         ensures { IsTrue result ↔ EventFits (length self.now.state.plan.stages) e.now }
@@ -45,14 +46,13 @@ impl Graph {
         e.fits(self.stages())
     }
 
-    /// Tells what is asked. The stage that is asked about is in the plan.
+    /// Answers a question about a stage of the plan.
     pub fn tell(&mut self, a: Ask) -> Told
         requires { AskFits (length self.old.state.plan.stages) a }
         ensures told { result ≡ told self.old.state a }
         ensures unchanged { self.new.state ≡ self.old.state }
         ensures rests { NoneLeftUpTo (asked_stage a) self.old.left → self.new ≡ self.old }
-        ensures counted { self.old.turns ≤ self.new.turns }
-        ensures few { self.new.turns ≤ most_turns self.new.state.plan.stages }
+        ensures counted { CountsTurns self.old self.new }
     {
         match a {
             Ask::Now(i, absent) => Told::Now(self.now(i, absent)),

@@ -1,8 +1,8 @@
 //! The call by which a graph grows.
-ghost use Rattle.std.specs.Prelude.{◌≡◌, ◌<◌, ◌≤◌, All, is_some, length, true};
+ghost use Rattle.std.specs.Prelude.{◌≡◌, ◌<◌, All, is_some, length, true};
 ghost use Rattle.cf_forms.specs.Plans.{attached_stage, fits_form, sources_of};
 ghost use Rattle.cf_model.specs.Events.{attaching};
-ghost use Rattle.cf_model.specs.Graphs.{MovesOnly, RestsAttaching, most_turns};
+ghost use Rattle.cf_model.specs.Graphs.{CountsTurns, MovesOnly, RestsAttaching};
 
 use crate::graph::Graph;
 use cf_forms::{Form, Of};
@@ -19,8 +19,7 @@ impl Graph {
         ensures told { (result, self.new.state) ≡ attaching self.old.state (attached_stage form of function) }
         ensures rests { RestsAttaching form (sources_of of) self.old self.new }
         ensures alone { MovesOnly (length self.old.state.plan.stages) self.old self.new }
-        ensures counted { self.old.turns ≤ self.new.turns }
-        ensures few { self.new.turns ≤ most_turns self.new.state.plan.stages }
+        ensures counted { CountsTurns self.old self.new }
     {
         if self.plan.room() == 0 {
             return Attached::StagesFull;

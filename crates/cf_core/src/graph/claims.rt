@@ -1,13 +1,12 @@
 //! The calls by which a caller takes a stage's function and hands in its answer.
-ghost use Rattle.std.specs.Prelude.{◌≡◌, ℕ, ◌+◌, ◌<◌, ◌≤◌, ◌==◌, None, false, length, option_and_then, slice_get, unwrap_or};
+ghost use Rattle.std.specs.Prelude.{◌≡◌, ℕ, ◌+◌, ◌<◌, ◌==◌, None, false, length, slice_get, unwrap_or};
 ghost use Rattle.std.specs.Option.{option_map_or};
-ghost use Rattle.cf_forms.specs.Forms.{landing};
-ghost use Rattle.cf_forms.specs.Plans.{form_at, sources_at};
-ghost use Rattle.cf_model.specs.States.{State, is_ready, outcome_in};
+ghost use Rattle.cf_model.specs.States.{State, is_ready};
 ghost use Rattle.cf_model.specs.Events.{claimed_by, claiming, finishing};
 ghost use Rattle.cf_core.specs.Keeping.SoundStages.{settled_view_of};
 ghost use Rattle.cf_core.specs.Keeping.Sweeps.{AreSwept};
-ghost use Rattle.cf_model.specs.Graphs.{MovesOnly, RestsUpTo, most_turns};
+ghost use Rattle.cf_model.specs.Graphs.{CountsTurns, MovesOnly, RestsUpTo};
+ghost use Rattle.cf_core.specs.Keeping.Landings.{landing_at};
 
 use crate::graph::Graph;
 use crate::stages::Stages;
@@ -16,18 +15,17 @@ use cf_model::{Claimed, Finished, Stage};
 use cf_plan::GrowingPlan;
 
 impl Graph {
-    /// Hands a ready stage's arguments to a caller, whose claim is open from then until its first finish of the stage, also
-    /// if the stage settles in between.
+    /// Grants a caller's claim of a ready stage, and hands over the arguments. The claim stays open until the caller
+    /// first finishes the stage, even if the stage settles in between.
     ///
-    /// It stands in its callers' own code, as `finish` does, since a worker's round is little more than these two.
+    /// It is inlined into its callers, as `finish` is, since a worker's round is little more than these two.
     #[inline(always)]
     pub fn claim(&mut self, who: u8, i: u16) -> Claimed
         requires { i < length self.old.state.plan.stages }
         ensures told { (result, self.new.state) ≡ claiming self.old.state who i }
         ensures rests { RestsUpTo i self.old self.new }
         ensures alone { MovesOnly i self.old self.new }
-        ensures counted { self.old.turns ≤ self.new.turns }
-        ensures few { self.new.turns ≤ most_turns self.new.state.plan.stages }
+        ensures counted { CountsTurns self.old self.new }
     {
         if self.stages.outcome(i).is_some() {
             return Claimed::Settled;
@@ -50,8 +48,7 @@ impl Graph {
         ensures told { (result, self.new.state) ≡ finishing self.old.state who i answer }
         ensures rests { RestsUpTo i self.old self.new }
         ensures alone { MovesOnly i self.old self.new }
-        ensures counted { self.old.turns ≤ self.new.turns }
-        ensures few { self.new.turns ≤ most_turns self.new.state.plan.stages }
+        ensures counted { CountsTurns self.old self.new }
     {
         self.stages.treat_up_to(&self.plan, i);
         if !has_claim(&self.claims, who, i) {
@@ -69,7 +66,7 @@ impl Graph {
     }
 }
 
-/// What a claim of a stage is told that isn't ready.
+/// What a claim is told where the stage isn't ready.
 #[inline(always)]
 fn refusal(stage: Stage) -> Claimed
     requires { is_ready stage ≡ false }
@@ -96,7 +93,7 @@ fn has_claim(claims: &[Option<u8>], who: u8, i: u16) -> bool
 pub(super) fn landing_of(stages: &Stages, plan: &GrowingPlan, i: u16, answer: Answer) -> Landing
     requires treated { AreSwept plan.now.stages (i + 1) 0 stages.now }
     requires stage { i < length plan.now.stages }
-    ensures { result ≡ landing (form_at plan.now.stages i) i (option_and_then (outcome_in (settled_view_of plan.now.stages stages.now)) (slice_get (sources_at plan.now.stages i) 0)) answer }
+    ensures { result ≡ landing_at plan.now.stages (settled_view_of plan.now.stages stages.now) i answer }
 {
     match plan.form(i) {
         Form::WhenComplete => landing(Form::WhenComplete, i, stages.source(plan, i), answer),

@@ -1,12 +1,11 @@
 //! A graph that is lent to a sweep, which stops at each function and goes on.
-ghost use Rattle.std.specs.Prelude.{◌≡◌, ℕ, ◌≤◌, ◌<◌, ◌↔◌, IfNone, IfSome, IsTrue, None, Some, is_some, length, option_map, position, slice_get, true, unwrap_or};
-ghost use Rattle.cf_model.specs.declared.stage.Stage.TheVariants.{Ready};
+ghost use Rattle.std.specs.Prelude.{◌≡◌, ◌≤◌, ◌<◌, ◌↔◌, IfNone, IfSome, IsTrue, None, Some, is_some, length, option_map, true};
 ghost use Rattle.cf_core.specs.declared.graph.lending.Stop.{Stop};
-ghost use Rattle.cf_model.specs.States.{is_ready, lowest_ready_of};
+ghost use Rattle.cf_model.specs.States.{lowest_ready_of};
 ghost use Rattle.cf_core.specs.Keeping.Sound.{StayTaken};
-ghost use Rattle.cf_core.specs.Keeping.SoundStages.{SameRoom, settled_view_of};
-ghost use Rattle.cf_core.specs.Keeping.Sweeps.{AreSwept, IsReadyWith};
-ghost use Rattle.cf_core.specs.Keeping.Lending.{StopsAt, served_by};
+ghost use Rattle.cf_core.specs.Keeping.SoundStages.{IsReadyIn, SameRoom, SameView, lowest_ready_in};
+ghost use Rattle.cf_core.specs.Keeping.Sweeps.{AreAllSwept, AreSwept, IsReadyWith};
+ghost use Rattle.cf_core.specs.Keeping.Lending.{LandsAnswer, StopsAt};
 
 use crate::graph::Graph;
 use crate::graph::sweeping::land_next;
@@ -25,7 +24,8 @@ pub struct Stop {
 
 /// A graph in a sweep. It goes up through all stages once, and stops at each that is ready, until its function has answered.
 ///
-/// A contract sees the graph's state, how many turns were taken, how many stages it has behind it, and at which it stands.
+/// A contract sees the graph's state, how many turns were taken, how many stages are behind the sweep, and at which
+/// stage it stands.
 #[derive(Drop)]
 pub struct Sweep {
     plan: GrowingPlan,
@@ -47,7 +47,18 @@ impl Model for Sweep {
     ghost use Rattle.cf_core.specs.Keeping.SoundStages.{settled_view_of};
     ghost use Rattle.cf_core.specs.Keeping.Lending.{IsUnderWay};
 
-    ghost view = { λ g. record { state = record { plan = g.plan; stages = settled_view_of g.plan.stages g.stages; claims = g.claims.items; moment = g.moment; used = g.used }; turns = g.stages.turns; behind = g.behind; stands = option_map (λ x. g.behind) g.args } };
+    ghost view = { λ g. record {
+      state = record {
+        plan = g.plan;
+        stages = settled_view_of g.plan.stages g.stages;
+        claims = g.claims.items;
+        moment = g.moment;
+        used = g.used;
+      };
+      turns = g.stages.turns;
+      behind = g.behind;
+      stands = option_map (λ x. g.behind) g.args;
+    } };
 
     ghost invariant = { λ g. IsUnderWay g.plan g.stages g.claims.items (vec_capacity g.claims) g.used g.behind g.args };
 }
@@ -121,7 +132,7 @@ impl Sweep {
     #[inline(always)]
     pub fn land(&mut self, answer: Answer)
         requires stands { is_some self.old.stands ≡ true }
-        ensures landed { (who : ℕ) → self.new.state ≡ served_by who self.old.state (unwrap_or self.old.stands 0) answer }
+        ensures landed { LandsAnswer self.old answer self.new }
         ensures free { self.new.stands ≡ None }
         ensures counted { self.old.turns ≤ self.new.turns }
     {
@@ -170,18 +181,19 @@ impl Sweep {
     }
 }
 
-/// Goes up from a stage on, and treats each, to the first that is ready. It says which that is, and what its function is to be called with.
+/// Goes up from a stage on, and treats each stage, up to the first that is ready. It says which stage that is, and what
+/// its function is to be called with.
 #[inline(always)]
 fn go_on(stages: &mut Stages, plan: &GrowingPlan, from: u16) -> Option<(u16, Args)>
     requires swept { AreSwept plan.now.stages from from stages.old }
     requires within { from ≤ length plan.now.stages }
     ensures there { IfSome result (λ found. found.0 < length plan.now.stages) }
     ensures with_args { IfSome result (λ found. IsReadyWith plan.now.stages found.0 found.1 stages.new) }
-    ensures lowest { IfSome result (λ found. position is_ready (settled_view_of plan.now.stages stages.new) ≡ Some found.0) }
-    ensures ready { IfSome result (λ found. slice_get (settled_view_of plan.now.stages stages.new) found.0 ≡ Some (Ready found.1)) }
-    ensures none { IfNone result (position is_ready (settled_view_of plan.now.stages stages.new) ≡ None) }
-    ensures swept { IfNone result (AreSwept plan.now.stages (length plan.now.stages) (length plan.now.stages) stages.new) }
-    ensures same { settled_view_of plan.now.stages stages.new ≡ settled_view_of plan.now.stages stages.old }
+    ensures lowest { IfSome result (λ found. lowest_ready_in plan.now.stages stages.new ≡ Some found.0) }
+    ensures ready { IfSome result (λ found. IsReadyIn plan.now.stages stages.new found.0 found.1) }
+    ensures none { IfNone result (lowest_ready_in plan.now.stages stages.new ≡ None) }
+    ensures swept { IfNone result (AreAllSwept plan.now.stages stages.new) }
+    ensures same { SameView plan.now.stages stages.old stages.new }
     ensures taken { StayTaken stages.old.kept.items stages.new.kept.items }
     ensures counted { stages.old.turns ≤ stages.new.turns }
     ensures room { SameRoom stages.old stages.new }

@@ -1,8 +1,8 @@
 //! The call by which time passes.
-ghost use Rattle.std.specs.Prelude.{◌≡◌, ◌+◌, ◌<◌, ◌≤◌, Some, drop, length, nat_le, slice_get, take};
+ghost use Rattle.std.specs.Prelude.{◌≡◌, ◌+◌, ◌<◌, ◌≤◌, Some, length, nat_le, slice_get};
 ghost use Rattle.std.specs.List.{prefix_len};
-ghost use Rattle.cf_model.specs.Events.{due_limits, firing, limit_outcome, settling, ticking};
-ghost use Rattle.cf_model.specs.Graphs.{MovesOnly, RestsForLimits, RestsUpTo, most_turns};
+ghost use Rattle.cf_model.specs.Events.{due_limits, firing, limit_outcome, next_limits, settling, ticking};
+ghost use Rattle.cf_model.specs.Graphs.{CountsTurns, MovesOnly, RestsForLimits, RestsUpTo, advanced, most_turns};
 
 use crate::graph::Graph;
 use cf_forms::{Limit, LimitKind};
@@ -10,14 +10,14 @@ use cf_model::Ticked;
 use cf_outcome::{Cause, Outcome};
 
 impl Graph {
-    /// Lets it be moment `now`, unless it was later already. Each limit with a moment up to then that wasn't used before is
-    /// used, in firing order, each in a step of its own: it settles its stage, unless that is settled by then
-    /// (`CompletableFuture.orTimeout`, `completeOnTimeout`). The answer says how many settled their stage.
+    /// Lets time pass up to moment `now`. A moment before the present one changes nothing. Each limit that is due by
+    /// then and wasn't used before is used, in firing order, each in a step of its own: it settles its stage, unless
+    /// the stage has settled before (`CompletableFuture.orTimeout`, `completeOnTimeout`). The answer says how many
+    /// limits settled their stage.
     pub fn tick(&mut self, now: u32) -> Ticked
         ensures told { (result, self.new.state) ≡ ticking self.old.state now }
         ensures rests { RestsForLimits (due_limits self.old.state now) self.old self.new }
-        ensures counted { self.old.turns ≤ self.new.turns }
-        ensures few { self.new.turns ≤ most_turns self.new.state.plan.stages }
+        ensures counted { CountsTurns self.old self.new }
     {
         if now < self.moment {
             return Ticked::Past;
@@ -32,7 +32,7 @@ impl Graph {
     pub(super) fn due(&self, now: u32) -> usize
         ensures within { self.now.state.used + result ≤ length self.now.state.plan.limits }
         ensures count { result ≡ length (due_limits self.now.state now) }
-        ensures first { take result (drop self.now.state.used self.now.state.plan.limits) ≡ due_limits self.now.state now }
+        ensures first { next_limits result self.now.state ≡ due_limits self.now.state now }
     {
         due_count(&self.plan.limits()[self.used..], now)
     }
@@ -40,8 +40,8 @@ impl Graph {
     /// Fires this many limits, from the first unused one on, and says how many settled their stage.
     fn fire_next(&mut self, count: usize) -> u16
         requires { self.old.state.used + count ≤ length self.old.state.plan.limits }
-        ensures fired { (result, self.new.state) ≡ firing 0 self.old.state (take count (drop self.old.state.used self.old.state.plan.limits)) }
-        ensures rests { RestsForLimits (take count (drop self.old.state.used self.old.state.plan.limits)) self.old self.new }
+        ensures fired { (result, self.new.state) ≡ firing 0 self.old.state (next_limits count self.old.state) }
+        ensures rests { RestsForLimits (next_limits count self.old.state) self.old self.new }
         ensures counted { self.old.turns ≤ self.new.turns }
         ensures plan { self.new.state.plan ≡ self.old.state.plan }
         ensures used { self.new.state.used ≡ self.old.state.used }
@@ -56,7 +56,7 @@ impl Graph {
         fired
     }
 
-    /// The limit that stands so far behind the first unused one.
+    /// The limit that is `k` places behind the first unused one.
     pub(super) fn unused(&self, k: usize) -> Limit
         requires { self.now.state.used + k < length self.now.state.plan.limits }
         ensures limit { slice_get self.now.state.plan.limits (self.now.state.used + k) ≡ Some result }
@@ -69,7 +69,7 @@ impl Graph {
     /// The moment is `now`, and this many more limits are used.
     pub(super) fn advance(&mut self, now: u32, count: usize)
         requires { self.old.state.used + count ≤ length self.old.state.plan.limits }
-        ensures advanced { self.new ≡ record self.old { state = record self.old.state { moment = now; used = self.old.state.used + count } } }
+        ensures advanced { self.new ≡ advanced self.old now count }
         ensures few { self.new.turns ≤ most_turns self.new.state.plan.stages }
     {
         self.moment = now;

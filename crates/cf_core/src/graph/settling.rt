@@ -1,9 +1,9 @@
 //! The calls that settle a stage directly.
-ghost use Rattle.std.specs.Prelude.{◌≡◌, ◌<◌, ◌≤◌, false, length};
+ghost use Rattle.std.specs.Prelude.{◌≡◌, ◌<◌, false, length};
 ghost use Rattle.cf_outcome.specs.declared.outcome.Outcome.TheVariants.{Value as Gives, Fault};
 ghost use Rattle.cf_outcome.specs.declared.outcome.Cause.TheVariants.{Thrown};
 ghost use Rattle.cf_model.specs.Events.{cancelling, cause_of, settling};
-ghost use Rattle.cf_model.specs.Graphs.{MovesOnly, RestsUpTo, most_turns};
+ghost use Rattle.cf_model.specs.Graphs.{CountsTurns, MovesOnly, RestsUpTo};
 
 use crate::graph::Graph;
 use cf_model::Failure;
@@ -13,15 +13,14 @@ impl Graph {
     /// Settles a stage of any form with a value, unless it is settled, and says whether it did
     /// (`CompletableFuture.complete`).
     ///
-    /// It stands in its callers' own code, since whoever starts a graph completes many sources in a row.
+    /// It is inlined into its callers, since whoever starts a graph completes many sources in a row.
     #[inline(always)]
     pub fn complete(&mut self, i: u16, v: Value) -> bool
         requires { i < length self.old.state.plan.stages }
         ensures told { (result, self.new.state) ≡ settling self.old.state i (Gives v) }
         ensures rests { RestsUpTo i self.old self.new }
         ensures alone { MovesOnly i self.old self.new }
-        ensures counted { self.old.turns ≤ self.new.turns }
-        ensures few { self.new.turns ≤ most_turns self.new.state.plan.stages }
+        ensures counted { CountsTurns self.old self.new }
     {
         self.settle(i, Outcome::Value(v))
     }
@@ -33,8 +32,7 @@ impl Graph {
         ensures told { (result, self.new.state) ≡ settling self.old.state i (Fault (Thrown code) false) }
         ensures rests { RestsUpTo i self.old self.new }
         ensures alone { MovesOnly i self.old self.new }
-        ensures counted { self.old.turns ≤ self.new.turns }
-        ensures few { self.new.turns ≤ most_turns self.new.state.plan.stages }
+        ensures counted { CountsTurns self.old self.new }
     {
         self.settle(
             i,
@@ -45,16 +43,15 @@ impl Graph {
         )
     }
 
-    /// Settles a stage of any form with another cause, raw, unless it is settled, and says whether it did: as timed out
-    /// (`CompletableFuture.orTimeout` does so when its time has run out), or, where the stage stands in for another, with a bad
-    /// answer.
+    /// Settles a stage of any form with another cause, raw, unless it is settled, and says whether it did. The cause is
+    /// that its time ran out (as `CompletableFuture.orTimeout` has it), or, where the stage stands in for another, that
+    /// a function gave a bad answer.
     pub fn fail_as(&mut self, i: u16, failure: Failure) -> bool
         requires { i < length self.old.state.plan.stages }
         ensures told { (result, self.new.state) ≡ settling self.old.state i (Fault (cause_of failure) false) }
         ensures rests { RestsUpTo i self.old self.new }
         ensures alone { MovesOnly i self.old self.new }
-        ensures counted { self.old.turns ≤ self.new.turns }
-        ensures few { self.new.turns ≤ most_turns self.new.state.plan.stages }
+        ensures counted { CountsTurns self.old self.new }
     {
         self.settle(
             i,
@@ -65,15 +62,14 @@ impl Graph {
         )
     }
 
-    /// Cancels a stage of any form, unless it is settled, and says whether it is cancelled then
-    /// (`CompletableFuture.cancel`). One that took a cancellation over from another stage isn't cancelled itself.
+    /// Cancels a stage of any form, unless it is settled, and says whether the stage is cancelled then
+    /// (`CompletableFuture.cancel`). A stage that took a cancellation over from another isn't cancelled itself.
     pub fn cancel(&mut self, i: u16) -> bool
         requires { i < length self.old.state.plan.stages }
         ensures told { (result, self.new.state) ≡ cancelling self.old.state i }
         ensures rests { RestsUpTo i self.old self.new }
         ensures alone { MovesOnly i self.old self.new }
-        ensures counted { self.old.turns ≤ self.new.turns }
-        ensures few { self.new.turns ≤ most_turns self.new.state.plan.stages }
+        ensures counted { CountsTurns self.old self.new }
     {
         match self.outcome(i) {
             Some(old) => is_cancelled(old),
@@ -87,16 +83,15 @@ impl Graph {
         }
     }
 
-    /// Settles a stage, unless it is settled, and says whether it did. One that is kept as settled is so whatever waits for
-    /// treatment, so nothing is treated for it.
+    /// Settles a stage, unless it is settled, and says whether it did. A stage that is kept as settled stays so,
+    /// whatever waits for treatment, so nothing is treated for it.
     #[inline(always)]
     pub(super) fn settle(&mut self, i: u16, o: Outcome) -> bool
         requires { i < length self.old.state.plan.stages }
         ensures told { (result, self.new.state) ≡ settling self.old.state i o }
         ensures rests { RestsUpTo i self.old self.new }
         ensures alone { MovesOnly i self.old self.new }
-        ensures counted { self.old.turns ≤ self.new.turns }
-        ensures few { self.new.turns ≤ most_turns self.new.state.plan.stages }
+        ensures counted { CountsTurns self.old self.new }
     {
         if self.stages.outcome(i).is_some() {
             return false;

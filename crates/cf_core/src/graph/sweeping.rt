@@ -1,19 +1,18 @@
 //! Work on all stages in one sweep.
-ghost use Rattle.std.specs.Prelude.{◌≡◌, ℕ, ◌+◌, ◌<◌, ◌≤◌, IfSome, None, Option, length, option_and_then, position, slice_get, slice_set, true, vec_capacity};
-ghost use Rattle.cf_outcome.specs.declared.outcome.Outcome.TheVariants.{Value as Gives};
-ghost use Rattle.cf_forms.specs.declared.forms.Landing.TheVariants.{Links as LinksTo, Settles};
-ghost use Rattle.cf_forms.specs.Forms.{composes, landing};
-ghost use Rattle.cf_forms.specs.Plans.{form_at, sources_at};
-ghost use Rattle.cf_model.specs.declared.stage.Stage.TheVariants.{Claimed as IsClaimed};
+ghost use Rattle.std.specs.Prelude.{◌≡◌, ℕ, ◌+◌, ◌<◌, ◌≤◌, IfSome, None, length, true, vec_capacity};
+ghost use Rattle.cf_forms.specs.declared.forms.Landing.TheVariants.{Links as LinksTo};
+ghost use Rattle.cf_forms.specs.Forms.{composes};
+ghost use Rattle.cf_forms.specs.Plans.{form_at};
 ghost use Rattle.cf_model.specs.Calling.{Runs};
-ghost use Rattle.cf_model.specs.States.{is_ready, lowest_ready_of, outcome_in};
-ghost use Rattle.cf_model.specs.Graphs.{most_turns};
+ghost use Rattle.cf_model.specs.States.{is_ready, lowest_ready_of};
 ghost use Rattle.cf_core.specs.Keeping.Graphs.{AreClaimed};
-ghost use Rattle.cf_core.specs.Keeping.Landings.{landed_stages};
 ghost use Rattle.cf_core.specs.Keeping.Sound.{StayTakenBut, kept_at};
-ghost use Rattle.cf_core.specs.Keeping.SoundStages.{AreSound, SameRoom, settled_view_of};
-ghost use Rattle.cf_core.specs.Keeping.Sweeps.{AreSwept, IsReadyWith, Serves, Visits};
+ghost use Rattle.cf_core.specs.Keeping.SoundStages.{AreSound, SameRoom, lowest_ready_in};
+ghost use Rattle.cf_core.specs.Keeping.Sweeps.{AreSwept, IsReadyWith};
 ghost use Rattle.cf_core.specs.Keeping.Offers.{keeps_value};
+ghost use Rattle.cf_core.specs.Keeping.Landings.{LandsWithValue};
+ghost use Rattle.cf_core.specs.Keeping.Steps.{ReadyStageLands, StageIsAnswered, StageIsVisited, StagesAreServed};
+ghost use Rattle.cf_model.specs.Graphs.{CountsTurns};
 
 use crate::graph::Graph;
 use crate::graph::claims::landing_of;
@@ -28,8 +27,7 @@ impl Graph {
     pub(super) fn sweep<F: Functions>(&mut self, who: u8, functions: &mut F) -> u32
         ensures called { Runs F.calls who self.old.state functions.old result self.new.state functions.new }
         ensures none { lowest_ready_of self.new.state ≡ None }
-        ensures counted { self.old.turns ≤ self.new.turns }
-        ensures few { self.new.turns ≤ most_turns self.new.state.plan.stages }
+        ensures counted { CountsTurns self.old self.new }
     {
         let _who = who;
         sweep(&mut self.stages, &mut self.claims, &self.plan, functions)
@@ -46,8 +44,9 @@ fn sweep<F: Functions>(
     requires sound { AreSound plan.now.stages stages.old }
     requires all_claims { length claims.old.items ≡ length plan.now.stages }
     requires claimed { AreClaimed claims.old.items stages.old.kept.items }
-    ensures served { Serves F.calls plan.now.stages (settled_view_of plan.now.stages stages.old) claims.old.items functions.old result (settled_view_of plan.now.stages stages.new) claims.new.items functions.new }
-    ensures none { position is_ready (settled_view_of plan.now.stages stages.new) ≡ None }
+    ensures served { StagesAreServed F.calls plan.now.stages result stages.old claims.old.items functions.old
+        stages.new claims.new.items functions.new }
+    ensures none { lowest_ready_in plan.now.stages stages.new ≡ None }
     ensures all_claims { length claims.new.items ≡ length plan.now.stages }
     ensures claims_room { vec_capacity claims.new ≡ vec_capacity claims.old }
     ensures claimed { AreClaimed claims.new.items stages.new.kept.items }
@@ -78,7 +77,8 @@ fn visit<F: Functions>(
     requires stage { m < length plan.now.stages }
     requires all_claims { length claims.old.items ≡ length plan.now.stages }
     requires claimed { AreClaimed claims.old.items stages.old.kept.items }
-    ensures served { Visits F.calls plan.now.stages result (settled_view_of plan.now.stages stages.old) claims.old.items functions.old m (settled_view_of plan.now.stages stages.new) claims.new.items functions.new }
+    ensures served { StageIsVisited F.calls plan.now.stages result m stages.old claims.old.items functions.old
+        stages.new claims.new.items functions.new }
     ensures claims_room { vec_capacity claims.new ≡ vec_capacity claims.old }
     ensures claimed { AreClaimed claims.new.items stages.new.kept.items }
     ensures counted { stages.old.turns ≤ stages.new.turns }
@@ -103,7 +103,7 @@ fn visit<F: Functions>(
 pub(super) fn land_next(stages: &mut Stages, plan: &GrowingPlan, m: u16, args: Args, answer: Answer)
     requires ready { IsReadyWith plan.now.stages m args stages.old }
     requires stage { m < length plan.now.stages }
-    ensures landed { settled_view_of plan.now.stages stages.new ≡ landed_stages plan.now.stages (slice_set (settled_view_of plan.now.stages stages.old) m IsClaimed) m (landing (form_at plan.now.stages m) m (option_and_then (outcome_in (settled_view_of plan.now.stages stages.old)) (slice_get (sources_at plan.now.stages m) 0)) answer) }
+    ensures landed { StageIsAnswered plan.now.stages m answer stages.old stages.new }
     ensures taken { StayTakenBut m stages.old.kept.items stages.new.kept.items }
     ensures turns { stages.new.turns ≡ stages.old.turns }
     ensures room { SameRoom stages.old stages.new }
@@ -123,7 +123,7 @@ pub(super) fn land_next(stages: &mut Stages, plan: &GrowingPlan, m: u16, args: A
 #[inline(always)]
 #[tactic(auto, using(crate::proofs::Keeping::Offering::kept_lands))]
 fn value_kept(form: Form, answer: Answer) -> Option<Value>
-    ensures { IfSome result (λ v. (i : ℕ) (source : Option Outcome) → landing form i source answer ≡ Settles (Gives v)) }
+    ensures { IfSome result (λ v. LandsWithValue form answer v) }
 {
     match answer {
         Answer::Give(v) if keeps_value(form) => Some(v),
@@ -155,7 +155,7 @@ fn land_swept(stages: &mut Stages, plan: &GrowingPlan, m: u16, at: Landing)
     requires ready { is_ready ((kept_at stages.old.kept.items m).stage) ≡ true }
     requires target { (j : ℕ) → at ≡ LinksTo j → j < m }
     requires composes { (j : ℕ) → at ≡ LinksTo j → composes (form_at plan.now.stages m) ≡ true }
-    ensures landed { settled_view_of plan.now.stages stages.new ≡ landed_stages plan.now.stages (slice_set (settled_view_of plan.now.stages stages.old) m IsClaimed) m at }
+    ensures landed { ReadyStageLands plan.now.stages m at stages.old stages.new }
     ensures taken { StayTakenBut m stages.old.kept.items stages.new.kept.items }
     ensures turns { stages.new.turns ≡ stages.old.turns }
     ensures room { SameRoom stages.old stages.new }

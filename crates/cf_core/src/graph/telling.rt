@@ -1,11 +1,10 @@
 //! What each stage is, and which stages a call changed.
-ghost use Rattle.std.specs.Prelude.{◌≡◌, ℕ, ◌+◌, ◌<◌, ◌≤◌, IfNone, IfSome, List, None, drop, length, position, take, true};
-ghost use Rattle.cf_model.specs.declared.stage.Stage.{Stage as IsStage};
-ghost use Rattle.cf_model.specs.Events.{answered, firing, ticking};
-ghost use Rattle.cf_model.specs.Graphs.{AreChanges, MovesAlone, NoneLeftUpTo, NoneReady, most_turns, moved_by, rank, stage_in};
+ghost use Rattle.std.specs.Prelude.{◌≡◌, ◌+◌, ◌<◌, ◌≤◌, IfNone, IfSome, None, length, position, true};
+ghost use Rattle.cf_model.specs.Events.{answered, firing, next_limits, ticking};
+ghost use Rattle.cf_model.specs.Graphs.{AreChanges, CountsTurns, NoneLeftUpTo, NoneReady, moved_by, rank, stage_in};
 ghost use Rattle.cf_model.specs.States.{claim_at, is_ready};
 ghost use Rattle.cf_model.specs.Ranges.{EventFits};
-ghost use Rattle.cf_core.specs.Keeping.Changes.{HaveMoved};
+ghost use Rattle.cf_core.specs.Keeping.Changes.{TellOfMoved, TellOn};
 
 use crate::graph::Graph;
 use cf_bits::BitSet;
@@ -19,8 +18,7 @@ impl Graph {
         ensures told { result ≡ stage_in self.old.state.stages i }
         ensures unchanged { self.new.state ≡ self.old.state }
         ensures rests { NoneLeftUpTo i self.old.left → self.new ≡ self.old }
-        ensures counted { self.old.turns ≤ self.new.turns }
-        ensures few { self.new.turns ≤ most_turns self.new.state.plan.stages }
+        ensures counted { CountsTurns self.old self.new }
     {
         self.stages.treat_up_to(&self.plan, i);
         self.stages.stage(i)
@@ -48,11 +46,11 @@ impl Graph {
         self.stages.next_ready(from, count)
     }
 
-    /// Does an event as `answer` does, takes all turns that it makes due, and tells which stages differ then: their flags are
-    /// set. No turn was left before, and no flag was set; there is a flag for each stage that there may ever be.
+    /// Does an event as `answer` does, takes all turns that it makes due, and sets the flags of the stages that differ
+    /// then. Before, no turn is left and no flag is set. There is a flag for each stage that there may ever be.
     ///
-    /// It costs what the event and its turns cost, and some nanoseconds for each stage that differs. As `answer` does, it stands in its
-    /// callers' own code.
+    /// It costs what the event and its turns cost, and some nanoseconds for each stage that differs. Like `answer`, it
+    /// is inlined into its callers.
     #[inline(always)]
     pub fn answer_telling(&mut self, e: &Event, changed: &mut BitSet) -> Reply
         requires fits { EventFits (length self.old.state.plan.stages) e.now }
@@ -63,11 +61,10 @@ impl Graph {
         ensures changed { AreChanges self.old.state.stages self.new.state.stages changed.new }
         ensures worked_out { self.new.left ≡ None }
         ensures flags { length changed.new ≡ length changed.old }
-        ensures counted { self.old.turns ≤ self.new.turns }
-        ensures few { self.new.turns ≤ most_turns self.new.state.plan.stages }
+        ensures counted { CountsTurns self.old self.new }
     {
         // No turn is left, so what is kept is the state.
-        let _stages = self.stages();
+        let _known = self.stages();
         match *e {
             Event::Tick { moment, .. } => Reply::Tick(self.tick_telling(moment, changed)),
             _ => {
@@ -80,7 +77,7 @@ impl Graph {
         }
     }
 
-    /// The stage that an event moves by itself, of a tick any.
+    /// The stage that an event itself moves. Of a tick, and of an attach, it is the number behind the last stage.
     #[inline(always)]
     fn moved_by(&self, e: &Event) -> u16
         ensures { result ≡ moved_by (length self.now.state.plan.stages) e.now }
@@ -114,13 +111,12 @@ impl Graph {
     #[inline(always)]
     fn note_moved(&mut self, d: u16, before: u8, changed: &mut BitSet)
         requires flags { length self.old.state.plan.stages ≤ length changed.old }
-        ensures told { (old mid : List IsStage) → HaveMoved old mid changed.old → MovesAlone d mid self.old.kept → before ≡ rank (stage_in mid d) → HaveMoved old self.new.kept changed.new }
+        ensures told { TellOfMoved d before self.old.kept changed.old self.new.kept changed.new }
         ensures worked_out { self.new.left ≡ None }
         ensures kept { self.new.kept ≡ self.new.state.stages }
         ensures unchanged { self.new.state ≡ self.old.state }
         ensures flags { length changed.new ≡ length changed.old }
-        ensures counted { self.old.turns ≤ self.new.turns }
-        ensures few { self.new.turns ≤ most_turns self.new.state.plan.stages }
+        ensures counted { CountsTurns self.old self.new }
     {
         if self.rank(d) > before {
             changed.insert(d);
@@ -132,17 +128,16 @@ impl Graph {
     #[inline(always)]
     fn tell_rest(&mut self, changed: &mut BitSet)
         requires flags { length self.old.state.plan.stages ≤ length changed.old }
-        ensures told { (old : List IsStage) → HaveMoved old self.old.kept changed.old → HaveMoved old self.new.kept changed.new }
+        ensures told { TellOn self.old.kept changed.old self.new.kept changed.new }
         ensures worked_out { self.new.left ≡ None }
         ensures kept { self.new.kept ≡ self.new.state.stages }
         ensures unchanged { self.new.state ≡ self.old.state }
         ensures flags { length changed.new ≡ length changed.old }
-        ensures counted { self.old.turns ≤ self.new.turns }
-        ensures few { self.new.turns ≤ most_turns self.new.state.plan.stages }
+        ensures counted { CountsTurns self.old self.new }
     {
         self.stages.tell_rest(&self.plan, changed);
         // No turn is left, so what is kept is the state.
-        let _stages = self.stages();
+        let _known = self.stages();
     }
 
     /// Lets time pass as `tick` does. After each limit all turns are taken that it makes due.
@@ -151,12 +146,11 @@ impl Graph {
         requires kept { self.old.kept ≡ self.old.state.stages }
         requires flags { length self.old.state.plan.stages ≤ length changed.old }
         ensures told { (result, self.new.state) ≡ ticking self.old.state now }
-        ensures moved { (old : List IsStage) → HaveMoved old self.old.kept changed.old → HaveMoved old self.new.kept changed.new }
+        ensures moved { TellOn self.old.kept changed.old self.new.kept changed.new }
         ensures worked_out { self.new.left ≡ None }
         ensures kept { self.new.kept ≡ self.new.state.stages }
         ensures flags { length changed.new ≡ length changed.old }
-        ensures counted { self.old.turns ≤ self.new.turns }
-        ensures few { self.new.turns ≤ most_turns self.new.state.plan.stages }
+        ensures counted { CountsTurns self.old self.new }
     {
         if now < self.moment {
             return Ticked::Past;
@@ -173,8 +167,8 @@ impl Graph {
         requires worked_out { self.old.left ≡ None }
         requires kept { self.old.kept ≡ self.old.state.stages }
         requires flags { length self.old.state.plan.stages ≤ length changed.old }
-        ensures fired { (result, self.new.state) ≡ firing 0 self.old.state (take count (drop self.old.state.used self.old.state.plan.limits)) }
-        ensures moved { (old : List IsStage) → HaveMoved old self.old.kept changed.old → HaveMoved old self.new.kept changed.new }
+        ensures fired { (result, self.new.state) ≡ firing 0 self.old.state (next_limits count self.old.state) }
+        ensures moved { TellOn self.old.kept changed.old self.new.kept changed.new }
         ensures worked_out { self.new.left ≡ None }
         ensures kept { self.new.kept ≡ self.new.state.stages }
         ensures flags { length changed.new ≡ length changed.old }

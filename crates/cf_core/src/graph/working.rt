@@ -1,18 +1,16 @@
 //! Work: the functions of ready stages are called.
-ghost use Rattle.std.specs.Prelude.{◌≡◌, ℕ, ◌+◌, ◌<◌, ◌≤◌, None, Some, length, position, slice_set, true, unwrap_or};
+ghost use Rattle.std.specs.Prelude.{◌≡◌, ℕ, ◌+◌, ◌<◌, ◌≤◌, None, Some, length, true, unwrap_or};
 ghost use Rattle.cf_forms.specs.declared.forms.Landing.TheVariants.{Links as LinksTo};
 ghost use Rattle.cf_forms.specs.Forms.{composes};
-ghost use Rattle.cf_forms.specs.Meanings.{Meanings};
 ghost use Rattle.cf_forms.specs.Plans.{form_at, function_at};
-ghost use Rattle.cf_model.specs.declared.stage.Stage.TheVariants.{Claimed as IsClaimed};
-ghost use Rattle.cf_model.specs.Calling.{AreStateless, Runs};
-ghost use Rattle.cf_model.specs.Graphs.{most_turns};
+ghost use Rattle.cf_model.specs.Calling.{Runs};
 ghost use Rattle.cf_model.specs.States.{is_ready, lowest_ready_of};
-ghost use Rattle.cf_model.specs.Working.{worked};
-ghost use Rattle.cf_core.specs.Keeping.Landings.{landed_stages};
-ghost use Rattle.cf_core.specs.Keeping.Serving.{RunsNext, ServesOnce};
+ghost use Rattle.cf_core.specs.Keeping.Serving.{RunsNext};
 ghost use Rattle.cf_core.specs.Keeping.Sound.{AreTreated, StayTakenBut, kept_at};
-ghost use Rattle.cf_core.specs.Keeping.SoundStages.{AreSound, SameRoom, settled_view_of};
+ghost use Rattle.cf_core.specs.Keeping.SoundStages.{AreSound, SameRoom, lowest_ready_in};
+ghost use Rattle.cf_core.specs.Keeping.Steps.{ReadyStageLands, StageIsServed};
+ghost use Rattle.cf_model.specs.Working.{WorksAsMeant};
+ghost use Rattle.cf_model.specs.Graphs.{CountsTurns};
 
 use crate::graph::Graph;
 use crate::graph::claims::landing_of;
@@ -22,18 +20,17 @@ use cf_model::Stage;
 use cf_plan::GrowingPlan;
 
 impl Graph {
-    /// Works for a caller until no stage is ready: the lowest ready stage is claimed, its function called once with the
-    /// arguments of the claim, and the stage finished with the answer. No function is called else, and for no stage twice.
-    /// It says how many were called: at most one for each stage.
+    /// Works for a caller until no stage is ready: the lowest ready stage is claimed, its function is called once with
+    /// the arguments of the claim, and the stage is finished with the answer. No other function is called, and none
+    /// twice for one stage. It says how many were called: at most one for each stage.
     ///
-    /// The functions may remember what they were called with, as closures do. `Each` are those of a list that remember
+    /// The functions may remember what they were called with, as closures do. Those of a list (`Each`) remember
     /// nothing; the state is then the one that their meanings lead to.
     pub fn work<F: Functions>(&mut self, who: u8, functions: &mut F) -> u32
         ensures called { Runs F.calls who self.old.state functions.old result self.new.state functions.new }
         ensures none { lowest_ready_of self.new.state ≡ None }
-        ensures stateless { (meanings : Meanings) → AreStateless F.calls functions.old meanings → (result, self.new.state) ≡ worked who meanings self.old.state }
-        ensures counted { self.old.turns ≤ self.new.turns }
-        ensures few { self.new.turns ≤ most_turns self.new.state.plan.stages }
+        ensures stateless { WorksAsMeant F.calls who functions.old self.old.state result self.new.state }
+        ensures counted { CountsTurns self.old self.new }
     {
         // The first few are found by the marks. Where there is more to do, a look at every stage costs less.
         let few = u32::from(self.stages()) / 128 + 1;
@@ -52,8 +49,7 @@ impl Graph {
         ensures within { result ≤ few }
         ensures called { Runs F.calls who self.old.state functions.old result self.new.state functions.new }
         ensures none { result < few → lowest_ready_of self.new.state ≡ None }
-        ensures counted { self.old.turns ≤ self.new.turns }
-        ensures few { self.new.turns ≤ most_turns self.new.state.plan.stages }
+        ensures counted { CountsTurns self.old self.new }
     {
         let mut calls = 0;
         while calls < few {
@@ -63,18 +59,17 @@ impl Graph {
             calls += 1;
         }
         // The turns of a graph are within their bound.
-        let _turns = self.turns();
+        let _known = self.turns();
         calls
     }
 
-    /// Claims and finishes the lowest ready stage, and says which it was. Its claim is open at no time in between that
-    /// anyone could see, so nothing is written of it but that it is closed.
+    /// Claims and finishes the lowest ready stage, and says which it was. Nobody could see its claim open in between,
+    /// so only that the claim is closed is written.
     #[inline(always)]
     fn work_once<F: Functions>(&mut self, who: u8, functions: &mut F) -> Option<u16>
         ensures next { result ≡ lowest_ready_of self.old.state }
         ensures called { RunsNext F.calls who self.old.state functions.old result self.new.state functions.new }
-        ensures counted { self.old.turns ≤ self.new.turns }
-        ensures few { self.new.turns ≤ most_turns self.new.state.plan.stages }
+        ensures counted { CountsTurns self.old self.new }
     {
         let _who = who;
         match self.stages.lowest_ready(&self.plan) {
@@ -93,8 +88,8 @@ impl Graph {
 fn serve<F: Functions>(stages: &mut Stages, plan: &GrowingPlan, functions: &mut F, i: u16)
     requires sound { AreSound plan.now.stages stages.old }
     requires stage { i < length plan.now.stages }
-    requires lowest { position is_ready (settled_view_of plan.now.stages stages.old) ≡ Some i }
-    ensures served { ServesOnce F.calls plan.now.stages (settled_view_of plan.now.stages stages.old) functions.old i (settled_view_of plan.now.stages stages.new) functions.new }
+    requires lowest { lowest_ready_in plan.now.stages stages.old ≡ Some i }
+    ensures served { StageIsServed F.calls plan.now.stages i stages.old functions.old stages.new functions.new }
     ensures taken { StayTakenBut i stages.old.kept.items stages.new.kept.items }
     ensures counted { stages.old.turns ≤ stages.new.turns }
     ensures room { SameRoom stages.old stages.new }
@@ -136,7 +131,7 @@ fn land_ready(stages: &mut Stages, plan: &GrowingPlan, d: u16, at: Landing)
     requires ready { is_ready ((kept_at stages.old.kept.items d).stage) ≡ true }
     requires target { (j : ℕ) → at ≡ LinksTo j → j < d }
     requires composes { (j : ℕ) → at ≡ LinksTo j → composes (form_at plan.now.stages d) ≡ true }
-    ensures landed { settled_view_of plan.now.stages stages.new ≡ landed_stages plan.now.stages (slice_set (settled_view_of plan.now.stages stages.old) d IsClaimed) d at }
+    ensures landed { ReadyStageLands plan.now.stages d at stages.old stages.new }
     ensures taken { StayTakenBut d stages.old.kept.items stages.new.kept.items }
     ensures counted { stages.old.turns ≤ stages.new.turns }
     ensures room { SameRoom stages.old stages.new }

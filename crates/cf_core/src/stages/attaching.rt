@@ -1,13 +1,11 @@
 //! The attaching of a stage.
-ghost use Rattle.std.specs.Prelude.{◌≡◌, ℕ, ◌+◌, ◌<◌, ◌≤◌, ◌∷◌, ◌++◌, [], All, Option, false, length, if◌then◌else◌};
-ghost use Rattle.cf_forms.specs.Plans.{attached_stage, edges_of, sources_of};
-ghost use Rattle.cf_model.specs.declared.stage.Stage.TheVariants.{Pending};
-ghost use Rattle.cf_model.specs.Graphs.{MovesAlone};
-ghost use Rattle.cf_model.specs.States.{is_ready, new_states};
-ghost use Rattle.cf_core.specs.Keeping.Attaching.{attached_kept, takes_now};
-ghost use Rattle.cf_core.specs.Keeping.Treatment.{stages_of};
+ghost use Rattle.std.specs.Prelude.{◌≡◌, ℕ, ◌+◌, ◌<◌, ◌≤◌, ◌∷◌, ◌++◌, [], All, Option, false, length};
+ghost use Rattle.cf_forms.specs.Plans.{edges_of, sources_of};
+ghost use Rattle.cf_model.specs.States.{is_ready};
+ghost use Rattle.cf_core.specs.Keeping.Attaching.{attached_kept, turns_attached};
 ghost use Rattle.cf_core.specs.Keeping.Sound.{AreTreated, StayTaken};
-ghost use Rattle.cf_core.specs.Keeping.SoundStages.{AreSound, SameRoom, settled_view_of};
+ghost use Rattle.cf_core.specs.Keeping.SoundStages.{AreSound, KeptMovesAlone, SameRoom};
+ghost use Rattle.cf_core.specs.Keeping.Steps.{StageIsAttached, grown_by};
 
 use crate::attach::{attached, takes_now};
 use crate::kept::KeptStage;
@@ -29,12 +27,12 @@ impl Stages {
         requires few_edges { edges_of plan.now.stages + 2 ≤ 16384 }
         requires room { length plan.now.stages < self.old.kept.capacity }
         requires lists { length plan.now.stages < length self.old.links }
-        ensures attached { (function : Option ℕ) → let grown = plan.now.stages ++ attached_stage form of function ∷ [] in settled_view_of grown self.new ≡ new_states [] grown (settled_view_of plan.now.stages self.old ++ Pending ∷ []) }
-        ensures alone { MovesAlone (length plan.now.stages) (stages_of self.old.kept.items) (stages_of self.new.kept.items) }
-        ensures counted { self.new.turns ≡ self.old.turns + (if takes_now self.old.kept.items form (sources_of of) then 1 else 0) }
+        ensures attached { StageIsAttached plan.now.stages form of self.old self.new }
+        ensures alone { KeptMovesAlone (length plan.now.stages) self.old self.new }
+        ensures counted { self.new.turns ≡ turns_attached self.old form (sources_of of) }
         ensures taken { StayTaken self.old.kept.items self.new.kept.items }
         ensures room { SameRoom self.old self.new }
-        ensures sound { (function : Option ℕ) → AreSound (plan.now.stages ++ attached_stage form of function ∷ []) self.new }
+        ensures sound { (function : Option ℕ) → AreSound (grown_by plan.now.stages form of function) self.new }
     {
         self.steps += 1;
         let new = self.newcomer_of(form, of);
@@ -46,7 +44,7 @@ impl Stages {
         requires sources { All (λ j. j < length self.old.kept.items) (sources_of of) }
         requires turns { self.old.turns < 4294967296 }
         ensures kept { result ≡ attached_kept self.old.kept.items form (sources_of of) self.old.steps }
-        ensures counted { self.new ≡ record self.old { turns = self.old.turns + (if takes_now self.old.kept.items form (sources_of of) then 1 else 0) } }
+        ensures counted { self.new ≡ record self.old { turns = turns_attached self.old form (sources_of of) } }
     {
         match of {
             Of::None => self.newcomer(form, &[]),
@@ -60,7 +58,7 @@ impl Stages {
         requires sources { All (λ j. j < length self.old.kept.items) sources.now }
         requires turns { self.old.turns < 4294967296 }
         ensures kept { result ≡ attached_kept self.old.kept.items form sources.now self.old.steps }
-        ensures counted { self.new ≡ record self.old { turns = self.old.turns + (if takes_now self.old.kept.items form sources.now then 1 else 0) } }
+        ensures counted { self.new ≡ record self.old { turns = turns_attached self.old form sources.now } }
     {
         if takes_now(&self.kept, form, sources) {
             self.take(form, sources)

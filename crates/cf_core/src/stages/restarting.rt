@@ -1,9 +1,8 @@
 //! The stages of a plan that starts again.
-ghost use Rattle.std.specs.Prelude.{◌≡◌, ◌≤◌, [], length, replicate};
-ghost use Rattle.cf_model.specs.declared.stage.Stage.TheVariants.{Pending};
-ghost use Rattle.cf_model.specs.States.{new_states};
+ghost use Rattle.std.specs.Prelude.{◌≡◌, ◌≤◌, length};
 ghost use Rattle.cf_core.specs.Keeping.Sound.{HasLists};
-ghost use Rattle.cf_core.specs.Keeping.SoundStages.{AreSound, SameRoom, settled_view_of};
+ghost use Rattle.cf_core.specs.Keeping.SoundStages.{AreSound, SameRoom};
+ghost use Rattle.cf_core.specs.Keeping.Steps.{AreAtStart};
 
 use crate::stages::{Stages, mark_starts};
 use cf_plan::GrowingPlan;
@@ -14,7 +13,7 @@ impl Stages {
     pub fn restart(&mut self, plan: &GrowingPlan)
         requires stages { length plan.now.stages ≤ length self.old.kept.items }
         requires lists { HasLists plan.now.stages (length self.old.links) }
-        ensures start { settled_view_of plan.now.stages self.new ≡ new_states [] plan.now.stages (replicate (length plan.now.stages) Pending) }
+        ensures start { AreAtStart plan.now.stages self.new }
         ensures turns { self.new.turns ≡ 0 }
         ensures room { SameRoom self.old self.new }
         ensures sound { AreSound plan.now.stages self.new }

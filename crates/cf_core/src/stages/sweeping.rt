@@ -3,15 +3,16 @@
 //! A stage takes from lower stages alone, and marks higher ones alone. So whoever goes up through all stages, and treats each
 //! that waits, meets no stage that was or will be marked below; and a stage that is ready then is the lowest. In a sweep
 //! neither the marks nor the ready stages are written: at its end there are none.
-ghost use Rattle.std.specs.Prelude.{◌≡◌, ◌+◌, ◌<◌, ◌≤◌, [], IfNone, IfSome, None, length, position, slice_set, true};
+ghost use Rattle.std.specs.Prelude.{◌≡◌, ◌+◌, ◌<◌, ◌≤◌, IfNone, IfSome, None, length, true};
 ghost use Rattle.cf_outcome.specs.declared.outcome.Outcome.TheVariants.{Value as Gives};
 ghost use Rattle.cf_forms.specs.Forms.{composes};
 ghost use Rattle.cf_forms.specs.Plans.{form_at};
-ghost use Rattle.cf_model.specs.declared.stage.Stage.TheVariants.{Linked, Ready, Settled};
-ghost use Rattle.cf_model.specs.States.{is_ready, new_states, outcome_of};
+ghost use Rattle.cf_model.specs.declared.stage.Stage.TheVariants.{Ready};
+ghost use Rattle.cf_model.specs.States.{is_ready, outcome_of};
 ghost use Rattle.cf_core.specs.Keeping.Sound.{StayTaken, StayTakenBut, is_waiting, kept_at, links_after};
-ghost use Rattle.cf_core.specs.Keeping.SoundStages.{AreSound, SameRoom, settled_view_of};
-ghost use Rattle.cf_core.specs.Keeping.Sweeps.{AreSwept, IsReadyWith, turns_after};
+ghost use Rattle.cf_core.specs.Keeping.SoundStages.{AreSound, SameRoom, SameView, lowest_ready_in};
+ghost use Rattle.cf_core.specs.Keeping.Sweeps.{AreAllSwept, AreSwept, IsReadyWith, turns_after};
+ghost use Rattle.cf_core.specs.Keeping.Steps.{StageIsLinked, StageSettles};
 
 use crate::kept::KeptStage;
 use crate::stages::Stages;
@@ -32,7 +33,7 @@ impl Stages {
         requires stage { m < length plan.now.stages }
         ensures ready { IfSome result (λ args. IsReadyWith plan.now.stages m args self.new) }
         ensures swept { IfNone result (AreSwept plan.now.stages (m + 1) (m + 1) self.new) }
-        ensures same { settled_view_of plan.now.stages self.new ≡ settled_view_of plan.now.stages self.old }
+        ensures same { SameView plan.now.stages self.old self.new }
         ensures taken { StayTaken self.old.kept.items self.new.kept.items }
         ensures counted { self.old.turns ≤ self.new.turns }
         ensures room { SameRoom self.old self.new }
@@ -55,7 +56,7 @@ impl Stages {
         requires waiting { is_waiting ((kept_at self.old.kept.items m).stage) ≡ true }
         ensures ready { IfSome result (λ args. IsReadyWith plan.now.stages m args self.new) }
         ensures swept { IfNone result (AreSwept plan.now.stages (m + 1) m self.new) }
-        ensures same { settled_view_of plan.now.stages self.new ≡ settled_view_of plan.now.stages self.old }
+        ensures same { SameView plan.now.stages self.old self.new }
         ensures taken { StayTaken self.old.kept.items self.new.kept.items }
         ensures counted { self.old.turns ≤ self.new.turns }
         ensures room { SameRoom self.old self.new }
@@ -97,7 +98,7 @@ impl Stages {
     pub fn settle_ready(&mut self, plan: &GrowingPlan, m: u16, args: Args, v: Value)
         requires ready { IsReadyWith plan.now.stages m args self.old }
         requires stage { m < length plan.now.stages }
-        ensures after { settled_view_of plan.now.stages self.new ≡ new_states [] plan.now.stages (slice_set (settled_view_of plan.now.stages self.old) m (Settled (Gives v))) }
+        ensures after { StageSettles plan.now.stages m (Gives v) self.old self.new }
         ensures taken { StayTaken self.old.kept.items self.new.kept.items }
         ensures turns { self.new.turns ≡ self.old.turns }
         ensures room { SameRoom self.old self.new }
@@ -116,7 +117,7 @@ impl Stages {
         requires ready { IsReadyWith plan.now.stages m args self.old }
         requires stage { m < length plan.now.stages }
         ensures ready { (kept_at self.new.kept.items m).stage ≡ Ready args }
-        ensures same { settled_view_of plan.now.stages self.new ≡ settled_view_of plan.now.stages self.old }
+        ensures same { SameView plan.now.stages self.old self.new }
         ensures taken { StayTakenBut m self.old.kept.items self.new.kept.items }
         ensures turns { self.new.turns ≡ self.old.turns }
         ensures room { SameRoom self.old self.new }
@@ -132,7 +133,7 @@ impl Stages {
         requires swept { AreSwept plan.now.stages (m + 1) m self.old }
         requires stage { m < length plan.now.stages }
         requires unsettled { outcome_of ((kept_at self.old.kept.items m).stage) ≡ None }
-        ensures after { settled_view_of plan.now.stages self.new ≡ new_states [] plan.now.stages (slice_set (settled_view_of plan.now.stages self.old) m (Settled o)) }
+        ensures after { StageSettles plan.now.stages m o self.old self.new }
         ensures taken { StayTaken self.old.kept.items self.new.kept.items }
         ensures turns { self.new.turns ≡ self.old.turns }
         ensures room { SameRoom self.old self.new }
@@ -152,7 +153,7 @@ impl Stages {
         requires ready { is_ready ((kept_at self.old.kept.items m).stage) ≡ true }
         requires composes { composes (form_at plan.now.stages m) ≡ true }
         requires unsettled { outcome_of ((kept_at self.old.kept.items j).stage) ≡ None }
-        ensures linked { settled_view_of plan.now.stages self.new ≡ slice_set (settled_view_of plan.now.stages self.old) m (Linked j) }
+        ensures linked { StageIsLinked plan.now.stages m j self.old self.new }
         ensures taken { StayTakenBut m self.old.kept.items self.new.kept.items }
         ensures turns { self.new.turns ≡ self.old.turns }
         ensures room { SameRoom self.old self.new }
@@ -173,10 +174,10 @@ impl Stages {
 
     /// Ends a sweep: no stage is marked, and none is ready.
     pub fn end_sweep(&mut self, plan: &GrowingPlan)
-        requires swept { AreSwept plan.now.stages (length plan.now.stages) (length plan.now.stages) self.old }
+        requires swept { AreAllSwept plan.now.stages self.old }
         ensures kept { self.new.kept ≡ self.old.kept }
         ensures turns { self.new.turns ≡ self.old.turns }
-        ensures none { position is_ready (settled_view_of plan.now.stages self.new) ≡ None }
+        ensures none { lowest_ready_in plan.now.stages self.new ≡ None }
         ensures room { SameRoom self.old self.new }
         ensures sound { AreSound plan.now.stages self.new }
     {

@@ -2,9 +2,8 @@
 ghost use Rattle.std.specs.Prelude.{◌≡◌, IfErr, IfOk, IsTrue, MatchOption};
 ghost use Rattle.cf_model.specs.Calls.{event_by};
 ghost use Rattle.cf_desk.specs.Faults.{HasRoom, IsFitting, IsOnStage};
-ghost use Rattle.cf_desk.specs.Log.{IsDeskEvent};
 ghost use Rattle.cf_desk.specs.Results.{DeskAnswers, CaughtUp, IsRecorded, Refuses};
-ghost use Rattle.cf_desk.specs.Views.{Acts, Follows, IsSamePass, SeesFull, state_of};
+ghost use Rattle.cf_desk.specs.Views.{Acts, FindsFull, IsOwnEvent, IsSamePass};
 
 use crate::desk::Desk;
 use crate::faults::DeskFault;
@@ -13,11 +12,11 @@ use cf_model::{Call, Reply};
 
 impl Desk {
     /// Does a call of the pass's caller: adds its event to the log and its record to the pass, and gives the reply. The
-    /// pass is one of this desk's. Where it doesn't know a stage that the call names, it looks once before it answers. A
-    /// refused call adds nothing, but the pass may have seen more events: where it looked, and where the log is full.
+    /// pass is one of this desk's. If it doesn't know a stage that the call names, it looks once before it answers. A
+    /// refused call adds nothing, but the pass may have seen more events: if it looked, or if the log is full.
     ///
-    /// It stands in its callers' own code, with the graph's answer in it: where the kind of the call is known there, nothing
-    /// is decided by the kind, and the record is written part by part.
+    /// It is inlined into its callers, together with the graph's answer: where a caller's code fixes the kind of the call,
+    /// nothing branches on the kind, and the record is written part by part.
     #[inline(always)]
     pub fn act(&self, p: &mut Pass, c: Call) -> Result<Reply, DeskFault>
         requires { p.old.table ≡ self.now.table }
@@ -60,9 +59,9 @@ impl Desk {
         requires table { p.old.table ≡ self.now.table }
         requires there { IsOnStage p.old (event_by p.old.known.caller c) }
         requires fits { IsFitting p.old (event_by p.old.known.caller c) }
-        requires event { IsDeskEvent p.old.known.setting (state_of p.old.known) (event_by p.old.known.caller c) }
+        requires event { IsOwnEvent p.old c }
         requires room { HasRoom p.old }
-        ensures { MatchOption result (Follows p.old p.new × (p.new.known.looks ≡ p.old.known.looks) × SeesFull self.now p.new) (λ reply. Acts p.old c reply p.new) }
+        ensures { MatchOption result (FindsFull self.now p.old p.new) (λ reply. Acts p.old c reply p.new) }
     {
         let words = self.words();
         'next: while p.seen() < words {

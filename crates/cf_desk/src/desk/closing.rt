@@ -1,12 +1,10 @@
 //! How a desk is closed.
-ghost use Rattle.std.specs.Prelude.{◌≡◌, ◌<◌, ◌≤◌, ℕ, [], All, IsOkAnd, MatchOption, map, unwrap_or, vec_capacity, vec_len};
+ghost use Rattle.std.specs.Prelude.{◌≡◌, ◌<◌, ◌≤◌, [], All, IsOkAnd, MatchOption, unwrap_or, vec_capacity, vec_len};
 ghost use Rattle.std.specs.Mem.Slots.{IsFull, slots_items, slots_len};
 ghost use Rattle.cf_event.specs.Decoding.{decoded};
-ghost use Rattle.cf_event.specs.Histories.{IsOneHistory};
-ghost use Rattle.cf_desk.specs.Keepings.{AllFit, AreKept, IsCallers, IsFit, caller_kept, pass_kept};
-ghost use Rattle.cf_desk.specs.Laws.{Shows};
-ghost use Rattle.cf_desk.specs.Log.{state_from};
-ghost use Rattle.cf_desk.specs.Views.{Closes, IsLatest, knowns};
+ghost use Rattle.cf_desk.specs.Closings.{HoldsAllEvents, PassesFit, ShowsOneHistory, ToldOneHistory};
+ghost use Rattle.cf_desk.specs.Keepings.{AreKept, IsCallers, IsFit};
+ghost use Rattle.cf_desk.specs.Views.{Closes, IsLatestOf, knowns};
 
 use crate::calls::{Closed, Kept};
 use crate::desk::{Desk, Row};
@@ -20,18 +18,18 @@ use cf_model::Event;
 use std::alloc::Global;
 
 impl Desk {
-    /// Takes the desk apart, with all its passes, each once, in any order: all events in their one order, the passes in
-    /// this order with their callers and records, and the graph as all events leave it. It never fails. What all callers
-    /// were told is one history.
+    /// Takes the desk apart. It takes all its passes, each once, in any order. It answers all events in their one order,
+    /// the callers and records of the passes in the order in which they were given, and the graph as all events leave it.
+    /// It never fails. What all callers were told is one history.
     pub fn close(self, passes: Vec<Pass>) -> Result<Closed, CloseFault>
         requires table { All (λ p. p.table ≡ self.table) passes.items }
         requires all { vec_len passes ≡ self.setting.callers }
         ensures history { IsOkAnd result (λ closed. Closes self passes.items closed.history.items) }
         ensures passes { IsOkAnd result (λ closed. AreKept closed.passes.items passes.items) }
-        ensures fit { IsOkAnd result (λ closed. AllFit self.setting.plan closed.history.items (map pass_kept closed.passes.items)) }
-        ensures graph { IsOkAnd result (λ closed. closed.graph.state ≡ state_from self.setting.plan closed.history.items) }
-        ensures one { IsOkAnd result (λ closed. IsOneHistory self.setting.plan self.setting.functions closed.history.items (map caller_kept closed.passes.items)) }
-        ensures shows { IsOkAnd result (λ closed. Shows self.setting.plan closed.history.items (map caller_kept closed.passes.items) closed.graph.state) }
+        ensures fit { IsOkAnd result (PassesFit self.setting.plan) }
+        ensures graph { IsOkAnd result (HoldsAllEvents self.setting.plan) }
+        ensures one { IsOkAnd result (ToldOneHistory self.setting.plan self.setting.functions) }
+        ensures shows { IsOkAnd result (ShowsOneHistory self.setting.plan) }
     {
         let Desk {
             table,
@@ -64,7 +62,7 @@ fn gather(
     requires table { (0 < row.now.shared.table_id.words) × All (λ p. p.table ≡ row.now.shared.table_id) passes.items }
     requires kept { (kept.items ≡ []) × (vec_len passes ≤ vec_capacity kept) }
     ensures seat { (result.0.table_id ≡ row.now.shared.table_id) × (result.0.me ≡ (knowns passes.items, [])) }
-    ensures replica { MatchOption result.1 (passes.items ≡ []) (λ replica. (most : ℕ) × IsLatest most replica.state (knowns passes.items)) }
+    ensures replica { MatchOption result.1 (passes.items ≡ []) (λ replica. IsLatestOf passes.items replica.state) }
     ensures kept { AreKept result.2.items passes.items }
     ensures callers { All IsCallers passes.items }
     ensures fit { All IsFit passes.items }

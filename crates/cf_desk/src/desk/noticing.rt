@@ -21,8 +21,8 @@ impl Desk {
         }
     }
 
-    /// Lets a pass of this desk see all that the pass which gave the notice had seen by then, so that each call of this pass
-    /// stands behind that (`laws::calls_come_after_what_was_seen`). It adds neither an event nor a record.
+    /// Lets a pass of this desk see all that the pass which gave the notice had seen by then. So each later call of this
+    /// pass comes after all of that (`laws::calls_come_after_what_was_seen`). It adds neither an event nor a record.
     pub fn heed(&self, p: &mut Pass, notice: Notice)
         requires table { (p.old.table ≡ self.now.table) × (notice.table ≡ self.now.table) }
         ensures same { IsSamePass p.old p.new }

@@ -15,9 +15,9 @@ use crate::pass::Pass;
 use cf_model::{Ask, Told};
 
 impl Desk {
-    /// Answers a question of all events that are there: loads the next word until it finds it empty, or the row at its
-    /// end. It adds a record to the pass, which is one of this desk's, and no event. Where the pass doesn't know the
-    /// stage, it looks once before.
+    /// Answers a question about the graph after all events that are there: it loads the next word until it finds an empty
+    /// one, or the end of the row. It adds a record to the pass, which is one of this desk's, and no event. If the pass
+    /// doesn't know the stage, it looks once before.
     pub fn read(&self, p: &mut Pass, a: Ask) -> Result<Told, DeskFault>
         requires { p.old.table ≡ self.now.table }
         ensures same { IsSamePass p.old p.new }
@@ -36,9 +36,9 @@ impl Desk {
         Ok(p.tell(a))
     }
 
-    /// Looks at most so many times, at least once, for the outcome of a stage (`CompletableFuture.join`), and ends with
-    /// the first look that finds it settled. The last look is recorded as a question for the outcome. Where the pass
-    /// doesn't know the stage, it looks once before.
+    /// Looks for the outcome of a stage (`CompletableFuture.join`): up to `looks` times, at least once, until a look finds
+    /// the stage settled. The last look is recorded as a question for the outcome. If the pass doesn't know the stage, it
+    /// looks once before.
     pub fn join(&self, p: &mut Pass, stage: u16, looks: u32) -> Result<Joined, DeskFault>
         requires table { p.old.table ≡ self.now.table }
         requires looks { 0 < looks }

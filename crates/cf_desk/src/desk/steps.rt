@@ -1,11 +1,10 @@
 //! The calls that make single steps on the row.
-ghost use Rattle.std.specs.Prelude.{◌≡◌, ◌<◌, ◌≤◌, length, MatchBool, MatchOption, take};
-ghost use Rattle.cf_model.specs.Calls.{event_by};
+ghost use Rattle.std.specs.Prelude.{◌≡◌, ◌<◌, ◌≤◌, length, MatchBool, MatchOption};
 ghost use Rattle.cf_model.specs.Events.{answered};
 ghost use Rattle.cf_model.specs.Ranges.{EventFits};
-ghost use Rattle.cf_desk.specs.Log.{AreLogged, IsDeskEvent, state_from};
+ghost use Rattle.cf_desk.specs.Log.{AreLogged};
 ghost use Rattle.cf_desk.specs.Rule.{looked};
-ghost use Rattle.cf_desk.specs.Views.{AddedByOther, AddedOwn, IsOne, Levelled, known_of, state_of};
+ghost use Rattle.cf_desk.specs.Views.{AddedByOther, AddedOwn, IsOne, IsOwnEvent, Levelled, known_of, state_of, state_up_to};
 
 use crate::calls::Rec;
 use crate::desk::Desk;
@@ -34,7 +33,7 @@ impl Desk {
         requires table { p.old.table ≡ self.now.table }
         requires room { length p.old.known.seen < self.now.words }
         requires call { length p.old.records < p.old.calls }
-        requires event { IsDeskEvent p.old.known.setting (state_of p.old.known) (event_by p.old.known.caller call) }
+        requires event { IsOwnEvent p.old call }
         ensures { MatchOption result (AddedByOther p.old p.new) (λ reply. AddedOwn p.old call reply p.new) }
     {
         let event = event_by(p.caller, call);
@@ -107,7 +106,7 @@ impl Desk {
         requires one { IsOne seat.old.me }
         requires places { (from ≤ to) × (to ≡ length (known_of seat.old.me.0).seen) × (to ≤ seat.old.table_id.words) }
         requires events { AreLogged (known_of seat.old.me.0).setting (known_of seat.old.me.0).seen }
-        requires replica { replica.old.state ≡ state_from (known_of seat.old.me.0).setting.plan (take from (known_of seat.old.me.0).seen) }
+        requires replica { replica.old.state ≡ state_up_to from (known_of seat.old.me.0) }
         ensures same { (seat.new.table_id ≡ seat.old.table_id) × (seat.new.me ≡ seat.old.me) }
         ensures replica { replica.new.state ≡ state_of (known_of seat.old.me.0) }
     {

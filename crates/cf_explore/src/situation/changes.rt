@@ -11,7 +11,7 @@ use crate::situation::Situation;
 use crate::step::{Hand, Place};
 use cf_forms::Answer;
 use cf_model::{Attached, Call, Claimed, Reply, event_by};
-use cf_plain::Plain;
+use cf_reference::ReferenceGraph;
 use std::alloc::{AllocError, Global};
 
 impl Situation {
@@ -138,7 +138,7 @@ fn hand_of(i: u16, answer: Claimed) -> Hand
 }
 
 /// Claims a stage, which isn't ready where it isn't there.
-fn claim(graph: &mut Plain, who: u8, i: u16) -> Claimed
+fn claim(graph: &mut ReferenceGraph, who: u8, i: u16) -> Claimed
     ensures { (result, graph.new) ≡ claim_answer graph.old who i }
 {
     if i < graph.stages() {
@@ -149,7 +149,7 @@ fn claim(graph: &mut Plain, who: u8, i: u16) -> Claimed
 }
 
 /// Whether a stage is settled. One that isn't there isn't.
-fn settled(graph: &Plain, i: u16) -> bool
+fn settled(graph: &ReferenceGraph, i: u16) -> bool
     ensures { result ≡ is_settled graph.now i }
 {
     if i < graph.stages() {
@@ -160,7 +160,7 @@ fn settled(graph: &Plain, i: u16) -> bool
 }
 
 /// It is the moment of the next unused limit.
-fn tick(alloc: Global, graph: &mut Plain) -> Result<(), AllocError>
+fn tick(alloc: Global, graph: &mut ReferenceGraph) -> Result<(), AllocError>
     ensures { IfOk result (λ _. graph.new ≡ (ticking graph.old (next_moment graph.old)).1) }
 {
     let moment = next_moment(graph);
@@ -169,7 +169,7 @@ fn tick(alloc: Global, graph: &mut Plain) -> Result<(), AllocError>
 }
 
 /// The moment of the next unused limit, or else the moment that it is.
-pub(crate) fn next_moment(graph: &Plain) -> u32
+pub(crate) fn next_moment(graph: &ReferenceGraph) -> u32
     ensures { result ≡ next_moment graph.now }
 {
     match graph.next_limit() {
@@ -181,7 +181,7 @@ pub(crate) fn next_moment(graph: &Plain) -> u32
 /// Finishes a stage. One that isn't there isn't claimed.
 fn finish(
     alloc: Global,
-    graph: &mut Plain,
+    graph: &mut ReferenceGraph,
     who: u8,
     i: u16,
     given: Answer,

@@ -1,36 +1,39 @@
 //! How a race begins: caller 0 does the steps, and then it meets each other caller.
 ghost use Rattle.std.specs.Prelude.{◌≡◌, ◌+◌, ◌<◌, ◌≤◌, All, IfOk, length, vec_len};
-ghost use Rattle.cf_forms.specs.Plans.{with_room};
 ghost use Rattle.cf_desk.specs.Views.{IsOf};
 ghost use Rattle.cf_pool.specs.Beginnings.{HasDoneSteps, HasTaken, HaveBegun, IsApart, IsIdle};
-ghost use Rattle.cf_pool.specs.Races.{IsStep, race_functions};
+ghost use Rattle.cf_pool.specs.Races.{IsRaceDesk, IsStep};
 
-use cf_desk::{Call, Desk, Pass};
+use crate::races::RaceTerms;
+use cf_desk::{Call, Desk, DeskGrowth, DeskSizes, Pass};
 use cf_model::Event;
-use cf_plan::Plan;
 use std::alloc::{AllocError, Global};
 
 /// How many functions a race knows: as many as stages can name.
 const FUNCTIONS: u32 = 65_536;
 
-/// Opens a desk with room for so many stages, and begins a race: its passes, caller 0's first.
+/// Opens a desk of these sizes for a race, and begins the race: the desk, and its passes, caller 0's first.
 pub(crate) fn begin(
     alloc: Global,
-    plan: Plan,
-    room: u16,
-    callers: u8,
-    steps: &[Event],
-    log: u16,
-    calls: u16,
+    terms: RaceTerms<'_>,
+    sizes: DeskSizes,
 ) -> Result<(Desk, Vec<Pass>), AllocError>
-    requires steps { All IsStep steps.now × (length steps.now < calls) }
-    ensures desk { IfOk result (λ r. (r.0.setting ≡ record { plan = with_room plan room; callers = callers; functions = race_functions }) × (r.0.words ≡ log)) }
-    ensures passes { IfOk result (λ r. All (IsOf r.0) r.1.items × (vec_len r.1 ≡ callers)) }
-    ensures begun { IfOk result (λ r. HaveBegun r.0 steps.now calls r.1.items) }
+    requires steps { All IsStep terms.steps.now × (length terms.steps.now < sizes.calls) }
+    ensures desk { IfOk result (λ r. IsRaceDesk terms.entry sizes r.0) }
+    ensures passes { IfOk result (λ r. All (IsOf r.0) r.1.items × (vec_len r.1 ≡ sizes.callers)) }
+    ensures begun { IfOk result (λ r. HaveBegun r.0 terms.entry.steps.now sizes.calls r.1.items) }
 {
-    let (desk, mut passes) = match Desk::open_growing(
-        alloc, plan, callers, log, calls, room, FUNCTIONS,
-    ) {
+    let RaceTerms {
+        plan,
+        room,
+        steps,
+        workers: _,
+    } = terms;
+    let growth = DeskGrowth {
+        room,
+        functions: FUNCTIONS,
+    };
+    let (desk, mut passes) = match Desk::open_growing(alloc, plan, sizes, growth) {
         Ok(opened) => opened,
         Err(_) => return Err(AllocError),
     };

@@ -1,12 +1,14 @@
 //! How much a race needs.
-ghost use Rattle.std.specs.Prelude.{◌≡◌, ◌+◌, ◌*◌, ◌<◌, ◌≤◌, MatchOption};
-ghost use Rattle.cf_pool.specs.Races.{log_words};
+ghost use Rattle.std.specs.Prelude.{◌<◌, ◌≤◌, MatchOption};
+ghost use Rattle.cf_pool.specs.Races.{AreRaceSizes, log_words};
 
-/// How many words the log of a race has, of whose stages there may be so many, and how many records each pass may hold: one
-/// more than there can be. There are none where the log would have more than 65,535 words.
-pub(crate) fn sizes(steps: usize, stages: u16, workers: u8) -> Option<(u16, u16)>
+use cf_desk::DeskSizes;
+
+/// The sizes of the desk of a race, with so many steps, stages and workers: a caller for each worker beside caller 0, and
+/// one word and one record more than the race can need. There are none if the log would have more than 65,535 words.
+pub(crate) fn sizes(steps: usize, stages: u16, workers: u8) -> Option<DeskSizes>
     requires workers { (0 < workers) × (workers ≤ 32) }
-    ensures { MatchOption result (65535 < log_words steps stages workers) (λ s. (s.0 ≡ log_words steps stages workers) × (s.1 ≡ steps + 2 * stages + 1)) }
+    ensures { MatchOption result (65535 < log_words steps stages workers) (AreRaceSizes steps stages workers) }
 {
     if steps > 65_535 {
         return None;
@@ -18,5 +20,9 @@ pub(crate) fn sizes(steps: usize, stages: u16, workers: u8) -> Option<(u16, u16)
         return None;
     }
     let calls = steps + 2 * stages + 1;
-    Some((words as u16, calls as u16))
+    Some(DeskSizes {
+        callers: workers + 1,
+        log: words as u16,
+        calls: calls as u16,
+    })
 }

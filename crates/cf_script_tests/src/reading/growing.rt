@@ -5,7 +5,7 @@ use cf_forms::{Form, Of};
 use cf_model::{Ask, Event};
 use cf_outcome::Value;
 use cf_plan::PlanFault;
-use cf_reading::{Func, Part, ReadingFault, Script, Step, read_race, read_script};
+use cf_script_reading::{Func, Part, ReadingFault, Script, Step, read_race, read_script};
 use std::alloc::Global;
 use std::process::Abort;
 

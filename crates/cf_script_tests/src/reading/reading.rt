@@ -4,7 +4,9 @@ use cf_forms::{Answer, Args, Limit, LimitKind, StageFn};
 use cf_model::{Ask, Event};
 use cf_outcome::{Cause, Outcome, Value};
 use cf_plan::PlanFault;
-use cf_reading::{Func, MAX_BYTES, Part, ReadingFault, Script, Step, read_input, read_script};
+use cf_script_reading::{
+    Func, MAX_BYTES, Part, ReadingFault, Script, Step, read_input, read_script,
+};
 use std::alloc::Global;
 use std::io;
 use std::io::{ErrorKind, Read};

@@ -1,7 +1,7 @@
 //! The text of each part of a script, and of each reason why bytes are none.
 use crate::checks::{holds, is_shown};
 use cf_plan::PlanFault;
-use cf_reading::{Part, ReadingFault};
+use cf_script_reading::{Part, ReadingFault};
 use std::alloc::Global;
 use std::fmt::Display;
 use std::process::Abort;

@@ -6,7 +6,7 @@ use crate::checks::{holds, must, same, same_at};
 use cf_forms::{Answer, Args, Form, StageFn};
 use cf_outcome::Value;
 use cf_plan::{Plan, PlanBuilder};
-use cf_pool::{race, share};
+use cf_pool::{RaceTerms, race, share};
 use cf_script::{Gate, race_script};
 use std::alloc::Global;
 use std::process::Abort;
@@ -248,15 +248,13 @@ fn race_pairs(
     requires { (0 < workers) × (workers ≤ 32) }
 {
     let hands = must(rt, share(rt.alloc(), functions, calls, workers + 1));
-    let raced = race(
-        rt,
-        rt.alloc(),
-        pairs(rt, rt.alloc()),
-        0,
-        &[],
-        hands,
+    let terms = RaceTerms {
+        plan: pairs(rt, rt.alloc()),
+        room: 0,
+        steps: &[],
         workers,
-    );
+    };
+    let raced = race(rt, rt.alloc(), terms, hands);
     let is_raced = raced.is_ok();
     drop(raced);
     holds(rt, is_raced, (workers, "workers"));

@@ -1,5 +1,6 @@
 use Rattle.std.proofs.Common.{◌≡◌, ◌-◌, [], map, ap, ◌∙◌, arith}
 use Rattle.cf_desk.proofs.Closing.{passes_next}
+use Rattle.cf_desk.specs.Openings.{setting_of}
 use Rattle.cf_desk.specs.Rule.{fresh}
 use Rattle.cf_desk.specs.Views.{new_pass}
 use Rattle.cf_desk.proofs.desk.new_passes.Goals as goal
@@ -7,7 +8,7 @@ use Rattle.cf_desk.proofs.desk.new_passes.Goals as goal
 pub loop-caller-init : goal.loop-caller-init
 loop-caller-init c = record {
   table = c.requires.row.0;
-  seat = c.requires.seat ∙ ap (λ n. (fresh c.args.setting.now 0 n, [])) (let e : c.args.setting.now.callers ≡ c.args.setting.now.callers - 0 = omega arith in e);
+  seat = c.requires.seat ∙ ap (λ n. (fresh (setting_of c.args.opening.now) 0 n, [])) (let e : c.args.opening.now.sizes.callers ≡ c.args.opening.now.sizes.callers - 0 = omega arith in e);
   left = (let n = c.in_ok-passes.ensures.len in let r = c.in_ok-passes.ensures.capacity in omega arith);
   passes = c.in_ok-passes.ensures.items;
 }
@@ -24,14 +25,14 @@ push_reserved-requires c = (let l = c.loop-caller.invariant.left in let t = c.lo
 pub loop-caller-preserved : goal.loop-caller-preserved
 loop-caller-preserved c =
     let i = c.loop-caller.invariant in
-    let s = c.in_ok-new_pass.ensures.seat in record {
-      table = s.0 ∙ i.table;
-      seat = s.1;
+    record {
+      table = c.in_ok-new_pass.ensures.table ∙ i.table;
+      seat = c.in_ok-new_pass.ensures.seat;
       left = (let l = i.left in let t = c.loop-caller-test.true in omega (arith, c.push_reserved.ensures.len, c.push_reserved.ensures.capacity));
       passes = passes_next _ _ _ _ _ _ _ i.passes c.push_reserved.ensures.items c.in_ok-new_pass.ensures.pass;
     }
 
 pub returns : goal.returns
 returns c =
-    let all : c.loop-caller.caller ≡ c.args.setting.now.callers = (let t = c.loop-caller-test.false in omega arith) in
-    c.loop-caller.invariant.passes ∙ ap (λ n. map (new_pass c.args.row.now.shared.table_id c.args.calls) (fresh c.args.setting.now 0 n)) all
+    let all : c.loop-caller.caller ≡ c.args.opening.now.sizes.callers = (let t = c.loop-caller-test.false in omega arith) in
+    c.loop-caller.invariant.passes ∙ ap (λ n. map (new_pass c.args.row.now.shared.table_id c.args.opening.now.sizes.calls) (fresh (setting_of c.args.opening.now) 0 n)) all

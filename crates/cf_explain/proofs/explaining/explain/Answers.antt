@@ -3,10 +3,10 @@ use Rattle.std.proofs.lemmas.List.Elements.{All-nil}
 use Rattle.serde_json.specs.Data.{Data}
 use Rattle.serde_json.specs.Read.{read}
 use Rattle.serde_json.specs.View.{view}
-use Rattle.cf_reading.specs.declared.fault.ReadingFault.{ReadingFault}
-use Rattle.cf_reading.specs.Reading.{json_of, script_said}
-use Rattle.cf_reading.specs.Scripts.{Script}
-use Rattle.cf_reading.proofs.Texts.{json_found, reading_not_json, reading_said, reading_too_long}
+use Rattle.cf_script_reading.specs.declared.fault.ReadingFault.{ReadingFault}
+use Rattle.cf_script_reading.specs.Reading.{json_of, script_said}
+use Rattle.cf_script_reading.specs.Scripts.{Script}
+use Rattle.cf_script_reading.proofs.Texts.{json_found, reading_not_json, reading_said, reading_too_long}
 use Rattle.cf_explain.specs.Remarks.{AreRemarks, IsOfWriting}
 use Rattle.cf_explain.specs.Verdicts.{ExplainTells}
 use Rattle.cf_explain.proofs.explaining.explain.Goals as goal

@@ -11,7 +11,7 @@ returns-clause-kept c =
     let n = c.push.ensures in
     subst (λ words. IsKept plan words c.answer_telling-reply.new.self c.push.new.changed c.push.new.self.lists) (sym c.push_reserved.ensures.items)
     (kept_push plan c.args.words.now.items c.args.graph.now c.answer_telling-reply.new.self c.args.word c.args.event.now c.answer_telling-reply.result c.args.changed.now c.push.new.changed c.answer_telling-reply.new.changed c.args.news.now.lists c.push.new.self.lists
-    c.requires.kept c.stages-before.ensures.all_stages c.stages-after.ensures.all_stages
+    c.requires.kept c.stages-known_before.ensures.all_stages c.stages-known_after.ensures.all_stages
     c.requires.read c.requires.named c.requires.taken t.told t.worked_out n.down (n.flags ∙ t.flags) t.flags t.changed n.lists)
 
 pub returns-clause-does : goal.returns-clause-does

@@ -1,5 +1,5 @@
 use Rattle.std.proofs.Common.{◌≡◌, drop}
-use Rattle.cf_reading.specs.Scripts.{StepsFit, extent_of}
+use Rattle.cf_script_reading.specs.Scripts.{StepsFit, extent_of}
 use Rattle.cf_script.specs.Reports.{after_steps}
 use Rattle.cf_picture.proofs.run.do_steps.Given as goal
 

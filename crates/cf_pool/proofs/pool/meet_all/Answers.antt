@@ -46,7 +46,10 @@ pub push_reserved-requires-in-Some : goal.push_reserved-requires-in-Some
 push_reserved-requires-in-Some g c = let left = c.next.invariant.left_too in let one = c.in-Some.ensures.cases.1 in omega (arith, left, one)
 
 pub returns-clause-room : goal.returns-clause-room
-returns-clause-room g c = (c.next.invariant.room, c.next.invariant.room_too)
+returns-clause-room g c = c.next.invariant.room
+
+pub returns-clause-room_too : goal.returns-clause-room_too
+returns-clause-room_too g c = c.next.invariant.room_too
 
 pub next-preserved : goal.next-preserved
 next-preserved g c =

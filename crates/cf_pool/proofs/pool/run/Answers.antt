@@ -40,7 +40,7 @@ returns-in-Ok-clause-refused g c =
     (subst (λ ms. IfErr c.run_each.result (RunRefuses g.W.Worker.tells g.W.Functions.calls (first_answers g.W.Worker.answers ms) c.args.desk (map (λ w. w.0) c.pair-pairs.result.items) ms)) c.pair-pairs.ensures.workers c.run_each.ensures.refused)
 
 pub pair-pairs-requires-clause-room : goal.pair-pairs-requires-clause-room
-pair-pairs-requires-clause-room g c = let r = c.in-Ok.ensures.room.0 in let l = c.len.ensures in let p = c.requires.passes.1 in omega arith
+pair-pairs-requires-clause-room g c = let r = c.in-Ok.ensures.pairs in let l = c.len.ensures in let p = c.requires.passes.1 in omega arith
 
 pub run_each-requires-clause-room : goal.run_each-requires-clause-room
 run_each-requires-clause-room g c =
@@ -48,8 +48,16 @@ run_each-requires-clause-room g c =
     let m = length-map c.pair-pairs.result.items (λ w. w.0) in
     let a = c.pair-pairs.result.ok.0 in let b = c.args.passes.ok.0 in let p = c.requires.passes.1 in let l = c.len.ensures in let r = c.in-Ok.ensures.room in
     let len : vec_len c.pair-pairs.result ≡ vec_len c.args.workers = omega arith in
-    let started : vec_len c.pair-pairs.result ≤ vec_capacity c.in-Ok.room.started = omega (arith, len, r.1) in
-    let worked : vec_len c.pair-pairs.result ≤ vec_capacity c.in-Ok.room.worked = omega (arith, len, r.2) in
-    let passes : vec_len c.pair-pairs.result ≤ vec_capacity c.in-Ok.room.back.passes = omega (arith, len, r.3) in
-    let workers : vec_len c.pair-pairs.result ≤ vec_capacity c.in-Ok.room.back.workers = omega (arith, len, r.4) in
-    search (rules, started, worked, passes, workers)
+    let started : vec_len c.pair-pairs.result ≤ vec_capacity c.in-Ok.room.started = omega (arith, len, r.0) in
+    let worked : vec_len c.pair-pairs.result ≤ vec_capacity c.in-Ok.room.worked = omega (arith, len, r.1) in
+    search (rules, started, worked)
+
+pub run_each-requires-clause-back : goal.run_each-requires-clause-back
+run_each-requires-clause-back g c =
+    let n = ap (λ (l : List Pass). length l) c.pair-pairs.ensures.passes in
+    let m = length-map c.pair-pairs.result.items (λ w. w.0) in
+    let a = c.pair-pairs.result.ok.0 in let b = c.args.passes.ok.0 in let p = c.requires.passes.1 in let l = c.len.ensures in let r = c.in-Ok.ensures.back in
+    let len : vec_len c.pair-pairs.result ≡ vec_len c.args.workers = omega arith in
+    let passes : vec_len c.pair-pairs.result ≤ vec_capacity c.in-Ok.room.back.passes = omega (arith, len, r.0) in
+    let workers : vec_len c.pair-pairs.result ≤ vec_capacity c.in-Ok.room.back.workers = omega (arith, len, r.1) in
+    search (rules, passes, workers)

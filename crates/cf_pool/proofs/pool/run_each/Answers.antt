@@ -61,7 +61,7 @@ meet_all-back-requires-clause-table g c =
 pub meet_all-back-requires-clause-room : goal.meet_all-back-requires-clause-room
 meet_all-back-requires-clause-room g c =
     let at = goal.at.meet_all-back-requires-clause-room g c in
-    let n = came g at.After-spread-worked in let m = all g at.After-remove-one in let a = c.spread-worked.result.ok.0 in let b = c.args.workers.ok.0 in let p = c.requires.room.2 in let w = c.requires.room.3 in
+    let n = came g at.After-spread-worked in let m = all g at.After-remove-one in let a = c.spread-worked.result.ok.0 in let b = c.args.workers.ok.0 in let p = c.requires.back.0 in let w = c.requires.back.1 in
     (omega arith, omega arith)
 
 pub work_on-done-requires-clause-pass : goal.work_on-done-requires-clause-pass
@@ -76,7 +76,7 @@ put_first-passes-requires g c =
     let at = goal.at.put_first-passes-requires g c in
     let n = came g at.After-spread-worked in let m = all g at.After-remove-one in
     let z = zip_length _ c.spread-worked.result.items c.meet_all-back.result.passes.items c.meet_all-back.ensures.others in
-    let a = c.meet_all-back.result.passes.ok.0 in let b = c.args.workers.ok.0 in let p = c.requires.room.2 in let w = c.requires.room.3 in let r = c.meet_all-back.ensures.room in
+    let a = c.meet_all-back.result.passes.ok.0 in let b = c.args.workers.ok.0 in let p = c.requires.back.0 in let w = c.requires.back.1 in let r = c.meet_all-back.ensures.room in let k = c.meet_all-back.ensures.room_too in
     omega arith
 
 pub put_first-workers-requires : goal.put_first-workers-requires
@@ -84,7 +84,7 @@ put_first-workers-requires g c =
     let at = goal.at.put_first-workers-requires g c in
     let n = came g at.After-spread-worked in let m = all g at.After-remove-one in
     let z = ap length c.meet_all-back.ensures.workers ∙ length-map c.spread-worked.result.items (λ w. w.worker) in
-    let a = c.meet_all-back.result.workers.ok.0 in let b = c.args.workers.ok.0 in let p = c.requires.room.2 in let w = c.requires.room.3 in let r = c.meet_all-back.ensures.room in
+    let a = c.meet_all-back.result.workers.ok.0 in let b = c.args.workers.ok.0 in let p = c.requires.back.0 in let w = c.requires.back.1 in let r = c.meet_all-back.ensures.room in let k = c.meet_all-back.ensures.room_too in
     omega arith
 
 back : (g : Over) (c : After-put_first-workers g) → All (IsOf c.args.desk) (c.remove-one.result.0 ∷ map (λ w. w.0) c.remove-one.new.self.items)

@@ -4,8 +4,8 @@ use Rattle.cf_forms.specs.Meanings.{meanings_of}
 use Rattle.cf_forms.specs.Plans.{Planned, has_place, with_room}
 use Rattle.cf_pool.specs.Answering.{as_meant}
 use Rattle.cf_pool.specs.Races.{AreSteps, IsRaced, log_words}
-use Rattle.cf_reading.specs.Functions.{func_answer}
-use Rattle.cf_reading.specs.Scripts.{opening}
+use Rattle.cf_script_reading.specs.Functions.{func_answer}
+use Rattle.cf_script_reading.specs.Scripts.{opening}
 use Rattle.cf_script.specs.Races.{IsRaceEnd, events_of}
 use Rattle.cf_script.proofs.RaceLemmas.{ends_of, steps_taken, too_long}
 use Rattle.cf_script.proofs.race.graph_of.Goals as goal

@@ -1,6 +1,6 @@
 use Rattle.std.proofs.Common.{ap, subst, Err}
-use Rattle.cf_reading.specs.Checks.{Fails}
-use Rattle.cf_reading.specs.Reading.{race_reading}
+use Rattle.cf_script_reading.specs.Checks.{Fails}
+use Rattle.cf_script_reading.specs.Reading.{race_reading}
 use Rattle.cf_text.specs.Faults.{fault_of_reading}
 use Rattle.cf_script.specs.Races.{IsRaceText, IsTooLargeToRace, RaceGives}
 use Rattle.cf_script.proofs.PrintLemmas.{fault_given, misread, too_long_to_race, unread}

@@ -1,5 +1,5 @@
 use Rattle.std.proofs.Common.{◌≡◌, ◌++◌, drop, string_bytes}
-use Rattle.cf_reading.specs.Scripts.{StepsFit, extent_of}
+use Rattle.cf_script_reading.specs.Scripts.{StepsFit, extent_of}
 use Rattle.cf_script.specs.Reports.{steps_lines, after_steps}
 use Rattle.cf_script.proofs.report.write_steps.Given as goal
 

@@ -15,7 +15,7 @@ returns-in-Tick-clause-changed c =
     let old = c.args.self.now in
     let none = moved_none old.state.stages c.args.changed.now c.requires.unset in
     let t = c.tick_telling.ensures in
-    let start = subst (λ stages. HaveMoved old.state.stages stages c.args.changed.now) (sym (c.stages-stages.ensures.worked_out c.requires.worked_out)) none in
+    let start = subst (λ stages. HaveMoved old.state.stages stages c.args.changed.now) (sym (c.stages-known.ensures.worked_out c.requires.worked_out)) none in
     moved_changes old.state.stages c.tick_telling.new.self.state.stages c.tick_telling.new.changed
     (subst (λ stages. HaveMoved old.state.stages stages c.tick_telling.new.changed) t.kept (t.moved old.state.stages start))
 
@@ -47,7 +47,7 @@ returns-in_default c =
     let old = c.args.self.now in
     let none = moved_none old.state.stages c.args.changed.now c.requires.unset in
     let n = c.note_moved.ensures in
-    let kept = c.stages-stages.ensures.worked_out c.requires.worked_out in
+    let kept = c.stages-known.ensures.worked_out c.requires.worked_out in
     let start = subst (λ stages. HaveMoved old.state.stages stages c.args.changed.now) (sym kept) none in
     let d = c.moved_by-d.result in
     let alone : MovesAlone d old.kept c.answer-reply.new.self.kept =
@@ -59,6 +59,8 @@ returns-in_default c =
           (subst (λ stages. HaveMoved old.state.stages stages c.note_moved.new.changed) n.kept (n.told old.state.stages old.kept start alone c.rank-before.ensures.rank));
       worked_out = n.worked_out;
       flags = n.flags;
-      counted = (let a = c.answer-reply.ensures.counted in let b = n.counted in omega (arith, a, b));
-      few = n.few;
+      counted = record {
+        counted = (let a = c.answer-reply.ensures.counted.counted in let b = n.counted.counted in omega (arith, a, b));
+        few = n.counted.few;
+      };
     }

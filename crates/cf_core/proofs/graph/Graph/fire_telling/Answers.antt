@@ -26,7 +26,7 @@ loop-k-preserved c =
       ];
       plan = settling-plan s limit.stage (limit_outcome limit.kind) c.fire.result r fired ∙ h.plan;
       used = settling-used s limit.stage (limit_outcome limit.kind) c.fire.result r fired ∙ h.used;
-      counted = (let before = h.counted in let more = c.fire.ensures.counted in let rest = c.note_moved.ensures.counted in omega (arith, before, more, rest));
+      counted = (let before = h.counted in let more = c.fire.ensures.counted in let rest = c.note_moved.ensures.counted.counted in omega (arith, before, more, rest));
       worked_out = c.note_moved.ensures.worked_out;
       kept = c.note_moved.ensures.kept;
       moved = λ old moved. c.note_moved.ensures.told old c.loop-k.self.kept (h.moved old moved) (c.fire.ensures.alone h.worked_out) c.rank-before.ensures.rank;

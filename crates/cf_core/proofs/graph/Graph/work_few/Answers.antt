@@ -6,7 +6,7 @@ pub loop-calls-preserved : goal.loop-calls-preserved
 loop-calls-preserved g c =
     let h = c.loop-calls.invariant in
     let before = h.counted in
-    let turns = c.work_once.ensures.counted in
+    let turns = c.work_once.ensures.counted.counted in
     record {
       called = run_more g.F.Functions.calls c.args.who c.args.self.now.state c.loop-calls.self.state c.work_once.new.self.state c.args.functions.now c.loop-calls.functions c.work_once.new.functions c.loop-calls.calls c.work_once.result
           c.work_once.ensures.called c.if-is_none.ensures h.called;

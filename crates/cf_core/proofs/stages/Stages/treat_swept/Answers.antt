@@ -6,7 +6,8 @@ use Rattle.cf_core.specs.Keeping.Cells.{KeptStages}
 use Rattle.cf_core.specs.Keeping.Treatment.{treated}
 use Rattle.cf_core.specs.Keeping.Turns.{planned_at}
 use Rattle.cf_core.specs.Keeping.Sound.{StayTaken, kept_at, links_after, settled_view}
-use Rattle.cf_core.specs.Keeping.Sweeps.{IsSwept, ready_with, turns_after}
+use Rattle.cf_core.specs.Keeping.Sweeps.{IsSwept, turns_after}
+use Rattle.cf_core.specs.Keeping.Taking.{ready_with}
 use Rattle.cf_core.proofs.Keeping.Places.{StayTaken-set, kept_put, waiting_untaken}
 use Rattle.cf_core.proofs.Keeping.Sweeping.{IsSwept-same, offered_ready, offered_same, swept_same, swept_treated, swept_within}
 use Rattle.cf_core.proofs.stages.Stages.treat_swept.Goals as goal

@@ -15,7 +15,7 @@ invariant_of-self c =
     let plan = with_room l.plan l.room in
     let g = c.start_again.new.graph in
     let h = c.self.invariant in
-    let whole : l.plan.opened ≡ length l.plan.stages = ap (λ (p : Planned). p.opened) c.stages-stages.ensures.whole in
+    let whole : l.plan.opened ≡ length l.plan.stages = ap (λ (p : Planned). p.opened) c.stages-known.ensures.whole in
     let again : g.state ≡ start plan =
     c.start_again.ensures.start ∙ ap (λ (s : State). start (reopened s.plan)) h.left ∙ ap start (grown_reopens l.plan l.room (decoded l.words.items) whole) in
     let all = length g.state.plan.stages + g.state.plan.room in

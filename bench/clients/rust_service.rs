@@ -1,0 +1,388 @@
+//! Stages of clients/rust's crate `cf` beside futures, tokio and rayon: bench/clients/rust-service builds and runs it. A line for each way: the best
+//! and the median of many rounds, in picoseconds a stage, and at last bytes a stage.
+//!
+//! - fan-out: a source is completed, 510 functions take its value on eight threads, and all have answered. What is built before isn't counted.
+//! - chain: 16 functions, each of the value before it, on one thread, making included.
+//! - bytes: what a request of 512 stages takes beside one of none, once all are settled, or before.
+use cf::{Inline, Pool, Request, Spawn, Stage, SystemClock};
+use std::hint::black_box;
+use std::sync::atomic::{AtomicUsize, Ordering};
+use std::sync::{Arc, Mutex};
+use std::thread::{self, Thread};
+use std::time::{Duration, Instant};
+
+const THREADS: usize = 8;
+const STAGES: usize = 512;
+/// The functions, between the source and what waits for all.
+const PARTS: usize = STAGES - 2;
+const CHAIN: usize = 16;
+/// Chains in one round.
+const CHAINS: usize = 32;
+
+fn one_more(value: i32) -> i32 {
+    value.wrapping_add(1)
+}
+
+/// Ways that are measured in turns, so that a minute in which others work strikes all alike.
+struct Ways<'a> {
+    rows: Vec<(String, Box<dyn FnMut() -> Duration + 'a>, Vec<u128>)>,
+    words: Vec<String>,
+}
+
+impl<'a> Ways<'a> {
+    fn add(&mut self, name: impl Into<String>, round: impl FnMut() -> Duration + 'a) {
+        let name = name.into();
+        if self.words.is_empty() || self.words.iter().any(|word| name.contains(word.as_str())) {
+            self.rows.push((name, Box::new(round), Vec::new()));
+        }
+    }
+
+    fn run(&mut self, rounds: usize) {
+        for _ in 0..rounds {
+            for (_, round, nanos) in &mut self.rows {
+                nanos.push(round().as_nanos());
+            }
+        }
+        for (name, _, nanos) in &mut self.rows {
+            nanos.sort_unstable();
+            let a_stage = |nanos: u128| nanos * 1000 / STAGES as u128;
+            println!("{name}: best {} ps, median {} ps, {rounds} rounds", a_stage(nanos[0]), a_stage(nanos[rounds / 2]));
+        }
+    }
+}
+
+/// Counts answers down, and wakes the thread that waits for the last.
+struct Left(AtomicUsize, Thread);
+
+impl Left {
+    fn new() -> Arc<Left> {
+        Arc::new(Left(AtomicUsize::new(PARTS), thread::current()))
+    }
+
+    fn take(&self, answer: i32) {
+        assert_eq!(answer, 2);
+        if self.0.fetch_sub(1, Ordering::AcqRel) == 1 {
+            self.1.unpark();
+        }
+    }
+
+    fn wait(&self) {
+        while self.0.load(Ordering::Acquire) > 0 {
+            thread::park();
+        }
+    }
+}
+
+/// Lets what was spawned come to where it waits.
+fn let_wait() {
+    thread::sleep(Duration::from_micros(300));
+}
+
+// ---- Others ----
+
+fn by_futures(pool: &futures::executor::ThreadPool) -> Duration {
+    use futures::future::{join_all, FutureExt};
+    use futures::task::SpawnExt;
+    let (source, came) = futures::channel::oneshot::channel::<i32>();
+    let came = came.map(|value| value.expect("it is sent")).shared();
+    let part = |_| pool.spawn_with_handle(came.clone().map(one_more)).expect("it is spawned");
+    let parts: Vec<_> = (0..PARTS).map(part).collect();
+    let_wait();
+    let since = Instant::now();
+    source.send(1).expect("it is received");
+    let answers = futures::executor::block_on(join_all(parts));
+    let took = since.elapsed();
+    assert!(answers.iter().all(|it| *it == 2));
+    took
+}
+
+fn by_tokio(runtime: &tokio::runtime::Runtime) -> Duration {
+    use futures::future::FutureExt;
+    let left = Left::new();
+    let (source, came) = tokio::sync::oneshot::channel::<i32>();
+    let came = came.map(|value| value.expect("it is sent")).shared();
+    for _ in 0..PARTS {
+        let (came, left) = (came.clone(), left.clone());
+        runtime.spawn(async move { left.take(one_more(came.await)) });
+    }
+    let_wait();
+    let since = Instant::now();
+    source.send(1).expect("it is received");
+    left.wait();
+    since.elapsed()
+}
+
+fn by_rayon(pool: &rayon::ThreadPool) -> Duration {
+    let answers: Vec<Mutex<i32>> = (0..PARTS).map(|_| Mutex::new(0)).collect();
+    let since = Instant::now();
+    pool.scope(|scope| {
+        for answer in &answers {
+            scope.spawn(move |_| *answer.lock().expect("no thread panicked") = one_more(1));
+        }
+    });
+    let took = since.elapsed();
+    assert!(answers.iter().all(|it| *it.lock().expect("no thread panicked") == 2));
+    took
+}
+
+fn chain_of_boxes() -> Duration {
+    use futures::future::{ready, FutureExt};
+    let since = Instant::now();
+    for _ in 0..CHAINS {
+        let mut last = ready(1).boxed();
+        for _ in 0..CHAIN {
+            last = last.map(one_more).boxed();
+        }
+        assert_eq!(black_box(futures::executor::block_on(last)), 17);
+    }
+    since.elapsed()
+}
+
+/// The same from a oneshot channel that is sent to last, so that each future waits first.
+fn chain_of_waiting_boxes() -> Duration {
+    use futures::future::FutureExt;
+    let mut context = std::task::Context::from_waker(futures::task::noop_waker_ref());
+    let since = Instant::now();
+    for _ in 0..CHAINS {
+        let (source, came) = futures::channel::oneshot::channel::<i32>();
+        let mut last = came.map(|value| value.expect("it is sent")).boxed();
+        for _ in 0..CHAIN {
+            last = last.map(one_more).boxed();
+        }
+        assert!(last.poll_unpin(&mut context).is_pending());
+        source.send(1).expect("it is received");
+        assert_eq!(black_box(futures::executor::block_on(last)), 17);
+    }
+    since.elapsed()
+}
+
+// ---- Requests ----
+
+fn request(spawn: &Arc<dyn Spawn>, room: u16) -> Request {
+    Request::try_new("measured", spawn.clone(), Arc::new(SystemClock), room).expect("a ledger")
+}
+
+fn fan_out(spawn: &Arc<dyn Spawn>, left: &Arc<Left>) -> (Request, Stage<i32>, Vec<Stage<()>>) {
+    let request = request(spawn, STAGES as u16);
+    let source = request.promise::<i32>();
+    let one = |_| {
+        let left = left.clone();
+        source.clone().then(move |value| left.take(one_more(*value)))
+    };
+    let parts = (0..PARTS).map(one).collect();
+    (request, source, parts)
+}
+
+/// The functions give numbers, so that each answer is kept.
+fn values(spawn: &Arc<dyn Spawn>, left: &Arc<Left>) -> (Request, Stage<i32>, Vec<Stage<i32>>) {
+    let request = request(spawn, STAGES as u16);
+    let source = request.promise::<i32>();
+    let one = |_| {
+        let left = left.clone();
+        source.clone().then(move |value| {
+            let answer = one_more(*value);
+            left.take(answer);
+            answer
+        })
+    };
+    let parts = (0..PARTS).map(one).collect();
+    (request, source, parts)
+}
+
+fn by_request(spawn: &Arc<dyn Spawn>) -> Duration {
+    let left = Left::new();
+    let (_request, source, _parts) = values(spawn, &left);
+    let since = Instant::now();
+    source.complete(1).expect("it is pending");
+    left.wait();
+    since.elapsed()
+}
+
+fn by_request_of_nothing(spawn: &Arc<dyn Spawn>) -> Duration {
+    let left = Left::new();
+    let (_request, source, _parts) = fan_out(spawn, &left);
+    let since = Instant::now();
+    source.complete(1).expect("it is pending");
+    left.wait();
+    since.elapsed()
+}
+
+fn by_request_joined(spawn: &Arc<dyn Spawn>) -> Duration {
+    let left = Left::new();
+    let (_request, source, parts) = values(spawn, &left);
+    let since = Instant::now();
+    source.complete(1).expect("it is pending");
+    let answers = futures::executor::block_on(futures::future::join_all(parts));
+    let took = since.elapsed();
+    assert!(answers.iter().all(|it| matches!(it, Ok(2))));
+    took
+}
+
+fn by_request_whole(spawn: &Arc<dyn Spawn>) -> Duration {
+    let left = Left::new();
+    let since = Instant::now();
+    let (_request, source, _parts) = values(spawn, &left);
+    source.complete(1).expect("it is pending");
+    left.wait();
+    since.elapsed()
+}
+
+fn chain_of_stages(spawn: &Arc<dyn Spawn>, room: u16) -> Duration {
+    let since = Instant::now();
+    for _ in 0..CHAINS {
+        let request = request(spawn, room);
+        let source = request.promise::<i32>();
+        let mut last = source.clone();
+        for _ in 0..CHAIN {
+            last = last.then(|value| one_more(*value));
+        }
+        source.complete(1).expect("it is pending");
+        assert_eq!(black_box(last.wait()).expect("a value"), 17);
+    }
+    since.elapsed()
+}
+
+/// Each function is run when it is attached.
+fn chain_of_settled_stages(spawn: &Arc<dyn Spawn>, room: u16) -> Duration {
+    let since = Instant::now();
+    for _ in 0..CHAINS {
+        let request = request(spawn, room);
+        let mut last = request.supply(|| 1);
+        for _ in 0..CHAIN {
+            last = last.then(|value| one_more(*value));
+        }
+        assert_eq!(black_box(last.wait()).expect("a value"), 17);
+    }
+    since.elapsed()
+}
+
+/// The library's part of the same chain: its ledger and its words.
+fn chain_of_words(plan: &mut cf_graph::Plan) -> Duration {
+    let since = Instant::now();
+    for _ in 0..CHAINS {
+        let mut ledger = cf_graph::Ledger::new(plan, 17).expect("a ledger");
+        let mut act = |word: u64| assert!(ledger.apply(black_box(word)).is_ok());
+        act(7 << 56);
+        (1..=CHAIN as u64).for_each(|k| act(7 << 56 | (k - 1) << 36 | 1 << 32 | 3 << 24 | k));
+        act(1 << 56 | 1 << 32 | 1);
+        for k in 1..=CHAIN as u64 {
+            act(4 << 56 | k << 36);
+            act(5 << 56 | k << 36 | 1 << 32 | k);
+        }
+    }
+    since.elapsed()
+}
+
+fn ledgers_alone(plan: &mut cf_graph::Plan, room: u16) -> Duration {
+    let since = Instant::now();
+    for _ in 0..STAGES {
+        black_box(cf_graph::Ledger::new(plan, room).expect("a ledger"));
+    }
+    since.elapsed()
+}
+
+/// The library's part of a fan-out on one thread: claims and finishes, with their news.
+fn fan_out_of_words(plan: &mut cf_graph::Plan) -> Duration {
+    let mut ledger = cf_graph::Ledger::new(plan, STAGES as u16).expect("a ledger");
+    let mut act = |word: u64| assert!(ledger.apply(black_box(word)).is_ok());
+    act(7 << 56);
+    (1..=PARTS as u64).for_each(|k| act(7 << 56 | 1 << 32 | 3 << 24 | k));
+    let since = Instant::now();
+    act(1 << 56 | 1 << 32);
+    for k in 1..=PARTS as u64 {
+        act(4 << 56 | k << 36);
+        act(5 << 56 | k << 36 | 1 << 32 | k);
+    }
+    since.elapsed()
+}
+
+// ---- Memory ----
+
+#[repr(C)]
+#[derive(Default)]
+struct Mallinfo([usize; 10]);
+
+extern "C" {
+    fn mallinfo2() -> Mallinfo;
+}
+
+/// What the C library says is in use, the Rust part's too.
+fn in_use() -> usize {
+    // SAFETY: the call takes nothing and fills a struct of ten sizes.
+    let told = unsafe { mallinfo2() };
+    told.0[7] + told.0[4]
+}
+
+fn bytes() {
+    let spawn: Arc<dyn Spawn> = Arc::new(Inline);
+    for (name, settled) in [("bytes a stage, pending", false), ("bytes a stage, settled", true)] {
+        let empty = request(&spawn, 1);
+        let before = in_use();
+        let request = request(&spawn, STAGES as u16);
+        let source = request.promise::<i32>();
+        for _ in 1..STAGES {
+            drop(source.clone().then(|value| one_more(*value)));
+        }
+        if settled {
+            source.complete(1).expect("it is pending");
+        }
+        println!("{name}: {}", (in_use() - before) / STAGES);
+        drop((empty, request));
+    }
+}
+
+/// The library's part of it: a ledger with the same words.
+fn bytes_of_ledger(plan: &mut cf_graph::Plan) {
+    let before = in_use();
+    let mut ledger = cf_graph::Ledger::new(plan, STAGES as u16).expect("a ledger");
+    let mut act = |word: u64| assert!(ledger.apply(word).is_ok());
+    act(7 << 56);
+    (1..STAGES as u64).for_each(|k| act(7 << 56 | 1 << 32 | 3 << 24 | k));
+    act(1 << 56 | 1 << 32);
+    for k in 1..STAGES as u64 {
+        act(4 << 56 | k << 36);
+        act(5 << 56 | k << 36 | 1 << 32 | k);
+    }
+    println!("bytes a stage, of the library's ledger alone: {}", (in_use() - before) / STAGES);
+}
+
+fn main() {
+    let mut args = std::env::args().skip(1);
+    let rounds = args.next().and_then(|it| it.parse().ok()).unwrap_or(300);
+    let mut plans: Vec<_> = (0..4).map(|_| cf_graph::PlanBuilder::new().and_then(|it| it.build()).expect("a plan")).collect();
+    bytes();
+    bytes_of_ledger(&mut plans[3]);
+    let pool = futures::executor::ThreadPool::builder().pool_size(THREADS).create().expect("there are threads");
+    let runtime = tokio::runtime::Builder::new_multi_thread().worker_threads(THREADS).enable_all().build().expect("there are threads");
+    let threads = || rayon::ThreadPoolBuilder::new().num_threads(THREADS).build().expect("there are threads");
+    let rayon = threads();
+    let spawns: [(&str, Arc<dyn Spawn>); 4] = [
+        ("cf::Pool", Arc::new(Pool::new(THREADS))),
+        ("rayon", Arc::new(threads())),
+        ("tokio blocking", Arc::new(cf::Blocking::new(runtime.handle().clone(), THREADS))),
+        ("tokio tasks", Arc::new(cf::Tasks::new(runtime.handle().clone(), THREADS))),
+    ];
+    let inline: Arc<dyn Spawn> = Arc::new(Inline);
+    let mut ways = Ways { rows: Vec::new(), words: args.collect() };
+    ways.add("fan-out futures", || by_futures(&pool));
+    ways.add("fan-out tokio", || by_tokio(&runtime));
+    ways.add("fan-out rayon", || by_rayon(&rayon));
+    for (name, spawn) in &spawns {
+        ways.add(format!("fan-out request on {name}"), || by_request(spawn));
+    }
+    ways.add("fan-out request on cf::Pool, of ()", || by_request_of_nothing(&spawns[0].1));
+    ways.add("fan-out request on cf::Pool, and join_all", || by_request_joined(&spawns[0].1));
+    ways.add("fan-out request on cf::Pool, made too", || by_request_whole(&spawns[0].1));
+    ways.add("fan-out request inline", || by_request(&inline));
+    ways.add("chain boxed futures", chain_of_boxes);
+    ways.add("chain boxed futures that wait", chain_of_waiting_boxes);
+    ways.add("chain request", || chain_of_stages(&inline, 17));
+    ways.add("chain request, run when attached", || chain_of_settled_stages(&inline, 17));
+    let mut plans = plans.iter_mut();
+    let mut plan = || plans.next().expect("a plan");
+    let (one, two, three) = (plan(), plan(), plan());
+    ways.add("chain words of the library", move || chain_of_words(one));
+    ways.add("fan-out words of the library", move || fan_out_of_words(two));
+    ways.add("ledger of room 17, made and freed", move || ledgers_alone(three, 17));
+    ways.run(rounds);
+}

@@ -1,0 +1,137 @@
+//! The fan-out of bench/library/fan_out.rs by other crates, whose pools have as many threads: from when the source is completed to when all
+//! functions have answered. bench/library/run builds those that cargo has without a network.
+//!
+//! - `fan-out futures`: futures that wait for the source are spawned before, and `join_all` waits for them.
+//! - `fan-out tokio, watch`: tasks that wait for the source by a `watch` are spawned before.
+//! - `fan-out tokio, spawn`: the tasks are spawned once the source is there.
+//! - `fan-out rayon, scope`: each function is spawned in a scope.
+//! - `fan-out rayon, par_iter`: the functions are the steps of one parallel iterator.
+use super::{one_more, show, PARTS, THREADS};
+use std::time::{Duration, Instant};
+
+/// Lets what was spawned come to where it waits.
+#[cfg(any(feature = "futures", feature = "tokio"))]
+fn let_wait() {
+    std::thread::sleep(Duration::from_micros(300));
+}
+
+#[cfg(feature = "futures")]
+pub fn by_futures() {
+    use futures::channel::oneshot;
+    use futures::executor::{block_on, ThreadPool};
+    use futures::future::{join_all, FutureExt};
+    use futures::task::SpawnExt;
+
+    let pool = ThreadPool::builder().pool_size(THREADS).create().expect("there are threads");
+    show("fan-out futures", || {
+        let (source, came) = oneshot::channel::<i32>();
+        let came = came.map(|value| value.expect("it is sent")).shared();
+        let part = |_| pool.spawn_with_handle(came.clone().map(one_more)).expect("it is spawned");
+        let parts: Vec<_> = (0..PARTS).map(part).collect();
+        let_wait();
+        let since = Instant::now();
+        source.send(1).expect("it is received");
+        let answers = block_on(join_all(parts));
+        let took = since.elapsed();
+        assert!(answers.iter().all(|it| *it == 2));
+        took
+    });
+}
+
+#[cfg(feature = "tokio")]
+pub use with_tokio::run as by_tokio;
+
+#[cfg(feature = "tokio")]
+mod with_tokio {
+    use super::*;
+    use std::sync::atomic::{AtomicUsize, Ordering};
+    use std::sync::Arc;
+    use std::thread::{self, Thread};
+    use tokio::runtime::{Builder, Runtime};
+    use tokio::sync::watch;
+
+    /// Counts answers down, and wakes the thread that waits for the last.
+    struct Left(AtomicUsize, Thread);
+
+    impl Left {
+        fn new() -> Arc<Left> {
+            Arc::new(Left(AtomicUsize::new(PARTS), thread::current()))
+        }
+
+        fn take(&self, answer: i32) {
+            assert_eq!(answer, 2);
+            if self.0.fetch_sub(1, Ordering::AcqRel) == 1 {
+                self.1.unpark();
+            }
+        }
+
+        fn wait(&self) {
+            while self.0.load(Ordering::Acquire) > 0 {
+                thread::park();
+            }
+        }
+    }
+
+    fn by_watch(runtime: &Runtime) -> Duration {
+        let left = Left::new();
+        let (source, came) = watch::channel(0);
+        for _ in 0..PARTS {
+            let (mut came, left) = (came.clone(), left.clone());
+            runtime.spawn(async move {
+                came.changed().await.expect("it is sent");
+                let value = *came.borrow();
+                left.take(one_more(value));
+            });
+        }
+        let_wait();
+        let since = Instant::now();
+        source.send(1).expect("it is received");
+        left.wait();
+        since.elapsed()
+    }
+
+    fn by_spawn(runtime: &Runtime) -> Duration {
+        let left = Left::new();
+        let since = Instant::now();
+        for _ in 0..PARTS {
+            let left = left.clone();
+            runtime.spawn(async move { left.take(one_more(1)) });
+        }
+        left.wait();
+        since.elapsed()
+    }
+
+    pub fn run() {
+        let runtime = Builder::new_multi_thread()
+            .worker_threads(THREADS)
+            .build()
+            .expect("there are threads");
+        show("fan-out tokio, watch", || by_watch(&runtime));
+        show("fan-out tokio, spawn", || by_spawn(&runtime));
+    }
+}
+
+#[cfg(feature = "rayon")]
+pub fn by_rayon() {
+    use rayon::prelude::*;
+
+    let pool = rayon::ThreadPoolBuilder::new()
+        .num_threads(THREADS)
+        .build()
+        .expect("there are threads");
+    let mut answers = vec![0; PARTS];
+    let mut timed = |work: fn(&rayon::ThreadPool, &mut Vec<i32>)| -> Duration {
+        answers.fill(0);
+        let since = Instant::now();
+        work(&pool, &mut answers);
+        let took = since.elapsed();
+        assert!(answers.iter().all(|it| *it == 2));
+        took
+    };
+    show("fan-out rayon, scope", || {
+        timed(|pool, answers| pool.scope(|scope| answers.iter_mut().for_each(|it| scope.spawn(move |_| *it = one_more(1)))))
+    });
+    show("fan-out rayon, par_iter", || {
+        timed(|pool, answers| pool.install(|| answers.par_iter_mut().for_each(|it| *it = one_more(1))))
+    });
+}

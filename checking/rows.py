@@ -1,0 +1,147 @@
+"""The rows of ./check: what each is called, which tools it needs, and the commands that it runs."""
+import re
+from pathlib import Path
+from typing import List, NamedTuple, Optional, Sequence, Tuple
+
+from checking.crates import TOP
+from checking.tools import DEBIANS, Tools
+
+HEADER = "crates/cf_c/include"
+WARNED = ["-Wall", "-Wextra", "-pedantic", "-Werror"]
+SEEN = "-gdwarf-4"  # valgrind 3.19 gives up on some programs with what clang 14 writes by -g alone
+UNDER = ["-q", "--leak-check=full", "--show-leak-kinds=all", "--errors-for-leak-kinds=all", "--error-exitcode=9"]  # valgrind
+BLOCK = re.compile(r"^What `([^`]+)` prints:\n+```\w*\n(.*?)^```$", re.M | re.S)
+
+
+class Row(NamedTuple):
+    name: str
+    needs: Sequence[str]
+    commands: Sequence[Sequence[str]]  # the last one's output is compared
+    prints: Optional[Tuple[str, str]] = None  # the folder, and the name in its README
+    is_shown: bool = False  # whether what it prints is shown, too, where it passes
+
+
+def blocks(folder: str) -> dict:
+    return dict(BLOCK.findall((TOP / folder / "README.md").read_text()))
+
+
+def rows_of_c(tools: Tools, made: Path) -> List[Row]:
+    """A program that has a block and no file fails, and so does a file without a block."""
+    rows = []
+    names = {path.name for path in (TOP / "clients/c").glob("*.c")} | {name for name in blocks("clients/c") if name.endswith(".c")}
+    for name in sorted(names):
+        plain, checked = str(made / name[:-2]), str(made / (name[:-2] + ".asan"))
+        rest = ["-std=c11", "-O1", SEEN, "-pthread", *WARNED, "-I" + HEADER, "clients/c/" + name, str(made / "libcf.a"), "-o"]
+        build, prints = [tools["clang"], *rest, plain], ("clients/c", name)
+        under = [tools["valgrind"], *UNDER]
+        rows.append(Row(name, ["library", "clang"], [build, [plain]], prints))
+        sanitized = [tools["address sanitizer"], "-fsanitize=address", *rest, checked]
+        rows.append(Row(name + " with the address sanitizer", ["library", "address sanitizer"], [sanitized, [checked]], prints))
+        rows.append(Row(name + " under valgrind", ["library", "clang", "valgrind"], [build, [*under, plain]], prints))
+    return rows
+
+
+def freed(tools: Tools, made: Path, program: str, word: str, given: str) -> Row:
+    """A program frees all that it took. What the programs' compiler writes for debuggers is more than valgrind 3.19 can read."""
+    bare = str(made / f"{program}-{word}")
+    under = ["sh", "-c", 'exec "$@" < "$0"', given, tools["valgrind"], *UNDER, bare, word]
+    return Row(f"{program} {word} under valgrind", [program, "valgrind", "binutils"], [["objcopy", "--strip-debug", tools[program], bare], under])
+
+
+def rows_of_python(tools: Tools, made: Path) -> List[Row]:
+    """The wheel is built and installed once, with the C module. What runs over the module runs there, and the same by ctypes in the tree."""
+    python, builds, tested = tools["python3"], "setuptools and wheel for Python", "Python's own tests"
+    installed, by_module = made / "python", ["env", "CF_INSTALLED=1", str(made / "python/venv/bin/python")]
+    programs = [tools["cf"], tools["cf_look"]]
+    return [
+        Row("Python's example", ["library", "python3"], [[python, "clients/python/example.py"]], ("clients/python", "example.py")),
+        Row("Python's first program", ["library", "python3"], [[python, "clients/python/first.py"]], ("clients/python", "first.py")),
+        Row("Python's order of three processes", ["library", "python3"], [[python, "clients/python/order.py"]], ("clients/python", "order.py")),
+        Row("Python's service by ctypes", ["library", "python3"],
+            [["env", "CF_NO_MODULE=1", "CF_REQUESTS=2000", python, "clients/python/tests/test_service.py"]]),
+        Row("what stands under Python's service, by ctypes", ["library", "python3"],
+            [["env", "CF_NO_MODULE=1", python, "clients/python/tests/test_module.py"]]),
+        Row("Python's service over the C module, installed", ["library", builds],
+            [[tools[builds], "clients/python/tests/installed.py", str(installed)]]),
+        Row("random requests of Python's service by ctypes", ["library", "python3", "cf", "cf_look"],
+            [["env", "CF_NO_MODULE=1", python, "conformance/clients/python-service", "0", "100", *programs]]),
+        Row("random requests of Python's service over the C module", ["library", builds, "cf", "cf_look"],
+            [[*by_module, "conformance/clients/python-service", "0", "1000", *programs]]),
+        Row("Python's requests in SQLite", ["library", "python3"], [[python, "clients/python/tests/test_shared.py"]]),
+        Row("requests in SQLite whose processes are killed", ["library", "python3", "cf_look"],
+            [[python, "conformance/stores/engines", "short", str(made / "engines"), tools["cf_look"]]]),
+        Row("some of CPython's tests over Python's service", ["library", tested],
+            [[tools[tested], "conformance/clients/python-suites", "FutureTests", "ThreadPoolExecutorTest", "ToThreadTests"]]),
+        Row("Python's ledgers and steps", ["library", "python3"],
+            [[python, "clients/python/tests/test_ledger.py"], [python, "clients/python/tests/test_steps.py"]]),
+        Row("the types of Python's module", ["mypy", "python3"], [
+            [python, "clients/python/tests/typed.py"],
+            [tools["mypy"], "--strict", "--cache-dir", str(made / "mypy"), "clients/python/cf", "clients/python/tests/typed.py"]]),
+    ]
+
+
+def rows_of_rust(tools: Tools, made: Path) -> List[Row]:
+    """Without the crates of others, so that nothing but the project's own is built, and once over Debian's."""
+    python, offline, needs = tools["python3"], "clients/rust/offline", ["library", "cargo", "python3"]
+    return [
+        Row("Rust's tests", needs, [[python, offline, "test", "-q", "--lib", "--tests", "--examples"]]),
+        Row("Rust's tests under tokio, rayon and serde", [*needs, DEBIANS],
+            [[python, offline, "--debian", "test", "-q", "-p", "cf", "--features", "tokio,rayon,serde", "--lib", "--tests"]]),
+        Row("the examples of Rust's pages", needs, [[python, offline, "test", "-q", "--doc"]]),
+        Row("Rust's first program", needs, [[python, offline, "run", "-q", "-p", "cf", "--example", "first"]], ("clients/rust", "first.rs")),
+        Row("random requests of Rust's crate", [*needs, "cf", "cf_look"],
+            [[python, "conformance/clients/rust-requests", "0", "100", tools["cf"], tools["cf_look"]]]),
+        Row("Rust's example", needs, [[python, offline, "run", "-q", "-p", "cf-graph", "--example", "request"]], ("clients/rust", "cf-graph/examples/request.rs")),
+    ]
+
+
+def rows_of_java(tools: Tools, made: Path) -> List[Row]:
+    """The jar, with the library in it, is built once, by the first row."""
+    javac, jar, tests = tools["JDK of 17 or later"], str(made / "java/cf-service.jar"), str(made / "java/tests")
+    needs = ["library", "C compiler", "JDK of 17 or later"]
+    sources = sorted(str(path) for part in ["test/cf/service", "example"] for path in (TOP / "clients/java" / part).glob("*.java"))
+    built = [["env", "JAVAC=" + javac, "clients/java/build", "--quick", str(made / "java")],
+             [javac, "-nowarn", "-encoding", "UTF-8", "-cp", jar, "-d", tests, *sources]]
+    java = [str(Path(javac).parent / "java"), "-Xmx64m", "-XX:+UseSerialGC", "-XX:TieredStopAtLevel=1", "-cp", jar + ":" + tests]
+    return [
+        Row("Java's service", needs, [*built, [*java, "-Dcf.look=" + tools["cf_look"], "cf.service.ServiceTest"]]),
+        Row("Java's first program", needs, [[*java, "First"]], ("clients/java", "First")),
+        Row("random requests of Java's service", [*needs, "python3", "cf", "cf_look"],
+            [[tools["python3"], "conformance/clients/java-service", jar, "0", "1000", tools["cf"], tools["cf_look"]]]),
+    ]
+
+
+def rows(tools: Tools, made: Path) -> List[Row]:
+    header, clang, browser = HEADER + "/cf.h", tools["clang"], "Chromium with its driver, selenium for Python"
+    compiling = [clang, "-std=c11", "-O1", *WARNED, "-I" + HEADER]
+    ample, asked, meets, overlapping = ([*compiling, name + ".c", str(made / "libcf.a"), "-pthread", "-o", str(made / Path(name).name)]
+                                        for name in ["sweeps/ample", "sweeps/bytes", "sweeps/meets", "conformance/desks/overlaps"])
+    return [
+        Row("the edits that the gate leaves out, read", ["rt"], [["sweeps/edits", "--read"]]),
+        Row("the edits that spoil the clients, read", ["python3"], [["sweeps/spoilt", "--read"]]),
+        Row("what a program can check of the pages", ["python3"], [["sweeps/pages"]]),
+        Row("where want of memory is told, and that nothing is kept from being freed", ["python3"], [["sweeps/memory"]]),
+        Row("what of sweeps and conformance waits for a run", ["python3", "git"], [["sweeps/runs"]], is_shown=True),
+        Row("cf.h and the proved exports", ["python3"], [["crates/cf_c/library/same.py"]]),
+        Row("cf.h as C11", ["clang"], [[clang, "-std=c11", "-xc", *WARNED, "-fsyntax-only", "-include", header, "/dev/null"]]),
+        Row("cf.h as C++17", ["clang"], [[clang, "-std=c++17", "-xc++", *WARNED, "-fsyntax-only", "-include", header, "/dev/null"]]),
+        *rows_of_c(tools, made),
+        Row("the library as it is installed", ["library", "C compiler", "pkg-config"], [["crates/cf_c/library/installed.py"]]),
+        Row("the library by CMake", ["library", "C compiler", "cmake"], [["crates/cf_c/library/installed.py", "--cmake"]]),
+        Row("calls of all sizes in ample memory", ["library", "clang"], [ample, [str(made / "ample"), "short"]]),
+        Row("the memory that calls ask for", ["library", "clang"], [asked, [str(made / "bytes")]]),
+        Row("callers that meet while others leave", ["library", "clang"], [meets, [str(made / "meets")]]),
+        freed(tools, made, "cf_look", "explore", "examples/explore/complete-or-cancel.json"),
+        freed(tools, made, "cf", "race", "examples/race-fan-out.json"),
+        Row("calls of threads that overlap, in real time", ["library", "clang"], [overlapping, [str(made / "overlaps"), "20000"]]),
+        Row("rows of scripts and their reports", ["cf", "cf_look"], [["tests/rows", tools["cf"], tools["cf_look"]]]),
+        Row("calls that stand in their callers' code", ["cf_bench", "binutils"], [["sweeps/inline", tools["cf_bench"]]]),
+        Row("races whose threads are refused", ["cf", "C compiler"], [["env", "CC=" + tools["C compiler"], "sweeps/refused", "--threads", tools["cf"]]]),
+        Row("runs whose memory is refused", ["cf", "C compiler"], [["env", "CC=" + tools["C compiler"], "sweeps/refused", "--memory", tools["cf"]]]),
+        Row("words, streams and pipes of cf", ["cf"], [["sweeps/words", tools["cf"]]]),
+        Row("inputs of all sizes in ample memory", ["cf", "cf_look"], [["sweeps/sizes", "short", tools["cf"], tools["cf_look"]]]),
+        Row("pages in a browser", ["cf_look", browser], [[tools[browser], "conformance/programs/pages", "short", tools["cf_look"]]]),
+        *rows_of_python(tools, made),
+        *rows_of_rust(tools, made),
+        *rows_of_java(tools, made),
+    ]

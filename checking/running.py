@@ -1,0 +1,155 @@
+"""Runs rows, some at a time, each as soon as what it needs is there, and counts how many passed."""
+import difflib
+import subprocess
+import threading
+from pathlib import Path
+from typing import Callable, Dict, List, Optional, Sequence, Set, Tuple
+
+from checking.crates import TOP
+from checking.rows import Row, blocks
+from checking.tools import Tools
+
+SECONDS = 600  # for a command of a row
+IN_TURN = ["cargo", "JDK of 17 or later", "setuptools and wheel for Python"]  # rows that need one of these share files
+
+
+def run(commands: Sequence[Sequence[str]], environment: dict, seconds: Optional[int]) -> Tuple[str, str]:
+    """What the last command prints, and what went wrong: nothing where each ended with status 0."""
+    output = ""
+    for command in commands:
+        pipes = {"stdout": subprocess.PIPE, "stderr": subprocess.PIPE, "universal_newlines": True}
+        try:
+            done = subprocess.run(command, cwd=str(TOP), env=environment, timeout=seconds, **pipes)
+        except (OSError, subprocess.TimeoutExpired) as error:
+            return output, str(error)
+        output = done.stdout
+        if done.returncode != 0:
+            return output, f"{command[0]} ended with status {done.returncode}\n{done.stdout}{done.stderr}".rstrip()
+    return output, ""
+
+
+def wrong(row: Row, environment: dict) -> str:
+    """What is wrong with a row, or nothing."""
+    output, fault = run(row.commands, environment, SECONDS)
+    if row.is_shown and not fault:
+        print(output, end="", flush=True)
+    if fault or row.prints is None:
+        return fault
+    folder, name = row.prints
+    wanted = blocks(folder).get(name)
+    if wanted is None:
+        return f"{folder}/README.md has no block of what `{name}` prints"
+    return "\n".join(difflib.unified_diff(wanted.splitlines(), output.splitlines(), folder + "/README.md", "printed", lineterm=""))
+
+
+class Counts:
+    def __init__(self) -> None:
+        self.passed = self.failed = 0
+        self.lock = threading.Lock()
+        self.is_idle = threading.Event()  # no gate is at work
+        self.is_idle.set()
+
+    def add(self, name: str, fault: str) -> None:
+        with self.lock:
+            self.passed += not fault
+            self.failed += bool(fault)
+            print(f"FAILED {name}: {fault}" if fault else f"passed {name}", flush=True)
+
+    def try_row(self, name: str, fault_of: Callable[[], str]) -> str:
+        """Runs a row. If it fails beside the gate, which may leave it too little time or memory, it is run again after the gate."""
+        fault = fault_of()
+        if fault and not self.is_idle.is_set():
+            print(f"check: {name} failed beside rt ci, and is run again once that has ended: {fault}", flush=True)
+            self.is_idle.wait()
+            fault = fault_of()
+        self.add(name, fault)
+        return fault
+
+
+class Proved:
+    """Which crates the gate has proved, and built where they are programs."""
+
+    def __init__(self) -> None:
+        self.names: Set[str] = set()
+        self.is_over = False
+        self.changed = threading.Condition()
+
+    def add(self, name: str) -> None:
+        with self.changed:
+            self.names.add(name)
+            self.changed.notify_all()
+
+    def end(self) -> None:
+        with self.changed:
+            self.is_over = True
+            self.changed.notify_all()
+
+    def wait(self, names: Sequence[str]) -> bool:
+        """Waits until all these are proved, and says whether they are: the gate may end before."""
+        with self.changed:
+            self.changed.wait_for(lambda: self.is_over or self.names.issuperset(names))
+            return self.names.issuperset(names)
+
+    def program(self, path: str) -> Optional[str]:
+        """Waits until a program is proved and built, or the gate has ended, and answers its path if it is there."""
+        self.wait([Path(path).name])
+        if not Path(path).is_file():
+            with self.changed:
+                self.changed.wait_for(lambda: self.is_over)
+        return path if Path(path).is_file() else None
+
+
+class Rows:
+    """The rows that are still to be run, in groups. A row can be run once it is known of everything that it needs whether it is there. The
+    rows of a group run one after another, since they share files."""
+
+    def __init__(self, every: List[Row], tools: Tools, awaited: Sequence[str]) -> None:
+        groups: Dict[str, List[Row]] = {}
+        for row in every:
+            groups.setdefault(next((tool for tool in IN_TURN if tool in row.needs), row.name), []).append(row)
+        self.free = sorted(groups.values(), key=len, reverse=True)  # none of whose rows is at work
+        self.left = len(every)
+        self.tools = tools
+        self.awaited = set(awaited)
+        self.changed = threading.Condition()
+
+    def found(self, name: str, path: Optional[str]) -> None:
+        """A tool that was awaited is there, or won't be."""
+        with self.changed:
+            self.tools.found[name] = path
+            self.awaited.discard(name)
+            self.changed.notify_all()
+
+    def next(self) -> Optional[List[Row]]:
+        """A group whose first row can be run, as soon as there is one, or None at the end. Whoever runs that row puts the rest back."""
+        with self.changed:
+            while self.left:
+                for group in self.free:
+                    if self.awaited.isdisjoint(group[0].needs):
+                        self.free.remove(group)
+                        self.left -= 1
+                        return group
+                self.changed.wait()
+            return None
+
+    def put_back(self, group: List[Row]) -> None:
+        with self.changed:
+            if group:
+                self.free.insert(0, group)
+            self.changed.notify_all()
+
+
+def run_rows(rows_left: Rows, environment: dict, counts: Counts) -> None:
+    while True:
+        group = rows_left.next()
+        if group is None:
+            return
+        row = group[0]
+        missing = [name for name in row.needs if not rows_left.tools.found.get(name)]
+        try:
+            if missing:
+                print(f"left out {row.name}: no {', no '.join(missing)}", flush=True)
+            else:
+                counts.try_row(row.name, lambda row=row: wrong(row, environment))
+        finally:
+            rows_left.put_back(group[1:])

@@ -1,0 +1,74 @@
+"""Which tools are there to check with: compilers, interpreters, the packages of Debian, and the programs that rows call."""
+import os
+import re
+import shutil
+import subprocess
+from pathlib import Path
+from typing import List, Optional
+
+from checking.crates import TOP
+
+PROGRAMS = ["cf", "cf_look", "cf_bench"]  # that rows call
+DEBIAN = Path("/usr/share/cargo/registry")
+DEBIANS = "Debian's crates of futures, rayon, serde, serde_json and tokio"
+NOTHING = "int main(void) { return 0; }\n"
+
+
+class Tools:
+    """What is there to check with; a tool is its path, and one that isn't there is left out."""
+
+    def __init__(self, made: Path) -> None:
+        self.made = made
+        self.found = {name: shutil.which(name) for name in ["rt", "python3", "cargo", "valgrind", "pkg-config", "cmake", "mypy"]}
+        self.found["git"] = shutil.which("git") if (TOP / ".git").exists() else None
+        compilers = [self.of_kit(), "clang"]
+        self.found["clang"] = self.first(compilers, "#include <stdbool.h>\n" + NOTHING, "-fsyntax-only")
+        self.found["C compiler"] = self.first(["clang", "gcc"], "#include <stdlib.h>\n" + NOTHING, "-shared")
+        self.found["binutils"] = shutil.which("ar") and shutil.which("nm") and shutil.which("objcopy")
+        self.found["address sanitizer"] = self.first([*compilers, "gcc"], "#include <stdbool.h>\n" + NOTHING, "-fsanitize=address")
+        javac = shutil.which("javac")
+        version = subprocess.run([javac, "-version"], stdout=subprocess.PIPE, universal_newlines=True).stdout if javac else ""
+        number = re.match(r"javac (\d+)", version)
+        headers = javac and Path(os.path.realpath(javac)).parent.parent / "include/jni.h"
+        self.found["JDK of 17 or later"] = javac if number and int(number[1]) >= 17 and headers.is_file() else None
+        pythons = ["/usr/bin/python3", self["python3"]]
+        self.found["setuptools and wheel for Python"] = self.importing(pythons, "setuptools, wheel, venv, ensurepip")
+        self.found["Python's own tests"] = self.importing(pythons, "test.test_concurrent_futures")
+        crates = [list(DEBIAN.glob(name + "-[0-9]*")) for name in ["futures", "rayon", "serde", "serde_json", "tokio"]]
+        self.found[DEBIANS] = str(DEBIAN) if all(crates) else None
+        browser = shutil.which("chromedriver") and (shutil.which("chromium") or shutil.which("google-chrome"))
+        self.found["Chromium with its driver, selenium for Python"] = browser and self.importing(pythons, "selenium")
+
+    def of_kit(self) -> str:
+        return str(Path(os.path.realpath(self.found["rt"] or "rt")).parent.parent / "toolchain/bin/clang")
+
+    def first(self, compilers: List[str], text: str, option: str) -> Optional[str]:
+        """The first of the compilers that takes the text with this option. A kit's clang may have no headers."""
+        source = self.made / "probe.c"
+        source.write_text(text)
+        for compiler in filter(shutil.which, compilers):
+            command = [compiler, option, str(source), "-o", str(self.made / "probe")]
+            if subprocess.run(command, stdout=subprocess.DEVNULL, stderr=subprocess.DEVNULL).returncode == 0:
+                return compiler
+        return None
+
+    @staticmethod
+    def importing(pythons: List[str], modules: str) -> Optional[str]:
+        """The first of the interpreters that has these modules."""
+        for python in filter(shutil.which, pythons):
+            if subprocess.run([python, "-c", "import " + modules], stdout=subprocess.DEVNULL, stderr=subprocess.DEVNULL).returncode == 0:
+                return python
+        return None
+
+    def add_programs(self, gated: bool) -> None:
+        """The programs that the gate builds, or else those that ./build built of the sources as they are."""
+        for name in PROGRAMS:
+            made = TOP / f"crates/{name}/out/{name}"
+            if not gated:
+                pipes = {"stdout": subprocess.PIPE, "stderr": subprocess.DEVNULL, "universal_newlines": True}
+                asked = subprocess.run(["./build", "--current", name], cwd=str(TOP), **pipes)
+                made = TOP / asked.stdout.strip()
+            self.found[name] = str(made) if gated or made.is_file() else None
+
+    def __getitem__(self, name: str) -> str:
+        return self.found.get(name) or name

@@ -1,0 +1,185 @@
+"""Does faults to processes that work on random requests in an engine: it kills and stops them, and breaks servers and connections."""
+import collections
+import glob
+import os
+import random
+import shutil
+import subprocess
+import sys
+import threading
+import time
+from pathlib import Path
+
+import servers
+from jobs import tables
+from judge import Judge
+from mixed_judge import KEPT, MixedJudge
+from process import HERE, sure
+
+from cf.shared import connect
+
+DIED = "workers that died by themselves"
+WRITES = {"18": "pwrite64", "75": "fdatasync", "74": "fsync"}  # of x86-64
+
+
+def answered(call):
+    """What an engine answers within two minutes."""
+    return sure(call, 120, 0.2)
+
+
+def in_write(pid):
+    """The writing call in which a process stands at this moment, or None."""
+    try:
+        return WRITES.get(Path(f"/proc/{pid}/syscall").read_text().split()[0])
+    except (OSError, IndexError):
+        return None
+
+
+class Run:
+    """A run: workers, what kills them, what breaks the server, and what the judge says of all of it. Each worker runs `program`."""
+
+    judge, program, between = Judge, "worker.py", (0.05, 0.2)
+    bound = 1800  # seconds for the end: on a busy machine workers get little of it
+
+    def __init__(self, engine, folder, kills, workers=8, breaks=0.0, cut=0.0, pauses=0.0, lax=False, seed=1, most_breaks=None, environment=None,
+                 address=None, seconds=None):
+        self.engine, self.folder, self.kills, self.many = engine, str(folder), kills, workers
+        self.breaks, self.pauses, self.lax, self.rng = breaks, pauses, lax, random.Random(seed)
+        self.most_breaks, self.environment, self.seconds = most_breaks, environment or {}, seconds or float("inf")
+        shutil.rmtree(self.folder, ignore_errors=True)
+        os.makedirs(f"{self.folder}/done")
+        os.chmod(self.folder, 0o755)
+        self.server, self.proxies = servers.start(engine, self.folder, lax), []
+        self.address = self.judged = address or (self.server.address if self.server else f"sqlite:///{self.folder}/db")
+        if lax:
+            self.address += "?unsafe=1"
+        answered(lambda: connect(self.judged)).close()
+        self.prepare()
+        if cut:
+            self.proxies, self.address = self.server.proxied(cut)
+        self.broken, self.stops, self.done, self.deaths = [], threading.Event(), collections.Counter({DIED: 0}), []
+
+    def prepare(self):
+        """What has to be in the engine before workers begin."""
+
+    def start(self):
+        where = self.address
+        if self.address.startswith("etcd"):  # each starts at another node
+            nodes = where[7:].split(",")
+            k = self.rng.randrange(len(nodes))
+            where = "etcd://" + ",".join(nodes[k:] + nodes[:k])
+        with open(f"{self.folder}/stderr", "a") as errors:
+            return subprocess.Popen([sys.executable, HERE / self.program, where, self.folder, str(self.rng.randrange(1 << 30))], stderr=errors,
+                                    env=dict(os.environ, **self.environment))
+
+    def break_server(self):
+        rng = random.Random(self.rng.random())
+        while (self.most_breaks is None or len(self.broken) < self.most_breaks) and not self.stops.wait(self.breaks * (0.5 + rng.random())):
+            self.broken.append(self.server.breaks())
+
+    def works(self, process):
+        """Whether a worker was answered yet."""
+        return any(os.path.getsize(it) for it in glob.glob(f"{self.folder}/log-*-{process.pid}"))
+
+    def kill_one(self, workers, paused):
+        k = self.rng.randrange(len(workers))
+        for it, until in list(paused.items()):
+            if time.monotonic() > until:
+                it.send_signal(18)  # SIGCONT
+                del paused[it]
+        if self.rng.random() < self.pauses and len(paused) < 2 and workers[k] not in paused:
+            workers[k].send_signal(19)  # SIGSTOP: it is thought to be gone, and then goes on where it was
+            paused[workers[k]] = time.monotonic() + 2
+            self.done["workers stopped for 2 s"] += 1
+            return
+        until = time.monotonic() + 10
+        while not self.works(workers[k]) and workers[k] not in paused and time.monotonic() < until:
+            time.sleep(0.01)
+        if self.engine == "sqlite":  # half of the kills wait until it is writing
+            until = time.monotonic() + (1 if self.done["kills"] % 2 else 0)
+            while time.monotonic() < until and not in_write(workers[k].pid):
+                time.sleep(0.0002)
+            self.done["killed in a write"] += in_write(workers[k].pid) is not None
+        paused.pop(workers[k], None)
+        workers[k].kill()
+        workers[k].wait()
+        workers[k] = self.start()
+        self.done["kills"] += 1
+
+    def __call__(self):
+        """Does it: the counts, and what is wrong."""
+        began, paused = time.monotonic(), {}
+        breaker = threading.Thread(target=self.break_server)
+        if self.breaks:
+            breaker.start()
+        workers = [self.start() for _ in range(self.many)]
+        try:
+            while self.goes_on(began):
+                time.sleep(self.rng.uniform(*self.between))
+                for j, it in enumerate(workers):
+                    if it.poll() is not None:
+                        self.died(it)
+                        workers[j] = self.start()
+                self.kill_one(workers, paused)
+            for it in paused:
+                it.send_signal(18)
+            self.stops.set()
+            if self.breaks:
+                breaker.join()
+            self.let_end(workers)
+            self.done["replies cut"] = sum(it.stop() for it in self.proxies)
+            self.proxies = []
+            count, wrong = answered(lambda: self.judge(self.judged, self.folder).judge())
+            wrong[:0] = self.deaths
+            broken = {f"server: {what}": many for what, many in collections.Counter(self.broken).items()}
+            return {"seconds": round(time.monotonic() - began), **self.done, **broken, **count}, wrong
+        finally:
+            self.end(workers)
+
+    def goes_on(self, began):
+        """Whether workers are killed any more: not where one died by itself, which fails the run."""
+        is_short = time.monotonic() - began < self.seconds and self.done["kills"] < self.kills
+        return not self.deaths and (is_short or self.breaks and self.most_breaks and len(self.broken) < self.most_breaks)
+
+    def let_end(self, workers):
+        """Lets the workers end what is begun."""
+        last = max((int(it.name) for it in answered(lambda: connect(self.judged).listing()) if it.name.isdigit()), default=0) + self.many + 1
+        Path(self.folder, "stop-").write_text(str(last))
+        os.rename(f"{self.folder}/stop-", f"{self.folder}/stop")
+        until = time.monotonic() + self.bound
+        for it in workers:
+            try:
+                it.wait(max(1, until - time.monotonic()))
+            except subprocess.TimeoutExpired:
+                it.kill()
+                it.wait()
+            if it.returncode:
+                self.died(it)
+
+    def died(self, worker):
+        """A worker ended in another way than it has to: it hung, say."""
+        self.done[DIED] += 1
+        said = "".join(it.read_text() for it in (Path(self.folder, f"hang-{worker.pid}"), Path(self.folder, "stderr")) if it.exists())
+        Path(self.folder, "stderr").write_text("")
+        self.deaths.append(f"worker {worker.pid} ended with {worker.returncode}: {said[:6000]}")
+
+    def end(self, workers):
+        self.stops.set()
+        for it in workers:
+            it.kill()
+            it.wait()
+        for it in self.proxies:
+            it.stop()
+        if self.server:
+            self.server.stop()
+
+
+class MixedRun(Run):
+    """A run over mixed requests (mixed.py)."""
+
+    judge, program, between, bound = MixedJudge, "mixed.py", (0.2, 0.6), 600
+
+    def prepare(self):
+        if self.engine in KEPT:
+            for statement in ("create table effect (name text)", *KEPT[self.engine]):
+                tables(self.judged, statement)

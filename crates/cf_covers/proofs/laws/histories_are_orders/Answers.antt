@@ -1,5 +1,0 @@
-use Rattle.cf_covers.proofs.Histories.{histories_are_orders}
-use Rattle.cf_covers.proofs.laws.histories_are_orders.Goals as goal
-
-pub returns : goal.returns
-returns c = histories_are_orders

@@ -1,5 +1,0 @@
-use Rattle.cf_covers.proofs.Programs.{programs_are_there}
-use Rattle.cf_covers.proofs.laws.programs_are_there.Goals as goal
-
-pub returns : goal.returns
-returns c = programs_are_there

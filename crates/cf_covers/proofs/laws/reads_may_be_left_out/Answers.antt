@@ -1,5 +1,0 @@
-use Rattle.cf_covers.proofs.LeftOut.{reads_may_be_left_out}
-use Rattle.cf_covers.proofs.laws.reads_may_be_left_out.Goals as goal
-
-pub returns : goal.returns
-returns c = reads_may_be_left_out

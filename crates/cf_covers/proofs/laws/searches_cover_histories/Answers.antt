@@ -1,5 +1,0 @@
-use Rattle.cf_covers.proofs.Histories.{searches_cover_histories}
-use Rattle.cf_covers.proofs.laws.searches_cover_histories.Goals as goal
-
-pub returns : goal.returns
-returns c = searches_cover_histories

@@ -1,0 +1,14 @@
+//! Tests of what several callers share: the desk, its example, the ledger, workers, runs and races. They use public calls alone, and
+//! are a crate of their own, since a crate with tests is proved twice, with them and without.
+#![tactic(auto)]
+
+#[cfg(test)]
+mod checks;
+#[cfg(test)]
+mod desk;
+#[cfg(test)]
+mod ledger;
+#[cfg(test)]
+mod plans;
+#[cfg(test)]
+mod pool;

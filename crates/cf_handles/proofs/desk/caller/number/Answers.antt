@@ -1,7 +1,0 @@
-use Rattle.std.proofs.Common.{rules}
-use Rattle.cf_handles.specs.Desks.{Knows, number_told}
-use Rattle.cf_handles.proofs.Callers.{at_caller}
-use Rattle.cf_handles.proofs.desk.caller.number.Goals as goal
-
-pub returns : goal.returns
-returns c = at_caller (Knows number_told) c.args.held.now c.in-Caller.caller c.in-Caller.caller _ c.in-Caller.is (search rules) (search rules)

@@ -1,6 +1,0 @@
-use Rattle.std.proofs.Common.{◌≡◌, ℕ, ◌<◌, None, slice_index_or}
-use Rattle.cf_handles.specs.declared.handle.CfHandle.{CfHandle}
-use Rattle.cf_handles.proofs.desk.opening.are_empty.Given as goal
-
-abbrev pub invariant-each : goal.invariant-each
-invariant-each l = (k : ℕ) → (d : CfHandle) → k < l.h-index → (slice_index_or l.callers k d).inner.held ≡ None

@@ -1,0 +1,9 @@
+pub mod Counts
+pub mod Drafts
+pub mod ElementPlaces
+pub mod ReadingProgress
+pub mod Loop
+pub mod RaceSteps
+pub mod RaceReadingLemmas
+pub mod Refusals
+pub mod Texts

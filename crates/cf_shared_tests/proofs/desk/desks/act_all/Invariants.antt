@@ -1,5 +1,0 @@
-use Rattle.std.proofs.Common.{◌≡◌}
-use Rattle.cf_shared_tests.proofs.desk.desks.act_all.Given as goal
-
-abbrev pub invariant-calls : goal.invariant-calls
-invariant-calls l = l.p.table ≡ l.initial.p.table
