@@ -1,4 +1,5 @@
-"""A fan-out, a limit that gives a fallback, and a fault that is handled: by one thread, and by four that share a desk; and a ledger."""
+"""A fan-out, a limit that gives a fallback, and a fault that is handled: by one thread, and by four that share a
+desk; and a ledger."""
 import cf
 
 
@@ -10,7 +11,8 @@ FUNCTIONS = [lambda x: 2 * x, lambda x, y: x + y, throws, lambda outcome: outcom
 
 
 def fan_out():
-    """The plan, its source, the total of what comes of it, a stage with a limit, one that throws, and one that handles that."""
+    """The plan, its source, the total of what comes of it, a stage with a limit, one that throws, and one that
+    handles that."""
     plan = cf.Plan()
     source = plan.stage(cf.Form.SOURCE)
     doubled = [plan.stage(cf.Form.APPLY, source, function=0) for _ in range(20)]
@@ -65,7 +67,8 @@ def four_threads() -> None:
 
 
 def judge(plan, closed):
-    """Replays the history of a closed desk by one thread, and compares what its callers were told; gives the records of the first."""
+    """Replays the history of a closed desk by one thread, and compares what its callers were told; gives the records
+    of the first."""
     words, records = closed.words(), [closed.records(caller) for caller in range(closed.callers)]
     print("first event", cf.event_of(words[0]), "with the word", words[0])
     told = {record.place: record for own in records for record in own if isinstance(record, cf.Did)}
@@ -85,7 +88,8 @@ def flight_recorder() -> None:
         ready = ledger.ready()
         print("claimed", ledger.do(cf.events.Claim(1, ready)).reply.status.name, "by", ledger.stage(ready).who)
         with cf.Ledger.of_words(plan, ledger.words()) as again:
-            print("made again", [again.stage(stage) for stage in range(total)] == [ledger.stage(stage) for stage in range(total)])
+            print("made again",
+                  [again.stage(stage) for stage in range(total)] == [ledger.stage(stage) for stage in range(total)])
         try:
             cf.Ledger.of_words(plan, ledger.words() + [0])
         except cf.Misfit as misfit:
@@ -93,7 +97,8 @@ def flight_recorder() -> None:
 
 
 def scripts() -> None:
-    script = '{"cf":1,"stages":[{"form":"source"},{"form":"apply","of":[0],"fn":{"add":5}}],"steps":[["complete",0,3],["work"]]}'
+    script = ('{"cf":1,"stages":[{"form":"source"},{"form":"apply","of":[0],"fn":{"add":5}}],'
+              '"steps":[["complete",0,3],["work"]]}')
     print(cf.run_script(script), end="")
     try:
         cf.run_script("[]")

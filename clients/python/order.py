@@ -4,8 +4,8 @@
     python3 clients/python/order.py postgresql://user@host/database
     python3 clients/python/order.py etcd://host:2379,host:2379,host:2379
 
-Without an address the store is a SQLite file in a temporary folder. The worker that packs the order is killed in the midst of it; another
-one notices, and packs it again, since the flow says so.
+Without an address the store is a SQLite file in a temporary folder. The worker that packs the order is killed in the
+midst of it; another one notices, and packs it again, since the flow says so.
 """
 import os
 import subprocess
@@ -56,7 +56,8 @@ def order_flow():
 
 def main(address, folder):
     here = str(Path(__file__).resolve().parent)
-    environment = dict(os.environ, ORDER_FOLDER=folder, PYTHONPATH=os.pathsep.join([here, os.environ.get("PYTHONPATH", "")]))
+    environment = dict(os.environ, ORDER_FOLDER=folder,
+                       PYTHONPATH=os.pathsep.join([here, os.environ.get("PYTHONPATH", "")]))
     command = [sys.executable, "-m", "cf.worker", "--store", address, "--lease", "2", "order"]
     workers = [subprocess.Popen(command, env=environment) for _ in range(3)]
     service = DurableService(connect(address), 0, functions=functions, lease=2)

@@ -1,9 +1,10 @@
 """Completable futures that are proved: Java's CompletableFuture over numbered stages.
 
-A `Plan` is built stage by stage. `Graph(plan)` is a graph of it, which one thread at a time calls: `graph.work(functions)` runs the
-functions of all stages that are ready, and `graph.future(stage)` is a view of one stage. `plan.open_desk(..)` is a graph that several
-threads share without a lock, each by its own `Caller`; closed, it gives the one history of what they did, and what each was told.
-`Ledger(plan)` is a graph that keeps the words of all that was done to it, tells which stages each changed, and is made again of them.
+A `Plan` is built stage by stage. `Graph(plan)` is a graph of it, which one thread at a time calls:
+`graph.work(functions)` runs the functions of all stages that are ready, and `graph.future(stage)` is a view of one
+stage. `plan.open_desk(..)` is a graph that several threads share without a lock, each by its own `Caller`; closed, it
+gives the one history of what they did, and what each was told. `Ledger(plan)` is a graph that keeps the words of all
+that was done to it, tells which stages each changed, and is made again of them.
 """
 from concurrent.futures import InvalidStateError
 
@@ -12,15 +13,17 @@ from .closed import Closed, Did, Record, Saw, SawNow
 from .desk import Caller, Desk, InUse, SharedFuture
 from .events import Event, event_of, word_of
 from .graph import Future, Graph
-from .ledger import Applied, Ledger, Stage, StageKind, Stepped
+from .ledger import Applied, Ledger, StageKind, StageState, Stepped
 from .plan import Plan
 from .texts import BadScript, code_text, outcome_text, run_script
-from .values import (BadAnswer, Cancelled, ClaimReply, ClaimStatus, Code, Failure, Fault, FinishReply, Form, Link, Misfit, Now, NowKind,
-                     Outcome, Refused, Task, Thrown, TimedOut)
+from .values import (BadAnswer, Cancelled, ClaimReply, ClaimStatus, Code, Failure, Fault, FinishReply, Form, Link,
+                     Misfit, Now, NowKind, Outcome, Refused, Task, Thrown, TimedOut)
 from .workers import Workers
 
-__all__ = ["Applied", "BadAnswer", "BadScript", "Caller", "Cancelled", "ClaimReply", "ClaimStatus", "Closed", "Code", "Desk",
-           "Did", "Event", "Failure", "Fault", "FinishReply", "Form", "Future", "Graph", "InUse", "InvalidStateError", "Ledger",
-           "Link", "Misfit", "Now", "NowKind", "Outcome", "Plan", "Record", "Refused", "Saw", "SawNow", "SharedFuture", "Stage",
-           "StageKind", "Stepped", "Task", "Thrown", "TimedOut", "Workers", "code_text", "event_of", "events", "outcome_text",
-           "run_script", "word_of"]
+Stage = StageState  # its name of before, which goes with the version for the library 1.5
+
+__all__ = ["Applied", "BadAnswer", "BadScript", "Caller", "Cancelled", "ClaimReply", "ClaimStatus", "Closed", "Code",
+           "Desk", "Did", "Event", "Failure", "Fault", "FinishReply", "Form", "Future", "Graph", "InUse",
+           "InvalidStateError", "Ledger", "Link", "Misfit", "Now", "NowKind", "Outcome", "Plan", "Record", "Refused",
+           "Saw", "SawNow", "SharedFuture", "Stage", "StageKind", "StageState", "Stepped", "Task", "Thrown", "TimedOut",
+           "Workers", "code_text", "event_of", "events", "outcome_text", "run_script", "word_of"]

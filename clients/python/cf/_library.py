@@ -8,6 +8,17 @@ from typing import Any, Callable, Dict, List, Sequence
 NO_FUNCTION = 0xFFFFFFFF
 VERSION = (1, 4)  # of the library that this module is written for
 
+# The kinds in the structures: of a value, an answer, an outcome, what a function is called with, and a record; and what
+# a record asked.
+NIL, INT = range(2)
+GIVE, THROW, LINK = range(3)
+PENDING, VALUE, THROWN, CANCELLED, TIMED_OUT, BAD_ANSWER = range(6)
+NO_ARGS, ONE, TWO, GOT = range(4)
+DID, SAW = range(2)
+ASKED_OUTCOME, ASKED_NOW = range(2)
+# The answers to a finish.
+WON, LATE, NOT_YOURS = range(3)
+
 
 class CHandle(c.Structure):
     """A handle: what stands behind it is the library's alone."""
@@ -40,8 +51,8 @@ class CReply(c.Structure):
 
 
 class CRecord(c.Structure):
-    _fields_ = [("kind", c.c_uint32), ("place", c.c_uint32), ("word", c.c_uint64), ("reply", CReply), ("asked", c.c_uint32),
-                ("stage", c.c_uint16), ("absent", CValue), ("outcome", COutcome), ("now", CNow)]
+    _fields_ = [("kind", c.c_uint32), ("place", c.c_uint32), ("word", c.c_uint64), ("reply", CReply),
+                ("asked", c.c_uint32), ("stage", c.c_uint16), ("absent", CValue), ("outcome", COutcome), ("now", CNow)]
 
 
 class CDeskSizes(c.Structure):
@@ -57,8 +68,8 @@ class CNews(c.Structure):
 
 
 class CTask(c.Structure):
-    _fields_ = [("held", c.c_uint32), ("stage", c.c_uint16), ("function", c.c_uint16), ("args", CArgs), ("answer", CAnswer),
-                ("finished", c.c_uint32)]
+    _fields_ = [("held", c.c_uint32), ("stage", c.c_uint16), ("function", c.c_uint16), ("args", CArgs),
+                ("answer", CAnswer), ("finished", c.c_uint32)]
 
 
 class CGiven(c.Structure):
@@ -66,17 +77,19 @@ class CGiven(c.Structure):
 
 
 class CStep(c.Structure):
-    _fields_ = [("who", c.c_uint8), ("first", c.c_uint16), ("place", c.c_size_t), ("finish", c.c_uint64), ("claim", c.c_uint64)]
+    _fields_ = [("who", c.c_uint8), ("first", c.c_uint16), ("place", c.c_size_t), ("finish", c.c_uint64),
+                ("claim", c.c_uint64)]
 
 
 class CEvent(c.Structure):
-    _fields_ = [("call", c.c_uint32), ("who", c.c_uint8), ("stage", c.c_uint16), ("value", CValue), ("code", c.c_uint32),
-                ("answer", CAnswer), ("now", c.c_uint32), ("form", c.c_uint32), ("sources", c.c_uint32), ("first", c.c_uint16),
-                ("second", c.c_uint16), ("function", c.c_uint32)]
+    _fields_ = [("call", c.c_uint32), ("who", c.c_uint8), ("stage", c.c_uint16), ("value", CValue),
+                ("code", c.c_uint32), ("answer", CAnswer), ("now", c.c_uint32), ("form", c.c_uint32),
+                ("sources", c.c_uint32), ("first", c.c_uint16), ("second", c.c_uint16), ("function", c.c_uint32)]
 
 
 def in_range(number: int, highest: int, lowest: int = 0) -> int:
-    """The number, which ctypes would cut to C's width. One out of its range raises OverflowError, and no call is made."""
+    """The number, which ctypes would cut to C's width. One out of its range raises OverflowError, and no call is
+    made."""
     if not lowest <= number <= highest:
         raise OverflowError(f"{number} isn't between {lowest} and {highest}")
     return number
@@ -187,9 +200,9 @@ def _checked(call: Callable[..., int], arguments: List[Any]) -> Callable[..., in
 
 
 # The structures by their names in C.
-STRUCTURES = {"cf_handle": CHandle, "cf_value": CValue, "cf_answer": CAnswer, "cf_outcome": COutcome, "cf_args": CArgs, "cf_now": CNow,
-              "cf_reply": CReply, "cf_record": CRecord, "cf_desk_sizes": CDeskSizes, "cf_stage": CStage, "cf_news": CNews,
-              "cf_event": CEvent, "cf_task": CTask, "cf_step": CStep, "cf_given": CGiven}
+STRUCTURES = {"cf_handle": CHandle, "cf_value": CValue, "cf_answer": CAnswer, "cf_outcome": COutcome, "cf_args": CArgs,
+              "cf_now": CNow, "cf_reply": CReply, "cf_record": CRecord, "cf_desk_sizes": CDeskSizes, "cf_stage": CStage,
+              "cf_news": CNews, "cf_event": CEvent, "cf_task": CTask, "cf_step": CStep, "cf_given": CGiven}
 
 
 def fit(loaded: c.CDLL, path: str) -> None:
@@ -208,9 +221,10 @@ def load(path: str) -> SimpleNamespace:
         loaded, calls = c.CDLL(path), SimpleNamespace()
     except OSError as error:
         said = os.environ.get("CF_LIBRARY")
-        raise OSError(f"cf needs its library for C, libcf.so, which can't be loaded: {error}. It is looked for where CF_LIBRARY says, which is "
-                      f"{said or 'not set'}; without that within the C module cf._cf, if it was built, and else where the system looks for "
-                      "libcf.so. Set CF_LIBRARY to its path, or install a wheel that has it within; docs/C.md says how it is built.") from None
+        raise OSError(f"cf needs its library for C, libcf.so, which can't be loaded: {error}. It is looked for where "
+                      f"CF_LIBRARY says, which is {said or 'not set'}; without that within the C module cf._cf, if it "
+                      "was built, and else where the system looks for libcf.so. Set CF_LIBRARY to its path, or install "
+                      "a wheel that has it within; docs/C.md says how it is built.") from None
     fit(loaded, path)
     for name, arguments in CALLS.items():
         call = getattr(loaded, name)

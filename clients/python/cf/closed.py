@@ -3,7 +3,7 @@ import ctypes as c
 from dataclasses import dataclass
 from typing import List, Optional, Union
 
-from ._library import CHandle, CRecord
+from ._library import ASKED_OUTCOME, DID, CHandle, CRecord
 from .events import Event, event_of, reply_of
 from .graph import Graph
 from .handle import Handle
@@ -12,7 +12,8 @@ from .values import Now, Outcome, Reply, Value, now_out, outcome_out, value_out
 
 @dataclass(frozen=True)
 class Did:
-    """A changing call: the word of its event, and its reply. `place` counts the history's events up to and with its own."""
+    """A changing call: the word of its event, and its reply. `place` counts the history's events up to and with its
+    own."""
 
     place: int
     word: int
@@ -67,15 +68,16 @@ class Closed(Handle):
         return [_record_out(self._tell("cf_closed_record", CRecord(), caller, at)) for at in range(count)]
 
     def graph(self) -> Graph:
-        """The graph as all events leave it. History and records are gone then: what they are wanted for is read before."""
+        """The graph as all events leave it. History and records are gone then: what they are wanted for is read
+        before."""
         with self._lock:
             self._call("cf_closed_graph")
             return Graph._of(self._let_go())
 
 
 def _record_out(record: CRecord) -> Record:
-    if record.kind == 0:
+    if record.kind == DID:
         return Did(record.place, record.word, reply_of(record.word, record.reply))
-    if record.asked == 0:
+    if record.asked == ASKED_OUTCOME:
         return Saw(record.place, record.stage, outcome_out(record.outcome))
     return SawNow(record.place, record.stage, value_out(record.absent), now_out(record.now))

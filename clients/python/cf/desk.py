@@ -8,7 +8,8 @@ from .closed import Closed
 from .graph import there, value_of
 from .handle import Calls, Handle
 from .plan import Plan
-from .values import Cancelled, Code, Fault, Misfit, Now, NowKind, Outcome, Refused, Value, given_in, now_out, outcome_out, value_in
+from .values import (Cancelled, Code, Fault, Misfit, Now, NowKind, Outcome, Refused, Value, given_in, now_out,
+                     outcome_out, value_in)
 
 
 class InUse(RuntimeError):
@@ -30,9 +31,10 @@ class _Own:
 
 
 class Caller(Calls):
-    """A caller of a desk, which one thread uses at a time: `with caller:` has it to the end, and else each call by itself; another
-    thread's call raises `InUse`. What a caller does and reads is recorded, until it holds as many records as the desk was opened
-    with: any more is refused as `PASS_FULL`, and a changing call as `LOG_FULL` where the desk's log is full."""
+    """A caller of a desk. Only one thread at a time may use it: for a whole `with caller:` block, or outside of one
+    for a single call. Meanwhile another thread's call on it raises `InUse`. What a caller does and reads is recorded,
+    until it holds as many records as the desk was opened with: any more is refused as `PASS_FULL`, and a changing call
+    as `LOG_FULL` where the desk's log is full."""
 
     _prefix, _ready = "cf_desk_", "cf_desk_ready"
 
@@ -50,8 +52,8 @@ class Caller(Calls):
         self._lock.__exit__(None, None, None)
 
     def complete_all(self, given: Iterable[Tuple[int, Value]]) -> None:
-        """Completes stages with their values, one after another, in one call. The first that is refused raises `Misfit` with NO_STAGE,
-        PASS_FULL or LOG_FULL."""
+        """Completes stages with their values, one after another, in one call. The first that is refused raises
+        `Misfit` with NO_STAGE, PASS_FULL or LOG_FULL."""
         row, done = given_in(given), c.c_size_t()
         try:
             self._call("cf_desk_complete_many", row, len(row), c.byref(done))
@@ -69,13 +71,14 @@ class Caller(Calls):
         return now_out(self._tell("cf_desk_read_now", CNow(), stage, value_in(absent)))
 
     def join(self, stage: int, looks: int = 1) -> Now:
-        """Looks until the stage is settled, at most so many times, and tells what it gives then. The last look is recorded. Other
-        threads of Python run meanwhile."""
+        """Looks until the stage is settled, at most so many times, and tells what it gives then. The last look is
+        recorded. Other threads of Python run meanwhile."""
         return now_out(self._tell("cf_desk_join", CNow(), stage, looks))
 
     def meet(self, other: "Caller") -> None:
-        """Lets two callers of one desk, both in this thread's hands, see the longer of what either has seen. `Refused` has OTHER_DESK where
-        they are of two: the library can't always tell that while other threads have the second one's callers."""
+        """Lets two callers of one desk, both in this thread's hands, see the longer of what either has seen.
+        `Refused` has OTHER_DESK where they are of two: the library can't always tell that while other threads have
+        the second one's callers."""
         if other._desk is not self._desk:
             raise Refused(Code.OTHER_DESK)
         with other._lock:
@@ -96,8 +99,8 @@ class Caller(Calls):
 
 
 class SharedFuture:
-    """A view of a stage by a caller: as much of `concurrent.futures.Future` as a desk has. It looks by reads and joins of its caller,
-    which records them, until it has found the stage settled; from then on it needs none."""
+    """A view of a stage by a caller: as much of `concurrent.futures.Future` as a desk has. It looks by reads and
+    joins of its caller, which records them, until it has found the stage settled; from then on it needs none."""
 
     def __init__(self, caller: Caller, stage: int) -> None:
         self._caller = caller
@@ -122,7 +125,8 @@ class SharedFuture:
         return there(self._outcome(looks), self.stage).fault
 
     def result(self, looks: int = 1) -> Value:
-        """The stage's value; its fault is raised. A stage that isn't settled after so many looks raises `InvalidStateError`."""
+        """The stage's value; its fault is raised. A stage that isn't settled after so many looks raises
+        `InvalidStateError`."""
         return value_of(there(self._outcome(looks), self.stage))
 
     def _outcome(self, looks: int) -> Optional[Outcome]:
@@ -134,13 +138,15 @@ class SharedFuture:
 class Desk:
     """The callers of one desk, by their numbers. At the end of a `with` those that weren't given back are freed."""
 
-    def __init__(self, plan: Plan, callers: int, log: int, calls: int, room: int = 0, functions: Optional[int] = None) -> None:
+    def __init__(self, plan: Plan, callers: int, log: int, calls: int, room: int = 0,
+                 functions: Optional[int] = None) -> None:
         handles = (CHandle * callers)()
         if room == 0 and functions is None:
             plan.build()._call("cf_desk_open", handles, callers, log, calls)
         else:
             any_number = 2**16 if functions is None else functions
-            sizes = CDeskSizes(in_range(log, 0xFFFF), in_range(calls, 0xFFFF), in_range(room, 0xFFFF), in_range(any_number, 0xFFFFFFFF))
+            sizes = CDeskSizes(in_range(log, 0xFFFF), in_range(calls, 0xFFFF), in_range(room, 0xFFFF),
+                               in_range(any_number, 0xFFFFFFFF))
             plan.build()._call("cf_desk_open_with", handles, callers, c.byref(sizes))
         desk = object()
         self.callers: Tuple[Caller, ...] = tuple(Caller(handle, desk) for handle in handles)
@@ -149,9 +155,9 @@ class Desk:
         self._lock = threading.Lock()
 
     def close(self, callers: Optional[Iterable[Caller]] = None) -> Closed:
-        """Gives these callers back, or else all that weren't yet, and ends the desk: what its callers did is one history, and what
-        they were told is recorded. `NOT_ALL` where callers are missing, which may be given back later, and `OTHER_DESK` of one of
-        another desk; those before it stay given back."""
+        """Gives these callers back, or else all that weren't yet, and ends the desk: what its callers did is one
+        history, and what they were told is recorded. `NOT_ALL` where callers are missing, which may be given back
+        later, and `OTHER_DESK` of one of another desk; those before it stay given back."""
         with self._lock:
             for caller in list(self._left) if callers is None else callers:
                 self._give_back(caller)

@@ -5,8 +5,8 @@ from typing import Any, Callable, List, Optional, Tuple, Union
 
 from ._library import NO_FUNCTION, CEvent, CReply, in_range, library
 from .handle import function_in
-from .values import (Answer, Failure, Form, Reply, Value, answer_in, answer_out, check, claim_out, finish_out, flag_out, number_out, value_in,
-                     value_out)
+from .values import (Answer, Failure, Form, Reply, Value, answer_in, answer_out, check, claim_out, finish_out,
+                     flag_out, number_out, value_in, value_out)
 
 
 @dataclass(frozen=True)
@@ -111,8 +111,8 @@ def _event_out(event: CEvent) -> Event:
 
 
 def word_of(event: Event) -> int:
-    """The word of an event. `NO_WORD`: a caller isn't below 64, a stage or a function isn't below 4,096, or a stage that is attached
-    doesn't fit its form."""
+    """The word of an event. `NO_WORD`: a caller isn't below 64, a stage or a function isn't below 4,096, or a stage
+    that is attached doesn't fit its form."""
     word = c.c_uint64()
     check(library.cf_word_of_event(c.byref(_event_in(event)), c.byref(word)))
     return word.value
@@ -129,7 +129,8 @@ def _known(word: int) -> CEvent:
     return event
 
 
-_REPLIES: List[Callable[[CReply], Reply]] = [flag_out, flag_out, flag_out, claim_out, finish_out, number_out, number_out, flag_out]
+_REPLIES: List[Callable[[CReply], Reply]] = [flag_out, flag_out, flag_out, claim_out, finish_out, number_out,
+                                             number_out, flag_out]
 
 
 def reply_of(word: int, reply: CReply) -> Reply:

@@ -11,8 +11,8 @@ from .values import Cancelled, Fault, Now, Outcome, Reply, Value, given_in, now_
 
 
 class Graph(Calls):
-    """The graph of a plan, with room for so many stages that are attached later. Its claims and finishes are by a caller of a
-    number, 0 to 255."""
+    """The graph of a plan, with room for so many stages that are attached later. Its claims and finishes are by a
+    caller of a number, 0 to 255."""
 
     _prefix, _ready = "cf_", "cf_lowest_ready"
 
@@ -54,8 +54,8 @@ class Graph(Calls):
         return reply_of(word, self._tell("cf_apply", CReply(), word))
 
     def restart(self, given: Iterable[Tuple[int, Value]] = ()) -> None:
-        """Starts again, as the graph was opened, and then completes these stages with their values: a request by a plan that is there.
-        `Refused` has NO_STAGE where one isn't a stage of the plan: nothing is done then."""
+        """Starts again, as the graph was opened, and then completes these stages with their values: a request by a
+        plan that is there. `Refused` has NO_STAGE where one isn't a stage of the plan: nothing is done then."""
         row = given_in(given)
         self._call("cf_restart_with", row, len(row))
 

@@ -4,8 +4,8 @@ import threading
 from typing import TYPE_CHECKING, Any, Callable, ContextManager, Optional, Tuple, TypeVar, Union, cast
 
 from ._library import NO_FUNCTION, CHandle, CReply, in_range, library, numbers
-from .values import (Answer, Args, ClaimReply, Code, Failure, FinishReply, Form, Link, Refused, Task, Thrown, Value, answer_in, check,
-                     claim_out, finish_out, flag_out, number_out, task_in, task_out, value_in)
+from .values import (Answer, Args, ClaimReply, Code, Failure, FinishReply, Form, Link, Refused, Task, Thrown, Value,
+                     answer_in, check, claim_out, finish_out, flag_out, number_out, task_in, task_out, value_in)
 
 # The function of a stage. One that raises `Thrown(code)` throws the code.
 Function = Callable[..., Union[Value, Link]]
@@ -24,8 +24,8 @@ Self = TypeVar("Self", bound="Handle")
 
 
 class Handle:
-    """A handle that is freed at the end of a `with`, or when nobody has it any more. One call at a time has it: another thread's
-    waits."""
+    """A handle that is freed at the end of a `with`, or when nobody has it any more. Calls of several
+    threads on it are made one after another."""
 
     def __init__(self, handle: Optional[CHandle] = None) -> None:
         self._handle = CHandle() if handle is None else handle
@@ -94,7 +94,8 @@ class Calls(Handle):
         return flag_out(self._do("fail", stage, code))
 
     def fail_as(self, stage: int, failure: Failure) -> bool:
-        """Settles a stage as timed out, or, where it stands in for another, with a bad answer, and says whether it did."""
+        """Settles a stage as timed out, or, where it stands in for another, with a bad answer, and says whether it
+        did."""
         return flag_out(self._do("fail_as", stage, failure))
 
     def cancel(self, stage: int) -> bool:
@@ -126,10 +127,10 @@ class Calls(Handle):
         return self._tell_number(self._prefix + "function", stage)
 
     def next(self, task: Optional[Task] = None, answer: Answer = None) -> Optional[Task]:
-        """One step of a caller's loop in one call: finishes the stage of a task, if there is one, with what its function answered, and
-        claims the lowest ready stage: None where none is. `Refused` has NO_STAGE or NOT_HELD where the task's stage isn't there, or this
-        caller has no open claim of it: nothing is changed then. By PASS_FULL and LOG_FULL, of a caller of a desk, the stage may be
-        finished."""
+        """One step of a caller's loop in one call: finishes the stage of a task, if there is one, with what its
+        function answered, and claims the lowest ready stage: None where none is. `Refused` has NO_STAGE or NOT_HELD
+        where the task's stage isn't there, or this caller has no open claim of it: nothing is changed then. By
+        PASS_FULL and LOG_FULL, of a caller of a desk, the stage may be finished."""
         told = task_in(task, answer)
         with self._lock:
             code: int = Code.LOST
@@ -140,9 +141,9 @@ class Calls(Handle):
         return task_out(told)
 
     def work(self, functions: "Functions", most: Optional[int] = None) -> int:
-        """Claims ready stages, the lowest first, calls their functions, which stand at their numbers, and finishes them, until none
-        is ready, or so many were called: how many. A function that raises anything but `Thrown`, or isn't there, ends it, and its
-        stage stays claimed."""
+        """Claims ready stages, the lowest first, calls their functions, which stand at their numbers, and finishes
+        them, until none is ready, or so many were called: how many. A function that raises anything but `Thrown`, or
+        isn't there, ends it, and its stage stays claimed."""
         calls, task, answer = 0, None, None
         while most is None or calls < most:
             task = self.next(task, answer)

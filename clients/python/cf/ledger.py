@@ -7,7 +7,8 @@ from ._library import CNews, CReply, CStage, CStep, in_range, library
 from .events import Event, reply_of, word_of
 from .handle import Handle
 from .plan import Plan
-from .values import Answer, Code, FinishReply, Misfit, Outcome, Refused, Reply, Task, check, outcome_out, task_in, task_out
+from .values import (Answer, Code, FinishReply, Misfit, Outcome, Refused, Reply, Task, check, outcome_out, task_in,
+                     task_out)
 
 _NOBODY = 0xFFFFFFFF
 _MISFITS = (Code.NO_WORD, Code.NO_STAGE, Code.BAD_ATTACH, Code.NO_ROOM)
@@ -19,7 +20,7 @@ class StageKind(enum.Enum):
     PENDING, READY, CLAIMED, LINKED, SETTLED = range(5)
 
 
-class Stage(NamedTuple):
+class StageState(NamedTuple):
     """A stage as it is: `who` has an open claim of it, `target` is the stage that it is linked to."""
 
     number: int
@@ -33,18 +34,18 @@ class Applied(NamedTuple):
     """What an event was answered, and the stages whose state it changed, rising, as they are then."""
 
     reply: Reply
-    news: List[Stage]
+    news: List[StageState]
 
 
 class Stepped(NamedTuple):
-    """What a step did: the place of its first word, the words of the finish and of the claim, where there are such, what the finish was
-    answered, the stages that it changed, rising, as they are now, and what was claimed."""
+    """What a step did: the place of its first word, the words of the finish and of the claim, where there are such,
+    what the finish was answered, the stages that it changed, rising, as they are now, and what was claimed."""
 
     place: int
     finish: Optional[int]
     claim: Optional[int]
     finished: FinishReply
-    news: List[Stage]
+    news: List[StageState]
     task: Optional[Task]
 
 
@@ -62,7 +63,8 @@ class Ledger(Handle):
         Handle.__init__(ledger)
         place = c.c_size_t()
         try:
-            plan.build()._call("cf_ledger_of", room, (c.c_uint64 * len(words))(*words), len(words), ledger._at, c.byref(place))
+            plan.build()._call("cf_ledger_of", room, (c.c_uint64 * len(words))(*words), len(words), ledger._at,
+                               c.byref(place))
         except Refused as refused:
             if refused.code in _MISFITS:
                 raise Misfit(refused.code, place.value) from None
@@ -70,8 +72,8 @@ class Ledger(Handle):
         return ledger
 
     def apply(self, word: int) -> Applied:
-        """Does the event of a word and writes it behind the others. Where there is no room for the stage that it attaches,
-        `Refused` has the code NO_ROOM, and `grow` makes some."""
+        """Does the event of a word and writes it behind the others. Where there is no room for the stage that it
+        attaches, `Refused` has the code NO_ROOM, and `grow` makes some."""
         with self._lock:
             room = self.stages() + 1
             reply, news, count = CReply(), (CNews * room)(), c.c_size_t()
@@ -79,9 +81,10 @@ class Ledger(Handle):
         return Applied(reply_of(word, reply), [_stage_out(told.stage, told.now) for told in news[:count.value]])
 
     def step(self, who: int, task: Optional[Task] = None, answer: Answer = None, first: int = 0) -> Stepped:
-        """One step of a caller's loop in one call: finishes the stage of a task with what its function answered, and claims the lowest
-        ready stage from a number on, if there is one. Both are words that are written. `Refused` has NOT_HELD where this caller has no
-        open claim of the task's stage, NO_STAGE where that isn't there, and NO_WORD where the caller isn't below 64."""
+        """One step of a caller's loop in one call: finishes the stage of a task with what its function answered, and
+        claims the lowest ready stage from a number on, if there is one. Both are words that are written. `Refused`
+        has NOT_HELD where this caller has no open claim of the task's stage, NO_STAGE where that isn't there, and
+        NO_WORD where the caller isn't below 64."""
         step = CStep(who=in_range(who, 0xFF), first=in_range(first, 0xFFFF))
         told = task_in(task, answer)
         with self._lock:
@@ -94,8 +97,8 @@ class Ledger(Handle):
                        [_stage_out(it.stage, it.now) for it in news[:count.value]], task_out(told))
 
     def apply_all(self, words: Sequence[int]) -> None:
-        """Does words one after another in one call. The first that can't be done raises `Misfit` with its place among them; those
-        before it are done."""
+        """Does words one after another in one call. The first that can't be done raises `Misfit` with its place
+        among them; those before it are done."""
         done = c.c_size_t()
         row = (c.c_uint64 * len(words))(*[in_range(word, 2**64 - 1) for word in words])
         with self._lock:
@@ -132,7 +135,7 @@ class Ledger(Handle):
         """The lowest stage from a number on that can be claimed, if one can."""
         return self._tell_number("cf_ledger_ready", first)
 
-    def stage(self, stage: int) -> Stage:
+    def stage(self, stage: int) -> StageState:
         """A stage as it is."""
         return _stage_out(stage, self._tell("cf_ledger_stage", CStage(), stage))
 
@@ -156,7 +159,7 @@ class Ledger(Handle):
         return count.value
 
 
-def _stage_out(number: int, stage: CStage) -> Stage:
+def _stage_out(number: int, stage: CStage) -> StageState:
     kind = StageKind(stage.kind)
     who = None if stage.who == _NOBODY else stage.who
-    return Stage(number, kind, who, stage.target if kind is StageKind.LINKED else None, outcome_out(stage.outcome))
+    return StageState(number, kind, who, stage.target if kind is StageKind.LINKED else None, outcome_out(stage.outcome))

@@ -47,9 +47,9 @@ class Plan(Handle):
         return self
 
     def open_desk(self, callers: int, log: int, calls: int, room: int = 0, functions: Optional[int] = None) -> "Desk":
-        """Opens a desk with 1 to 64 callers. Its log holds so many changing calls of all callers, and each caller so many records of
-        its own calls, reads too. There is room for so many stages that callers attach later, with functions of numbers below
-        `functions`, as the plan's have to be too; None is for any number."""
+        """Opens a desk with 1 to 64 callers. Its log holds so many changing calls of all callers, and each caller so
+        many records of its own calls, reads too. There is room for so many stages that callers attach later, with
+        functions of numbers below `functions`, as the plan's have to be too; None is for any number."""
         from .desk import Desk
 
         return Desk(self, callers, log, calls, room, functions)

@@ -1,10 +1,11 @@
 """Requests of a store, for who runs a service: python3 -m cf.requests --store ADDRESS COMMAND ..
 
-    list [--closed]             each open request: name, age, words, how many stages wait, and for what the first ones wait
+    list [--closed]             each open request: name, age, words, how many stages wait, and for what the first ones
+                                wait
     show NAME [--account]       its words as sentences, one a line; with --account what `cf_look check` judges
     show NAME --page [CF_LOOK]  a page for a browser, which the program `cf_look` writes
-    end NAME [--cancel]         closes it, also one that is broken, so that workers look at it no more; with --cancel its stages are
-                                cancelled first
+    end NAME [--cancel]         closes it, also one that is broken, so that workers look at it no more; with --cancel
+                                its stages are cancelled first
     drop --days N [NAME ..]     forgets those that were closed more than N days ago, or of these names; prints how many
 
 Status 0, 1 where a request isn't there or is broken, 2 where the words or the address are wrong. Nothing runs here.
@@ -15,7 +16,7 @@ import sys
 from typing import Any, List, Optional
 
 from .service.words import CANCEL, IS_CLAIMED, IS_PENDING, IS_READY
-from .shared import Broken, Desk, Json, Store, StoreError, Unknown, connect, new_session
+from .shared import Broken, RowView, Json, Store, StoreError, Unknown, connect, new_session
 from .shared.rows import Gone
 
 MOST_NAMED = 3  # stages that a line of the list names
@@ -56,13 +57,13 @@ def _parser() -> argparse.ArgumentParser:
     return parser
 
 
-def _desk(store: Store, name: str) -> Desk:
+def _view(store: Store, name: str) -> RowView:
     found = store.find(name)
     if found is None:
         raise Gone(name)
-    desk = Desk(store, found, new_session(), patience=5)
-    desk.catch_up()
-    return desk
+    view = RowView(store, found, new_session(), patience=5)
+    view.catch_up()
+    return view
 
 
 def _list(store: Store, at: argparse.Namespace) -> List[str]:
@@ -71,7 +72,7 @@ def _list(store: Store, at: argparse.Namespace) -> List[str]:
         if it.closed is not None and not at.closed:
             continue
         try:
-            state = _state(_desk(store, it.name)) if it.closed is None else "closed"
+            state = _state(_view(store, it.name)) if it.closed is None else "closed"
         except Gone:  # it was dropped meanwhile
             continue
         except Broken as error:
@@ -80,16 +81,17 @@ def _list(store: Store, at: argparse.Namespace) -> List[str]:
     return lines
 
 
-def _state(desk: Desk) -> str:
+def _state(view: RowView) -> str:
     """What a request waits for."""
     kinds = {IS_READY: "ready", IS_CLAIMED: "at work", IS_PENDING: "pending"}
-    waits = [(kind, number) for kind in (IS_CLAIMED, IS_READY, IS_PENDING) for number, is_now in enumerate(desk.kinds) if is_now == kind]
-    named = [f"{number} {desk.said(number)['name']} {kinds[kind]}" for kind, number in waits[:MOST_NAMED]]
-    return f"{len(waits)} of {len(desk.kinds)} stages wait{': ' if named else ''}{', '.join(named)}"
+    waits = [(kind, number) for kind in (IS_CLAIMED, IS_READY, IS_PENDING) for number, is_now in enumerate(view.kinds)
+             if is_now == kind]
+    named = [f"{number} {view.said(number)['name']} {kinds[kind]}" for kind, number in waits[:MOST_NAMED]]
+    return f"{len(waits)} of {len(view.kinds)} stages wait{': ' if named else ''}{', '.join(named)}"
 
 
 def _show(store: Store, at: argparse.Namespace) -> List[str]:
-    history = _desk(store, at.name).history(Json())
+    history = _view(store, at.name).history(Json())
     if at.page:
         return [history.page(at.page)]
     return [history.account()] if at.account else history.lines()
@@ -100,12 +102,12 @@ def _end(store: Store, at: argparse.Namespace) -> List[str]:
     if words is None or found is None:
         raise Gone(at.name)
     if at.cancel:
-        desk = _desk(store, at.name)
-        for stage in range(len(desk.kinds)):
-            def decide(desk: Desk, stage: int = stage) -> Any:
-                return None if desk.is_settled(stage) else [(CANCEL << 56 | desk.who << 48 | stage << 36, None)]
-            many += desk.act(decide)[0] is not None
-        words = desk.seen
+        view = _view(store, at.name)
+        for stage in range(len(view.kinds)):
+            def decide(view: RowView, stage: int = stage) -> Any:
+                return None if view.is_settled(stage) else [(CANCEL << 56 | view.who << 48 | stage << 36, None)]
+            many += view.act(decide)[0] is not None
+        words = view.seen
     store.end(at.name, words, found.number)
     if at.name in store.ends():
         raise StoreError(f"request {at.name!r} isn't closed: words were put meanwhile")

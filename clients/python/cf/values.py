@@ -4,7 +4,8 @@ from concurrent.futures import CancelledError
 from dataclasses import dataclass
 from typing import Any, Iterable, NamedTuple, Optional, Tuple, Union
 
-from ._library import CAnswer, CArgs, CGiven, CNow, COutcome, CReply, CTask, CValue, in_range
+from ._library import (BAD_ANSWER, CANCELLED, GIVE, GOT, INT, LINK, NIL, PENDING, THROW, THROWN, TIMED_OUT, VALUE,
+                       CAnswer, CArgs, CGiven, CNow, COutcome, CReply, CTask, CValue, in_range)
 
 Value = Optional[int]
 
@@ -13,15 +14,19 @@ class Form(enum.IntEnum):
     """How a stage depends on its sources."""
 
     SOURCE, SUPPLY, RUN_ASYNC, APPLY, ACCEPT, THEN_RUN, COMBINE, ACCEPT_BOTH, RUN_BOTH, APPLY_EITHER = range(10)
-    ACCEPT_EITHER, RUN_EITHER, COMPOSE, HANDLE, WHEN_COMPLETE, EXCEPTIONALLY, ALL_OF, ANY_OF, EXCEPTIONALLY_COMPOSE = range(10, 19)
+    ACCEPT_EITHER, RUN_EITHER, COMPOSE, HANDLE, WHEN_COMPLETE, EXCEPTIONALLY, ALL_OF, ANY_OF = range(10, 18)
+    EXCEPTIONALLY_COMPOSE = 18
 
 
 class Code(enum.IntEnum):
     """Why a call is refused."""
 
-    TOO_MANY_STAGES, SOURCE_NOT_LOWER, WRONG_SOURCE_COUNT, FUNCTION_MISSING, FUNCTION_UNWANTED, TOO_MANY_EDGES = range(1, 7)
-    NO_SUCH_STAGE, NO_MEMORY, TOO_MANY_LIMITS, EMPTY, FULL, WRONG_KIND, NO_SUCH_NUMBER, NO_STAGE, BAD_ATTACH = range(7, 16)
-    ROOM, NOTHING, CALLERS, LOG, CALLS, FUNCTIONS, PASS_FULL, LOG_FULL, OTHER_DESK, NOT_ALL, NO_WORD, BAD_SCRIPT = range(16, 28)
+    TOO_MANY_STAGES, SOURCE_NOT_LOWER, WRONG_SOURCE_COUNT, FUNCTION_MISSING, FUNCTION_UNWANTED = range(1, 6)
+    TOO_MANY_EDGES = 6
+    NO_SUCH_STAGE, NO_MEMORY, TOO_MANY_LIMITS, EMPTY, FULL, WRONG_KIND, NO_SUCH_NUMBER, NO_STAGE, BAD_ATTACH = range(7,
+                                                                                                                     16)
+    ROOM, NOTHING, CALLERS, LOG, CALLS, FUNCTIONS, PASS_FULL, LOG_FULL, OTHER_DESK = range(16, 25)
+    NOT_ALL, NO_WORD, BAD_SCRIPT = range(25, 28)
     STILL_SHARED = 28
     NOT_HELD = 29
     NO_ROOM = 30
@@ -52,7 +57,8 @@ class Misfit(Refused):
 
 
 class Fault(Exception):
-    """A stage ended in a fault; `wrapped` where it took it over from another stage. Two faults of one cause are equal."""
+    """A stage ended in a fault; `wrapped` where it took it over from another stage. Two faults of one cause are
+    equal."""
 
     wrapped = False
 
@@ -108,7 +114,8 @@ Args = Tuple[Union[Value, Outcome], ...]
 
 
 class NowKind(enum.Enum):
-    """What is told of a stage at present: it isn't settled, its value, its fault inside a CompletionException, or that it was cancelled itself."""
+    """What is told of a stage at present: it isn't settled, its value, its fault inside a CompletionException, or
+    that it was cancelled itself."""
 
     ABSENT, VALUE, COMPLETION, CANCELLATION = range(4)
 
@@ -128,7 +135,8 @@ class Now(NamedTuple):
 
 
 class ClaimStatus(enum.Enum):
-    """Whether a claim is granted, and why not: the stage is settled, another caller has it, or its sources aren't settled."""
+    """Whether a claim is granted, and why not: the stage is settled, another caller has it, or its sources aren't
+    settled."""
 
     GRANTED, SETTLED, TAKEN, NOT_READY = range(4)
 
@@ -149,13 +157,14 @@ class Task(NamedTuple):
 
 
 class FinishReply(enum.Enum):
-    """What a finish is answered: it settled or linked its stage, that had been settled before, or the caller hasn't claimed it."""
+    """What a finish is answered: it settled or linked its stage, that had been settled before, or the caller hasn't
+    claimed it."""
 
     WON, LATE, NOT_YOURS = range(3)
 
 
-# What a changing call is answered. Of a tick how many limits fired, or None where it is past; of an attach the number of the new
-# stage, or None where there is no room.
+# What a changing call is answered. Of a tick how many limits fired, or None where it is past; of an attach the number
+# of the new stage, or None where there is no room.
 Reply = Union[bool, ClaimReply, FinishReply, Optional[int]]
 
 
@@ -165,7 +174,7 @@ def check(code: int) -> None:
 
 
 def value_in(value: Value) -> CValue:
-    return CValue(0, 0) if value is None else CValue(1, in_range(value, 2**31 - 1, -(2**31)))
+    return CValue(NIL, 0) if value is None else CValue(INT, in_range(value, 2**31 - 1, -(2**31)))
 
 
 def value_out(value: CValue) -> Value:
@@ -174,14 +183,16 @@ def value_out(value: CValue) -> Value:
 
 def answer_in(answer: Answer) -> CAnswer:
     if isinstance(answer, Thrown):
-        return CAnswer(kind=1, code=in_range(answer.code, 2**32 - 1))
+        return CAnswer(kind=THROW, code=in_range(answer.code, 2**32 - 1))
     if isinstance(answer, Link):
-        return CAnswer(kind=2, stage=in_range(answer.stage, 0xFFFF))
-    return CAnswer(kind=0, value=value_in(answer))
+        return CAnswer(kind=LINK, stage=in_range(answer.stage, 0xFFFF))
+    return CAnswer(kind=GIVE, value=value_in(answer))
 
 
 def answer_out(answer: CAnswer) -> Answer:
-    return value_out(answer.value) if answer.kind == 0 else Thrown(answer.code) if answer.kind == 1 else Link(answer.stage)
+    if answer.kind == THROW:
+        return Thrown(answer.code)
+    return Link(answer.stage) if answer.kind == LINK else value_out(answer.value)
 
 
 def given_in(given: Iterable[Tuple[int, Value]]) -> Any:
@@ -203,32 +214,33 @@ def task_out(told: CTask) -> Optional[Task]:
     return Task(told.stage, told.function, args_out(told.args)) if told.held else None
 
 
-FAULTS = {3: Cancelled, 4: TimedOut, 5: BadAnswer}
+FAULTS = {CANCELLED: Cancelled, TIMED_OUT: TimedOut, BAD_ANSWER: BadAnswer}
 
 
 def _fault_out(outcome: COutcome, wrapped: bool) -> Fault:
-    fault: Fault = Thrown(outcome.code) if outcome.kind == 2 else FAULTS[outcome.kind]()
+    fault: Fault = Thrown(outcome.code) if outcome.kind == THROWN else FAULTS[outcome.kind]()
     fault.wrapped = wrapped
     return fault
 
 
 def outcome_out(outcome: COutcome) -> Optional[Outcome]:
-    if outcome.kind == 0:
+    if outcome.kind == PENDING:
         return None
-    if outcome.kind == 1:
+    if outcome.kind == VALUE:
         return Outcome(value_out(outcome.value), None)
     return Outcome(None, _fault_out(outcome, bool(outcome.wrapped)))
 
 
 def outcome_in(outcome: Optional[Outcome]) -> COutcome:
     if outcome is None:
-        return COutcome(kind=0)
+        return COutcome(kind=PENDING)
     fault = outcome.fault
     if fault is None:
-        return COutcome(kind=1, value=value_in(outcome.value))
+        return COutcome(kind=VALUE, value=value_in(outcome.value))
     if isinstance(fault, Thrown):
-        return COutcome(kind=2, wrapped=fault.wrapped, code=in_range(fault.code, 2**32 - 1))
-    return COutcome(kind=next(kind for kind, cause in FAULTS.items() if isinstance(fault, cause)), wrapped=fault.wrapped)
+        return COutcome(kind=THROWN, wrapped=fault.wrapped, code=in_range(fault.code, 2**32 - 1))
+    return COutcome(kind=next(kind for kind, cause in FAULTS.items() if isinstance(fault, cause)),
+                    wrapped=fault.wrapped)
 
 
 def now_out(now: CNow) -> Now:
@@ -241,7 +253,7 @@ def now_out(now: CNow) -> Now:
 
 
 def args_out(args: CArgs) -> Args:
-    if args.kind == 3:
+    if args.kind == GOT:
         return (outcome_out(args.outcome),)
     return (value_out(args.first), value_out(args.second))[:args.kind]
 

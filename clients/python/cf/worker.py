@@ -1,8 +1,8 @@
 """A worker of a store: python3 -m cf.worker --store ADDRESS MODULE.. [--threads N] [--lease SECONDS]
 
-It runs the functions of these modules, each of which has a member `functions`, a cf.shared.Functions, in all requests that are open in the
-store, until it is told to end by SIGTERM or SIGINT; a store that doesn't answer is waited for. Status 2 where the address or a module is
-wrong.
+It runs the functions of these modules, each of which has a member `functions`, a cf.shared.Functions, in all requests
+that are open in the store, until it is told to end by SIGTERM or SIGINT; a store that doesn't answer is waited for.
+Status 2 where the address or a module is wrong.
 """
 import argparse
 import logging
@@ -30,7 +30,8 @@ def main(words: Optional[List[str]] = None) -> int:
     parser = argparse.ArgumentParser(prog="python3 -m cf.worker", description="Works on the requests of a store.")
     parser.add_argument("--store", required=True)
     parser.add_argument("--threads", type=int, default=4)
-    parser.add_argument("--lease", type=float, default=10, help="after how many seconds without a sign of life a process is gone")
+    parser.add_argument("--lease", type=float, default=10,
+                        help="after how many seconds without a sign of life a process is gone")
     parser.add_argument("modules", nargs="+")
     at = parser.parse_args(words)
     logging.basicConfig(level=logging.WARNING, format="%(asctime)s %(name)s %(message)s")

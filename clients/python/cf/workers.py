@@ -9,16 +9,17 @@ from .values import Link, Thrown, Value
 
 
 class Workers:
-    """One thread for each of these callers, which claims ready stages, calls their functions and finishes them. A function that raises
-    anything but `Thrown`, be it `SystemExit`, throws `code`, and the exception is kept in `errors`, with the number of the function. Where
-    nothing is ready, a worker looks again after `pause` seconds.
+    """One thread for each of these callers, which claims ready stages, calls their functions and finishes them. A
+    function that raises anything but `Thrown`, be it `SystemExit`, throws `code`, and the exception is kept in
+    `errors`, with the number of the function. Where nothing is ready, a worker looks again after `pause` seconds.
 
         with cf.Workers(desk.callers[1:], functions):
             desk.callers[0].complete(source, 3)
 
     At its end each worker goes on until it finds nothing ready."""
 
-    def __init__(self, callers: Iterable[Caller], functions: Sequence[Function], code: int = 0, pause: float = 0.001) -> None:
+    def __init__(self, callers: Iterable[Caller], functions: Sequence[Function], code: int = 0,
+                 pause: float = 0.001) -> None:
         self.errors: List[Tuple[int, BaseException]] = []
         self._functions = _Caught(functions, code, self.errors)
         self._pause = pause
@@ -35,8 +36,8 @@ class Workers:
             raise
 
     def finish(self) -> int:
-        """Lets each worker end once it finds nothing ready, waits for them, and tells how many functions they called. What ended a
-        worker before, such as a full log, is raised."""
+        """Lets each worker end once it finds nothing ready, waits for them, and tells how many functions they
+        called. What ended a worker before, such as a full log, is raised."""
         self._ends.set()
         for worker in self._workers:
             worker.join()

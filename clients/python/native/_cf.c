@@ -1,21 +1,27 @@
-/* The parts of cf.service where its time goes: what `cf/service/_plain.py` has in Python, with the same names and the same answers.
+/* The parts of cf.service where its time goes: what `cf/service/_plain.py` has in Python, with the same names and
+ * the same answers.
  *
- * A request is a ledger of the library, and beside each of its events the time and the reply, beside each of its stages the name, the
- * future and what was told of it. `apply` does one event and writes down what came of it. Nothing of Python's runs meanwhile: no object
- * is made and none is freed, so nothing is collected either, no signal is handled, and the interpreter's lock isn't let go. That makes it
- * one step for all threads, without a lock of its own. Whatever may run anything is done behind it, by `tell`.
+ * A request is a ledger of the library, and beside each of its events the time and the reply, beside each of its
+ * stages the name, the future and what was told of it. `apply` does one event and writes down what came of it.
+ * Nothing of Python's runs meanwhile: no object is made and none is freed, so nothing is collected either, no signal
+ * is handled, and the interpreter's lock isn't let go. That makes it one step for all threads, without a lock of its
+ * own. Whatever may run anything is done behind it, by `tell`.
  *
- * Each interpreter that imports this has a `State` of its own, with its own types. Objects hold the module, and so outlive no State.
+ * Each interpreter that imports this has a `State` of its own, with its own types. Objects hold the module, and so
+ * outlive no State.
  *
  * How it meets what C owes the library (docs/C.md):
- *   - a handle is used by one thread at a time, which has the interpreter's lock: no call of the library runs Python, and none lets it go;
- *   - a handle stands within one object, is never copied, and is freed once, where that object is freed; an object that wasn't opened,
- *     whose opening failed or that is opened twice has an empty handle, on which each call answers CF_EMPTY, or its first one;
- *   - pointers are to the object's own memory and to the State's `changed`, which has room for as many news as a request may have stages;
- *   - rows are as many as the ledger has stages or room for: each number from Python is checked before it gets into a word, so no word is
- *     of another kind than is meant, and what the ledger attaches has its row before;
- *   - calls are made in a child of `fork` all the same: nobody forks within a call, so the handles are whole there, and so is the memory,
- *     by glibc's and musl's own care for a child. */
+ *   - a handle is used by one thread at a time, which has the interpreter's lock: no call of the library runs
+ *     Python, and none lets it go;
+ *   - a handle stands within one object, is never copied, and is freed once, where that object is freed; an object
+ *     that wasn't opened, whose opening failed or that is opened twice has an empty handle, on which each call
+ *     answers CF_EMPTY, or its first one;
+ *   - pointers are to the object's own memory and to the State's `changed`, which has room for as many news as a
+ *     request may have stages;
+ *   - rows are as many as the ledger has stages or room for: each number from Python is checked before it gets into
+ *     a word, so no word is of another kind than is meant, and what the ledger attaches has its row before;
+ *   - calls are made in a child of `fork` all the same: nobody forks within a call, so the handles are whole there,
+ *     and so is the memory, by glibc's and musl's own care for a child. */
 #define PY_SSIZE_T_CLEAN
 #include <Python.h>
 #include <structmember.h>
@@ -24,8 +30,10 @@
 #include "cf.h"
 
 enum { MOST = 4096, CALLERS = 64, NONE = 0xFFFF, THIS_THREAD = -1 };
-enum { DEEPER = 200, TRIES = 100 };  /* calls of Python's beyond its limit for what has to be told, and how often that is tried */
+/* Calls of Python's beyond its limit for what has to be told, and how often that is tried. */
+enum { DEEPER = 200, TRIES = 100 };
 enum { COMPLETE = 1, FAIL = 2, CANCEL = 3, CLAIM = 4, FINISH = 5, ATTACH = 7, FAIL_AS = 8 };  /* the kinds of words */
+enum { GIVING = 1, RAISING = 2, LINKING = 3 };  /* how `_end` finishes a stage: GIVES, THROWS and LINKS of words.py */
 #define KIND(kind) ((uint64_t)(kind) << 56)
 #define WHO(who) ((uint64_t)(who) << 48)
 #define OF(stage) ((uint64_t)(stage) << 36)
@@ -52,10 +60,10 @@ typedef struct {
 /* An event, when it was done in nanoseconds, and what it was answered. */
 typedef struct { int64_t at; cf_reply reply; } Event;
 
-/* What stands beside a stage. `told` is pending until the stage is settled, by the event before `place`. `error` is one more than the
- * number of the exception of a stage that timed out or has a bad answer, which its outcome doesn't tell; 0 where nobody gave one. `stage`
- * is its future, which is held until all was told of it, and may be missing of a planned one. `of` says of an attached one how many sources
- * it has, and these. */
+/* What stands beside a stage. `told` is pending until the stage is settled, by the event before `place`. `error` is
+ * one more than the number of the exception of a stage that timed out or has a bad answer, which its outcome doesn't
+ * tell; 0 where nobody gave one. `stage` is its future, which is held until all was told of it, and may be missing
+ * of a planned one. `of` says of an attached one how many sources it has, and these. */
 typedef struct {
   cf_outcome told;
   uint32_t place, error;
@@ -99,8 +107,8 @@ typedef struct {
   PyObject *call, *args, *kwargs, *callbacks, *condition, *waiters, *error;
 } Stage;
 
-/* The stages that an event settled and made ready, as lists through their rows. `error` is the one that stages time out with by the next
- * event, or have a bad answer with, as in their rows. */
+/* The stages that an event settled and made ready, as lists through their rows. `error` is the one that stages time
+ * out with by the next event, or have a bad answer with, as in their rows. */
 typedef struct { uint16_t settled, last_settled, ready, last_ready; uint32_t error; } News;
 static const News NO_NEWS = {NONE, NONE, NONE, NONE, 0};
 
@@ -121,7 +129,8 @@ static int64_t now(void) {
 /* Memory for two events more. At first for those of a request whose stages are each attached, claimed and finished. */
 static int room_for_events(Request *self) {
   if (self->events + 2 <= self->event_room) return 0;
-  uint32_t room = self->event_room ? 2 * self->event_room : !self->room ? 2 : self->room < 64 ? 3 * self->room + 1 : 192;
+  uint32_t first = !self->room ? 2 : self->room < 64 ? 3 * self->room + 1 : 192;
+  uint32_t room = self->event_room ? 2 * self->event_room : first;
   Event *done = PyMem_Realloc(self->done, room * sizeof *done);
   if (!done) return -1;
   self->done = done;
@@ -179,8 +188,8 @@ static uint32_t apply(Request *self, uint64_t word, cf_reply *reply, News *news)
   return CF_OK;
 }
 
-/* One step of the only one who runs this request's stages: finishes what the task holds, and claims the lowest ready stage, if there is
- * one. Two events of one moment. */
+/* One step of the only one who runs this request's stages: finishes what the task holds, and claims the lowest ready
+ * stage, if there is one. Two events of one moment. */
 static uint32_t step(Request *self, int who, cf_task *task, News *news) {
   if (room_for_events(self)) return CF_NO_MEMORY;
   bool held = task->held;
@@ -227,7 +236,8 @@ static PyObject *value_out(Request *self, cf_value value) {
   return given;
 }
 
-/* The exception of an outcome that is a fault, with what its stage's row says of one. Where nobody gave one, it is made. */
+/* The exception of an outcome that is a fault, with what its stage's row says of one. Where nobody gave one, it is
+ * made. */
 static PyObject *error_out(Request *self, cf_outcome outcome, uint32_t error) {
   if (outcome.kind == CF_THROWN) error = outcome.code + 1;
   if (error) {
@@ -235,8 +245,8 @@ static PyObject *error_out(Request *self, cf_outcome outcome, uint32_t error) {
     Py_INCREF(given);
     return given;
   }
-  return PyObject_CallNoArgs(outcome.kind == CF_CANCELLED ? self->state->cancelled_error : outcome.kind == CF_TIMED_OUT ? PyExc_TimeoutError
-                             : self->state->bad_answer);
+  return PyObject_CallNoArgs(outcome.kind == CF_CANCELLED ? self->state->cancelled_error :
+                             outcome.kind == CF_TIMED_OUT ? PyExc_TimeoutError : self->state->bad_answer);
 }
 
 static bool was_cancelled(cf_outcome outcome) { return outcome.kind == CF_CANCELLED && !outcome.wrapped; }
@@ -312,8 +322,8 @@ static cf_outcome told(Stage *self) {
   return self->request ? self->request->rows[self->number].told : (cf_outcome){0};
 }
 
-/* In a child of `fork`: those who wait for a stage by its condition, had that at the moment, or were about to show the stage, are the
- * parent's threads, which aren't there. */
+/* In a child of `fork`: those who wait for a stage by its condition, had that at the moment, or were about to show
+ * the stage, are the parent's threads, which aren't there. */
 static void be_here(Stage *self) {
   if (self->forks == self->state->forks) return;
   PyObject *condition = self->condition, *waiters = self->waiters;
@@ -338,8 +348,8 @@ static int raise_kept(Kept *first) {
   return -1;
 }
 
-/* Calls a method, with `given` or with nothing, and where that fails once more: an event that is done is told, though an interrupt came
- * meanwhile, or the stack was as deep as Python lets it be. */
+/* Calls a method, with `given` or with nothing, and where that fails once more: an event that is done is told,
+ * though an interrupt came meanwhile, or the stack was as deep as Python lets it be. */
 static PyObject *ask(PyObject *of, PyObject *method, PyObject *given, Kept *first) {
   PyObject *told = PyObject_CallMethodObjArgs(of, method, given, NULL);
   if (told) return told;
@@ -379,13 +389,14 @@ static void call_back(Stage *stage, PyObject *call, Kept *first) {
 static void let_go(Stage *stage, Kept *first) {
   PyObject *callbacks = stage->callbacks;
   stage->callbacks = NULL;
-  for (Py_ssize_t k = 0; callbacks && k < PyList_GET_SIZE(callbacks); k++) call_back(stage, PyList_GET_ITEM(callbacks, k), first);
+  for (Py_ssize_t k = 0; callbacks && k < PyList_GET_SIZE(callbacks); k++)
+    call_back(stage, PyList_GET_ITEM(callbacks, k), first);
   Py_XDECREF(callbacks);
   Py_CLEAR(stage->call); Py_CLEAR(stage->args); Py_CLEAR(stage->kwargs);
 }
 
-/* Puts a ready stage before those who run it, and says whether one will. An interrupt that comes meanwhile is raised once the stage is put:
- * one that is put twice runs once, and one that isn't put never does. */
+/* Puts a ready stage before those who run it, and says whether one will. An interrupt that comes meanwhile is raised
+ * once the stage is put: one that is put twice runs once, and one that isn't put never does. */
 static int put_stage(Request *self, Stage *stage, Kept *interrupt) {
   PyObject *is_taken = ask(self->works, self->state->put_name, (PyObject *)stage, interrupt);
   int taken = is_taken ? PyObject_IsTrue(is_taken) : -1;
@@ -415,8 +426,8 @@ static int hand(Request *self, uint16_t i, News *news) {
   return raise_kept(&first);
 }
 
-/* Tells what came of events: first those who wait, then the threads, then the callbacks. Where `following` is given, the first ready stage is
- * left to the caller. */
+/* Tells what came of events: first those who wait, then the threads, then the callbacks. Where `following` is given,
+ * the first ready stage is left to the caller. */
 static int tell(Request *self, News news, uint16_t *following) {
   if (news.settled == NONE && news.ready == NONE) return 0;
   Kept first = {0};
@@ -550,8 +561,8 @@ static bool is_own(Request *self, PyObject *stage) {
   return PyObject_TypeCheck(stage, self->state->stage_core) && ((Stage *)stage)->request == self;
 }
 
-/* _attach(form, first, second, call, args, kwargs, name): a stage more, to at most two sources of this request. Below a composing one stands
- * its relay, a source. */
+/* _attach(form, first, second, call, args, kwargs, name): a stage more, to at most two sources of this request.
+ * Below a composing one stands its relay, a source. */
 static PyObject *Request_attach(Request *self, PyObject *const *args, Py_ssize_t n) {
   if (n != 7) return PyErr_Format(PyExc_TypeError, "_attach takes 7");
   long form = number_below(args[0], CF_EXCEPTIONALLY_COMPOSE + 1, "form");
@@ -579,16 +590,19 @@ static PyObject *Request_attach(Request *self, PyObject *const *args, Py_ssize_t
     PyObject *relay = self->state->relay_name;
     Py_INCREF(relay);
     self->rows[self->stages] = (Row){.next_settled = NONE, .next_ready = NONE, .form = CF_SOURCE, .name = relay};
-    if ((code = apply(self, KIND(ATTACH) | WHO(caller), &reply, &news))) { Py_DECREF(relay); refused(code); goto failed; }
+    if ((code = apply(self, KIND(ATTACH) | WHO(caller), &reply, &news))) {
+      Py_DECREF(relay); refused(code);
+      goto failed;
+    }
     self->stages++;
   }
   uint16_t number = (uint16_t)self->stages;
   uint16_t first = sources > 0 ? ((Stage *)args[1])->number : 0, second = sources > 1 ? ((Stage *)args[2])->number : 0;
-  self->rows[number] = (Row){.next_settled = NONE, .next_ready = NONE, .form = (uint8_t)form, .of = {(uint16_t)sources, first, second},
-                             .stage = (PyObject *)stage, .name = name};
+  self->rows[number] = (Row){.next_settled = NONE, .next_ready = NONE, .form = (uint8_t)form,
+                             .of = {(uint16_t)sources, first, second}, .stage = (PyObject *)stage, .name = name};
   stage->number = number;
-  uint64_t word = KIND(ATTACH) | WHO(caller) | OF(first) | (uint64_t)sources << 32 | (uint64_t)form << 24 | (uint64_t)second << 12 |
-                  (call ? number : 0);
+  uint64_t word = KIND(ATTACH) | WHO(caller) | OF(first) | (uint64_t)sources << 32 | (uint64_t)form << 24 |
+                  (uint64_t)second << 12 | (call ? number : 0);
   if ((code = apply(self, word, &reply, &news))) { refused(code); goto failed; }
   self->stages++;
   Py_INCREF(stage);  /* (one for the row, and one for the caller) */
@@ -615,11 +629,12 @@ static int stage_in(Request *self, PyObject *stage, uint16_t *i) {
   return 0;
 }
 
-/* _change(kind, who, stage, given): completes, fails or cancels a stage, and says whether that did it. By FAIL_AS it has a bad answer where
- * the exception is a `BadAnswer`, and else times out. */
+/* _change(kind, who, stage, given): completes, fails or cancels a stage, and says whether that did it. By FAIL_AS it
+ * has a bad answer where the exception is a `BadAnswer`, and else times out. */
 static PyObject *Request_change(Request *self, PyObject *const *args, Py_ssize_t n) {
   uint16_t stage;
-  if (n != 4 || stage_in(self, args[2], &stage)) return n == 4 ? NULL : PyErr_Format(PyExc_TypeError, "_change takes 4");
+  if (n != 4) return PyErr_Format(PyExc_TypeError, "_change takes 4");
+  if (stage_in(self, args[2], &stage)) return NULL;
   long kind = number_below(args[0], FAIL_AS + 1, "change");
   if (kind > CANCEL && kind < FAIL_AS) return PyErr_Format(PyExc_ValueError, "no change has the number %ld", kind);
   if (kind < 0) return NULL;
@@ -637,7 +652,8 @@ static PyObject *Request_change(Request *self, PyObject *const *args, Py_ssize_t
       news.error = number + 1;
     }
   }
-  if (kind == CANCEL && args[3] == Py_True && self->rows[stage].running && !self->rows[stage].told.kind) Py_RETURN_FALSE;  /* unless it runs */
+  bool runs = self->rows[stage].running && !self->rows[stage].told.kind;
+  if (kind == CANCEL && args[3] == Py_True && runs) Py_RETURN_FALSE;
   cf_reply reply;
   if ((code = apply(self, KIND(kind) | WHO(who) | OF(stage) | low, &reply, &news))) return refused(code);
   if (tell(self, news, NULL)) return NULL;
@@ -670,7 +686,8 @@ static int to_call(Request *self, uint16_t i, const cf_args *args, Called *it) {
     cf_outcome got = args->outcome;
     it->many = 2;
     it->given[0] = got.kind == CF_VALUE ? value_out(self, got.value) : (Py_INCREF(Py_None), Py_None);
-    it->given[1] = got.kind == CF_VALUE ? (Py_INCREF(Py_None), Py_None) : error_out(self, got, error_of_sources(self, i, got.kind));
+    it->given[1] = got.kind == CF_VALUE ? (Py_INCREF(Py_None), Py_None) :
+                   error_out(self, got, error_of_sources(self, i, got.kind));
     if (!it->given[1]) { called_clear(it); return -1; }
   }
   return 1;
@@ -738,7 +755,8 @@ static int end_linking(Request *self, uint16_t i, int who, PyObject *given, uint
   return 0;
 }
 
-/* _run(stage, who): claims a stage, calls its function and finishes it, and goes on with a stage that became ready by that. */
+/* _run(stage, who): claims a stage, calls its function and finishes it, and goes on with a stage that became ready
+ * by that. */
 static PyObject *Request_run(Request *self, PyObject *const *args, Py_ssize_t n) {
   if (n != 2 || !is_own(self, args[0])) return PyErr_Format(PyExc_TypeError, "_run takes 2");
   int who = caller_in(args[1]);
@@ -770,7 +788,8 @@ static PyObject *Request_run(Request *self, PyObject *const *args, Py_ssize_t n)
   Py_RETURN_NONE;
 }
 
-/* Hands what the function of a stage gave or raised to the task that holds the stage, or finishes a composing stage by itself. */
+/* Hands what the function of a stage gave or raised to the task that holds the stage, or finishes a composing stage
+ * by itself. */
 static int answer(Request *self, int who, PyObject *given, cf_task *task) {
   uint16_t i = task->stage, following = NONE;
   uint8_t form = self->rows[i].form;
@@ -816,7 +835,8 @@ static PyObject *Request_work(Request *self, PyObject *number) {
   Py_RETURN_NONE;
 }
 
-/* _begin(stage, who): claims a stage. Its function with positional and other arguments, or None where nobody is to call it. */
+/* _begin(stage, who): claims a stage. Its function with positional and other arguments, or None where nobody is to
+ * call it. */
 static PyObject *Request_begin(Request *self, PyObject *const *args, Py_ssize_t n) {
   if (n != 2 || !is_own(self, args[0])) return PyErr_Format(PyExc_TypeError, "_begin takes 2");
   int who = caller_in(args[1]);
@@ -838,19 +858,19 @@ static PyObject *Request_begin(Request *self, PyObject *const *args, Py_ssize_t 
   return told;
 }
 
-/* _end(stage, who, kind, given): finishes a stage with a value (1), an exception (2) or a lower stage (3). A stage that became ready by
- * that and isn't handed to a thread, or None. */
+/* _end(stage, who, kind, given): finishes a stage with a value, an exception or a lower stage, as the kind says. A
+ * stage that became ready by that and isn't handed to a thread, or None. */
 static PyObject *Request_end(Request *self, PyObject *const *args, Py_ssize_t n) {
   if (n != 4 || !is_own(self, args[0])) return PyErr_Format(PyExc_TypeError, "_end takes 4");
   int who = caller_in(args[1]);
-  long kind = who < 0 ? -1 : number_below(args[2], 4, "way to end");
+  long kind = who < 0 ? -1 : number_below(args[2], LINKING + 1, "way to end");
   if (kind < 0) return NULL;
   uint16_t i = ((Stage *)args[0])->number, following = NONE;
   int failed;
-  if (kind == 3) {
+  if (kind == LINKING) {
     if (!is_own(self, args[3])) return PyErr_Format(PyExc_TypeError, "no stage of this request");
     failed = end(self, i, who, LINKS | ((Stage *)args[3])->number, &following);
-  } else failed = (kind == 1 ? end_giving : end_raising)(self, i, who, args[3], &following);
+  } else failed = (kind == GIVING ? end_giving : end_raising)(self, i, who, args[3], &following);
   if (failed) {
     if (following != NONE) {  /* nobody else will */
       Kept first = {0};
@@ -886,7 +906,8 @@ static PyObject *Request_stage(Request *self, PyObject *number) {
   return number_in(self, number, &i) ? NULL : (PyObject *)stage_at(self, i);
 }
 
-/* _set_running(stage): lets nobody cancel it any more but `abandon`. None where it is settled otherwise or runs, else whether it does now. */
+/* _set_running(stage): lets nobody cancel it any more but `abandon`. None where it is settled otherwise or runs,
+ * else whether it does now. */
 static PyObject *Request_set_running(Request *self, PyObject *stage) {
   if (!is_own(self, stage)) return PyErr_Format(PyExc_TypeError, "no stage of this request");
   Row *row = &self->rows[((Stage *)stage)->number];
@@ -912,18 +933,20 @@ static PyObject *Request_rename(Request *self, PyObject *const *args, Py_ssize_t
   Py_RETURN_NONE;
 }
 
-static PyObject *copied(PyObject *list) { return list ? PyList_GetSlice(list, 0, PyList_GET_SIZE(list)) : PyList_New(0); }
+static PyObject *copied(PyObject *list) {
+  return list ? PyList_GetSlice(list, 0, PyList_GET_SIZE(list)) : PyList_New(0);
+}
 
-/* _facts(): words, times, replies as numbers of 32 bits; (place, stage, kind, wrapped, code, some, number) of each settled stage; names,
- * values, errors. */
+/* _facts(): words, times, replies as numbers of 32 bits; (place, stage, kind, wrapped, code, some, number) of each
+ * settled stage; names, values, errors. */
 static PyObject *Request_facts(Request *self, PyObject *Py_UNUSED(none)) {
   /* All objects are made first: what is collected meanwhile may call the request. */
   for (;;) {
     uint32_t events = self->events, stages = self->stages;
     PyObject *words = PyBytes_FromStringAndSize(NULL, events * 8), *times = PyBytes_FromStringAndSize(NULL, events * 8);
     PyObject *replies = PyBytes_FromStringAndSize(NULL, (Py_ssize_t)(events * sizeof(cf_reply)));
-    PyObject *told = PyBytes_FromStringAndSize(NULL, stages * 28), *names = PyList_New(stages), *values = copied(self->values),
-             *errors = copied(self->errors), *facts = NULL;
+    PyObject *told = PyBytes_FromStringAndSize(NULL, stages * 28), *names = PyList_New(stages);
+    PyObject *values = copied(self->values), *errors = copied(self->errors), *facts = NULL;
     bool is_made = words && times && replies && told && names && values && errors;
     bool is_same = events == self->events;
     if (is_made && is_same) {
@@ -943,7 +966,8 @@ static PyObject *Request_facts(Request *self, PyObject *Py_UNUSED(none)) {
       }
       facts = PyTuple_Pack(7, words, times, replies, told, names, values, errors);
     }
-    Py_XDECREF(words); Py_XDECREF(times); Py_XDECREF(replies); Py_XDECREF(told); Py_XDECREF(names); Py_XDECREF(values); Py_XDECREF(errors);
+    Py_XDECREF(words); Py_XDECREF(times); Py_XDECREF(replies); Py_XDECREF(told); Py_XDECREF(names);
+    Py_XDECREF(values); Py_XDECREF(errors);
     if (!is_made || is_same) return facts;
   }
 }
@@ -976,8 +1000,9 @@ enum { FIXED = Py_TPFLAGS_IMMUTABLETYPE, NOT_CALLED = Py_TPFLAGS_DISALLOW_INSTAN
 enum { FIXED = 0, NOT_CALLED = 0 };
 #endif
 static PyType_Slot request_slots[] = {
-  {Py_tp_new, Request_new}, {Py_tp_init, Request_init}, {Py_tp_traverse, Request_traverse}, {Py_tp_clear, Request_clear},
-  {Py_tp_dealloc, Request_dealloc}, {Py_tp_methods, request_methods}, {Py_tp_members, request_members}, {0, NULL}};
+  {Py_tp_new, Request_new}, {Py_tp_init, Request_init}, {Py_tp_traverse, Request_traverse},
+  {Py_tp_clear, Request_clear}, {Py_tp_dealloc, Request_dealloc}, {Py_tp_methods, request_methods},
+  {Py_tp_members, request_members}, {0, NULL}};
 static PyType_Spec request_spec = {
   .name = "cf._cf.RequestCore", .basicsize = sizeof(Request), .slots = request_slots,
   .flags = Py_TPFLAGS_DEFAULT | Py_TPFLAGS_BASETYPE | Py_TPFLAGS_HAVE_GC | FIXED};
@@ -1009,7 +1034,9 @@ static void Stage_dealloc(Stage *self) {
 }
 
 static PyObject *Stage_done(Stage *self, PyObject *Py_UNUSED(none)) { return PyBool_FromLong(told(self).kind); }
-static PyObject *Stage_cancelled(Stage *self, PyObject *Py_UNUSED(none)) { return PyBool_FromLong(was_cancelled(told(self))); }
+static PyObject *Stage_cancelled(Stage *self, PyObject *Py_UNUSED(none)) {
+  return PyBool_FromLong(was_cancelled(told(self)));
+}
 
 static PyObject *Stage_running(Stage *self, PyObject *Py_UNUSED(none)) {
   return PyBool_FromLong(self->request && !told(self).kind && self->request->rows[self->number].running);
@@ -1031,7 +1058,8 @@ static PyObject *error_of(Stage *self) {
 /* Waits until it is settled, and not cancelled. */
 static int settle(Stage *self, PyObject *const *args, Py_ssize_t n, PyObject *names) {
   Py_ssize_t many = n + (names ? PyTuple_GET_SIZE(names) : 0);
-  if (many > 1 || (names && PyTuple_GET_SIZE(names) && PyUnicode_CompareWithASCIIString(PyTuple_GET_ITEM(names, 0), "timeout"))) {
+  PyObject *name = names && PyTuple_GET_SIZE(names) ? PyTuple_GET_ITEM(names, 0) : NULL;
+  if (many > 1 || (name && PyUnicode_CompareWithASCIIString(name, "timeout"))) {
     PyErr_SetString(PyExc_TypeError, "takes a timeout alone");
     return -1;
   }
@@ -1166,8 +1194,8 @@ static PyGetSetDef stage_getters[] = {
   {"_exception", (getter)Stage_error, NULL, NULL, NULL},
   {NULL}};
 static PyType_Slot stage_slots[] = {
-  {Py_tp_traverse, Stage_traverse}, {Py_tp_clear, Stage_clear}, {Py_tp_dealloc, Stage_dealloc}, {Py_tp_methods, stage_methods},
-  {Py_tp_members, stage_members}, {Py_tp_getset, stage_getters}, {0, NULL}};
+  {Py_tp_traverse, Stage_traverse}, {Py_tp_clear, Stage_clear}, {Py_tp_dealloc, Stage_dealloc},
+  {Py_tp_methods, stage_methods}, {Py_tp_members, stage_members}, {Py_tp_getset, stage_getters}, {0, NULL}};
 static PyType_Spec stage_spec = {
   .name = "cf._cf.StageCore", .basicsize = sizeof(Stage), .slots = stage_slots,
   .flags = Py_TPFLAGS_DEFAULT | Py_TPFLAGS_BASETYPE | Py_TPFLAGS_HAVE_GC | FIXED | NOT_CALLED};
@@ -1203,7 +1231,8 @@ static uint32_t plan_stage(Plan *self, PyObject *row, Py_ssize_t k) {
     if (source < 0) code = CF_NULL; else sources[s + 1] = (uint16_t)source;
   }
   self->forms[k] = (uint8_t)form;
-  if (!code) code = cf_builder_stage(&self->plan, form, sources + 1, many, function == Py_None ? CF_NO_FUNCTION : (uint32_t)k, &stage);
+  uint32_t number = function == Py_None ? CF_NO_FUNCTION : (uint32_t)k;
+  if (!code) code = cf_builder_stage(&self->plan, form, sources + 1, many, number, &stage);
   return code;
 }
 
@@ -1212,7 +1241,8 @@ static int Plan_init(Plan *self, PyObject *args, PyObject *kwargs) {
   PyObject *rows;
   if (!PyArg_ParseTuple(args, "O!", &PyList_Type, &rows)) return -1;
   if (self->rows) { PyErr_SetString(PyExc_TypeError, "a plan is made once"); return -1; }
-  if (!(rows = PyList_GetSlice(rows, 0, PyList_GET_SIZE(rows)))) return -1;  /* (numbers may run what changes the list) */
+  /* (numbers may run what changes the list) */
+  if (!(rows = PyList_GetSlice(rows, 0, PyList_GET_SIZE(rows)))) return -1;
   self->rows = rows;
   Py_ssize_t n = PyList_GET_SIZE(rows);
   if (n > MOST) { PyErr_SetString(self->state->full, "a request has at most 4,096 stages"); return -1; }
@@ -1225,7 +1255,10 @@ static int Plan_init(Plan *self, PyObject *args, PyObject *kwargs) {
   if (!self->calls || !self->names || !self->forms || !self->of || !self->start) { PyErr_NoMemory(); return -1; }
   for (Py_ssize_t k = 0; !code && k < n; k++) code = plan_stage(self, PyList_GET_ITEM(rows, k), k);
   if (code == CF_NULL) return -1;
-  if (code == CF_TOO_MANY_EDGES) { PyErr_SetString(self->state->full, "a flow has at most 16,384 mentions of sources"); return -1; }
+  if (code == CF_TOO_MANY_EDGES) {
+    PyErr_SetString(self->state->full, "a flow has at most 16,384 mentions of sources");
+    return -1;
+  }
   cf_handle ledger = {0};
   if (!code) code = cf_build(&self->plan);
   if (!code) code = cf_ledger_new(&self->plan, 0, &ledger);
@@ -1265,10 +1298,11 @@ static void Plan_dealloc(Plan *self) {
 }
 
 static PyType_Slot plan_slots[] = {
-  {Py_tp_new, Plan_new}, {Py_tp_init, Plan_init}, {Py_tp_members, plan_members}, {Py_tp_traverse, Plan_traverse}, {Py_tp_clear, Plan_clear},
-  {Py_tp_dealloc, Plan_dealloc}, {0, NULL}};
+  {Py_tp_new, Plan_new}, {Py_tp_init, Plan_init}, {Py_tp_members, plan_members}, {Py_tp_traverse, Plan_traverse},
+  {Py_tp_clear, Plan_clear}, {Py_tp_dealloc, Plan_dealloc}, {0, NULL}};
 static PyType_Spec plan_spec = {
-  .name = "cf._cf.PlanCore", .basicsize = sizeof(Plan), .slots = plan_slots, .flags = Py_TPFLAGS_DEFAULT | Py_TPFLAGS_HAVE_GC | FIXED};
+  .name = "cf._cf.PlanCore", .basicsize = sizeof(Plan), .slots = plan_slots,
+  .flags = Py_TPFLAGS_DEFAULT | Py_TPFLAGS_HAVE_GC | FIXED};
 
 /* ---- The module ---- */
 
@@ -1277,8 +1311,10 @@ static PyObject *use(PyObject *module, PyObject *args) {
   State *state = PyModule_GetState(module);
   PyObject *type, *full, *bad_answer;
   if (!PyArg_ParseTuple(args, "O!OO", &PyType_Type, &type, &full, &bad_answer)) return NULL;
-  if (!PyType_IsSubtype((PyTypeObject *)type, state->stage_core)) return PyErr_Format(PyExc_TypeError, "no class of stages");
-  if (!PyExceptionClass_Check(full) || !PyExceptionClass_Check(bad_answer)) return PyErr_Format(PyExc_TypeError, "no class of exceptions");
+  if (!PyType_IsSubtype((PyTypeObject *)type, state->stage_core))
+    return PyErr_Format(PyExc_TypeError, "no class of stages");
+  if (!PyExceptionClass_Check(full) || !PyExceptionClass_Check(bad_answer))
+    return PyErr_Format(PyExc_TypeError, "no class of exceptions");
   Py_INCREF(type); Py_INCREF(full); Py_INCREF(bad_answer);
   Py_XSETREF(state->stage_type, (PyTypeObject *)type);
   Py_XSETREF(state->full, full);
@@ -1305,7 +1341,8 @@ static PyMethodDef module_methods[] = {
   {NULL}};
 
 static PyObject *of_module(const char *name, const char *attribute) {
-  PyObject *imported = PyImport_ImportModule(name), *found = imported ? PyObject_GetAttrString(imported, attribute) : NULL;
+  PyObject *imported = PyImport_ImportModule(name);
+  PyObject *found = imported ? PyObject_GetAttrString(imported, attribute) : NULL;
   Py_XDECREF(imported);
   return found;
 }
@@ -1326,7 +1363,8 @@ static int fill(PyObject *module) {
     PyErr_Format(PyExc_ImportError, "the library has version %s", cf_version());
     return -1;
   }
-  if (sizeof(cf_reply) != 48 || sizeof(cf_outcome) != 20 || cf_layout("cf_reply") != 48 || cf_layout("cf_news") != sizeof(cf_news)) {
+  if (sizeof(cf_reply) != 48 || sizeof(cf_outcome) != 20 || cf_layout("cf_reply") != 48 ||
+      cf_layout("cf_news") != sizeof(cf_news)) {
     PyErr_SetString(PyExc_ImportError, "the structures of the library are others");
     return -1;
   }
@@ -1359,11 +1397,13 @@ static int fill(PyObject *module) {
 static int module_traverse(PyObject *module, visitproc visit, void *arg) {
   State *it = PyModule_GetState(module);
   Py_VISIT(it->request_core); Py_VISIT(it->stage_core); Py_VISIT(it->plan_core); Py_VISIT(it->stage_type);
-  Py_VISIT(it->full); Py_VISIT(it->bad_answer); Py_VISIT(it->cancelled_error); Py_VISIT(it->future_error); Py_VISIT(it->condition_class);
+  Py_VISIT(it->full); Py_VISIT(it->bad_answer); Py_VISIT(it->cancelled_error); Py_VISIT(it->future_error);
+  Py_VISIT(it->condition_class);
   return 0;
 }
 
-/* Of what stands here, the class of stages alone may lead back to the module. The rest stays until no object is left that uses it. */
+/* Of what stands here, the class of stages alone may lead back to the module. The rest stays until no object is left
+ * that uses it. */
 static int module_clear(PyObject *module) {
   State *it = PyModule_GetState(module);
   Py_CLEAR(it->stage_type);
@@ -1374,9 +1414,11 @@ static void module_free(void *module) {
   State *it = PyModule_GetState((PyObject *)module);
   module_clear((PyObject *)module);
   Py_CLEAR(it->request_core); Py_CLEAR(it->stage_core); Py_CLEAR(it->plan_core);
-  Py_CLEAR(it->full); Py_CLEAR(it->bad_answer); Py_CLEAR(it->cancelled_error); Py_CLEAR(it->future_error); Py_CLEAR(it->condition_class);
+  Py_CLEAR(it->full); Py_CLEAR(it->bad_answer); Py_CLEAR(it->cancelled_error); Py_CLEAR(it->future_error);
+  Py_CLEAR(it->condition_class);
   Py_CLEAR(it->pending); Py_CLEAR(it->running); Py_CLEAR(it->finished); Py_CLEAR(it->cancelled_state);
-  Py_CLEAR(it->put_name); Py_CLEAR(it->refusal_name); Py_CLEAR(it->show_name); Py_CLEAR(it->log_name); Py_CLEAR(it->wait_name);
+  Py_CLEAR(it->put_name); Py_CLEAR(it->refusal_name); Py_CLEAR(it->show_name); Py_CLEAR(it->log_name);
+  Py_CLEAR(it->wait_name);
   Py_CLEAR(it->qualname_name); Py_CLEAR(it->func_name); Py_CLEAR(it->relay_name);
   cf_free(&it->nothing);
   PyMem_RawFree(it->changed);
@@ -1389,7 +1431,8 @@ static PyModuleDef_Slot module_slots[] = {
 #endif
   {0, NULL}};
 static PyModuleDef module = {
-  PyModuleDef_HEAD_INIT, .m_name = "_cf", .m_doc = "Requests and stages over the proved ledger.", .m_size = sizeof(State),
-  .m_methods = module_methods, .m_slots = module_slots, .m_traverse = module_traverse, .m_clear = module_clear, .m_free = module_free};
+  PyModuleDef_HEAD_INIT, .m_name = "_cf", .m_doc = "Requests and stages over the proved ledger.",
+  .m_size = sizeof(State), .m_methods = module_methods, .m_slots = module_slots, .m_traverse = module_traverse,
+  .m_clear = module_clear, .m_free = module_free};
 
 PyMODINIT_FUNC PyInit__cf(void) { return PyModuleDef_Init(&module); }

@@ -1,11 +1,12 @@
 #!/usr/bin/env python3
-"""Builds the wheel, installs it in a fresh virtual environment, and runs there the README's first program and the tests. Nothing is fetched.
+"""Builds the wheel, installs it in a fresh virtual environment, and runs there the README's first program and the
+tests. Nothing is fetched.
 
     CF_LIBRARY_DIR=/folder/of/libcf.a python3 clients/python/tests/installed.py [FOLDER]
 
-It is made in FOLDER, which has the environment then, in `venv`, or in a temporary one.
-The wheel has the C module, with the library within, so nothing else is needed where it is installed; CF_LIBRARY is not set there. Tests run
-over the module, the first program also by ctypes. Status 1 where something isn't as it should be.
+It is made in FOLDER, which has the environment then, in `venv`, or in a temporary one. The wheel has the C module, with
+the library within, so nothing else is needed where it is installed; CF_LIBRARY is not set there. Tests run over the
+module, the first program also by ctypes. Status 1 where something isn't as it should be.
 """
 import os
 import shutil
@@ -30,9 +31,11 @@ def told(folder, *command, **environment):
 def main(made):
     made.mkdir(parents=True, exist_ok=True)
     client = made / "client"
-    shutil.copytree(str(CLIENT), str(client), ignore=shutil.ignore_patterns("*.so", "build", "*.egg-info", "__pycache__"))
+    shutil.copytree(str(CLIENT), str(client),
+                    ignore=shutil.ignore_patterns("*.so", "build", "*.egg-info", "__pycache__"))
     include = CLIENT.parents[1] / "crates/cf_c/include"
-    told(made, sys.executable, "-m", "pip", "wheel", "--no-index", "--no-build-isolation", "--no-deps", "-w", made, client, CF_INCLUDE=str(include))
+    told(made, sys.executable, "-m", "pip", "wheel", "--no-index", "--no-build-isolation", "--no-deps", "-w", made,
+         client, CF_INCLUDE=str(include))
     wheel = next(made.glob("*.whl"))
     told(made, sys.executable, "-m", "venv", made / "venv")
     python = made / "venv/bin/python"

@@ -1,10 +1,11 @@
 #!/usr/bin/env python3
-"""Tests of cf.Ledger's calls for many words at once: step, apply_all, restart, each beside the same words one at a time.
+"""Tests of cf.Ledger's calls for many words at once: step, apply_all, restart, each beside the same words one at a
+time.
 
     CF_LIBRARY=/path/to/libcf.so python3 clients/python/tests/test_ledger.py [-v] [TEST ..]
 
-They are of the package beside this folder, or with CF_INSTALLED=1 of the one that is installed. conformance/python has random ones, beside
-the model.
+They are of the package beside this folder, or with CF_INSTALLED=1 of the one that is installed. conformance/clients/python-module has
+random ones, beside the model.
 """
 import os
 import random
@@ -17,6 +18,7 @@ if not os.environ.get("CF_INSTALLED"):
 import cf  # noqa: E402
 from cf import Form  # noqa: E402
 from cf.events import Cancel, Claim, Complete, FailAs, Finish  # noqa: E402
+from cf.service.words import FAIL_AS  # noqa: E402
 
 WORKER = 5
 FUNCTIONS = [lambda x: x + 1, lambda x, y: x * y]
@@ -56,11 +58,13 @@ class Steps(unittest.TestCase):
         for each in (ledger, beside):
             each.do(Complete(0, self.source, 2))
         told = ledger.step(WORKER)
-        self.assertEqual((told.place, told.finish, told.claim, told.news, told.finished), (1, None, cf.word_of(Claim(WORKER, 1)), [], cf.FinishReply.WON))
+        self.assertEqual((told.place, told.finish, told.claim, told.news, told.finished),
+                         (1, None, cf.word_of(Claim(WORKER, 1)), [], cf.FinishReply.WON))
         self.assertEqual(told.task, cf.Task(1, 0, (2,)))
         self.assertEqual(ledger.stage(1).who, WORKER)
         told = ledger.step(WORKER, told.task, 3)
-        self.assertEqual((told.place, told.finish, told.claim), (2, cf.word_of(Finish(WORKER, 1, 3)), cf.word_of(Claim(WORKER, 2))))
+        self.assertEqual((told.place, told.finish, told.claim),
+                         (2, cf.word_of(Finish(WORKER, 1, 3)), cf.word_of(Claim(WORKER, 2))))
         self.assertEqual([(stage.number, stage.outcome) for stage in told.news], [(1, cf.Outcome(3, None))])
         self.assertEqual(told.task, cf.Task(2, 0, (2,)))
         for word in ledger.words(1):
@@ -90,19 +94,22 @@ class Steps(unittest.TestCase):
         self.assertEqual(told.news[0].outcome.fault.code, 4)
 
     def test_timed_out_and_with_a_bad_answer(self):
-        for tag, (failure, fault) in enumerate([(cf.Failure.TIMED_OUT, cf.TimedOut), (cf.Failure.BAD_ANSWER, cf.BadAnswer)]):
+        for tag, (failure,
+                  fault) in enumerate([(cf.Failure.TIMED_OUT, cf.TimedOut), (cf.Failure.BAD_ANSWER, cf.BadAnswer)]):
             ledger, event = cf.Ledger(self.plan), FailAs(WORKER, self.source, failure)
-            word = 8 << 56 | WORKER << 48 | self.source << 36 | tag << 32
+            word = FAIL_AS << 56 | WORKER << 48 | self.source << 36 | tag << 32
             self.assertEqual((cf.word_of(event), cf.event_of(word)), (word, event))
             told = ledger.do(event)
             self.assertEqual((told.reply, len(told.news)), (True, ledger.stages()))
-            self.assertEqual([(type(it.outcome.fault), it.outcome.fault.wrapped) for it in told.news], [(fault, it.number > 0) for it in told.news])
-            self.assertEqual((ledger.do(event), self.stages(cf.Ledger.of_words(self.plan, [word]))), (cf.Applied(False, []), self.stages(ledger)))
+            self.assertEqual([(type(it.outcome.fault), it.outcome.fault.wrapped) for it in told.news],
+                             [(fault, it.number > 0) for it in told.news])
+            self.assertEqual((ledger.do(event), self.stages(cf.Ledger.of_words(self.plan, [word]))),
+                             (cf.Applied(False, []), self.stages(ledger)))
         for wrong in (0, 3, 6):
             with self.assertRaises(cf.Refused) as refused:
                 cf.word_of(FailAs(WORKER, 0, wrong))
             self.assertEqual(refused.exception.code, cf.Code.NO_SUCH_NUMBER)
-        for word in (8 << 56 | 2 << 32, 8 << 56 | 1):
+        for word in (FAIL_AS << 56 | 2 << 32, FAIL_AS << 56 | 1):
             with self.assertRaises(cf.Refused) as refused:
                 cf.event_of(word)
             self.assertEqual(refused.exception.code, cf.Code.NO_WORD)
@@ -112,22 +119,24 @@ class Steps(unittest.TestCase):
     def test_refused_steps_change_nothing(self):
         self.ledger.do(Complete(0, self.source, 1))
         task, words = self.ledger.step(WORKER).task, self.ledger.words()
-        for who, held, code in ((64, None, "NO_WORD"), (WORKER, task._replace(stage=16), "NO_STAGE"), (4, task, "NOT_HELD"),
-                                (WORKER, task._replace(stage=2), "NOT_HELD")):
+        for who, held, code in ((64, None, "NO_WORD"), (WORKER, task._replace(stage=16), "NO_STAGE"),
+                                (4, task, "NOT_HELD"), (WORKER, task._replace(stage=2), "NOT_HELD")):
             with self.assertRaises(cf.Refused) as refused:
                 self.ledger.step(who, held, 1)
             self.assertEqual((refused.exception.code.name, self.ledger.words()), (code, words))
-        for call in (lambda: self.ledger.step(256), lambda: self.ledger.step(1, first=2**16), lambda: self.ledger.step(1, answer=2**31)):
+        for call in (lambda: self.ledger.step(256), lambda: self.ledger.step(1, first=2**16),
+                     lambda: self.ledger.step(1, answer=2**31)):
             with self.assertRaises(OverflowError):
                 call()
 
     def test_words_in_one_call(self):
-        """Of random words, some of which fit nothing, a row does what each does by itself, up to the first that can't be done."""
+        """Of random words, some of which fit nothing, a row does what each does by itself, up to the first that
+        can't be done."""
         rng = random.Random(7)
         for _ in range(200):
             ledger, beside, done = cf.Ledger(self.plan), cf.Ledger(self.plan), 0
-            events = [rng.choice([Complete(0, rng.randrange(18), 3), Claim(rng.randrange(3), rng.randrange(16)), Finish(1, rng.randrange(16), 1)])
-                      for _ in range(rng.randrange(30))]
+            events = [rng.choice([Complete(0, rng.randrange(18), 3), Claim(rng.randrange(3), rng.randrange(16)),
+                                  Finish(1, rng.randrange(16), 1)]) for _ in range(rng.randrange(30))]
             words, refused = [cf.word_of(event) for event in events], None
             for place, word in enumerate(words):
                 try:

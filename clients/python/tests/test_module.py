@@ -3,10 +3,10 @@
 
     CF_LIBRARY=/path/to/libcf.so python3 clients/python/tests/test_module.py [-v] [TEST ..]
 
-What other interpreters of the process, collections, deep stacks, refused memory and odd classes can do; what callbacks, interrupts and
-futures of others may raise; and that what is over is let go. They are of the package beside this folder, or with CF_INSTALLED=1 of the one
-that is installed; over the C module where it was built, and by ctypes with CF_NO_MODULE=1. A test that is of one way alone is left out in
-the other.
+What other interpreters of the process, collections, deep stacks, refused memory and odd classes can do; what callbacks,
+interrupts and futures of others may raise; and that what is over is let go. They are of the package beside this folder,
+or with CF_INSTALLED=1 of the one that is installed; over the C module where it was built, and by ctypes with
+CF_NO_MODULE=1. A test that is of one way alone is left out in the other.
 """
 import asyncio
 import concurrent.futures
@@ -57,8 +57,8 @@ class Thing:
 def program(text, timeout=100, head=HEAD):
     """What a program of its own prints, which finds the package. One that doesn't end in time raises."""
     path = "" if os.environ.get("CF_INSTALLED") else f"import sys; sys.path.insert(0, {str(HERE.parent)!r})\n"
-    done = subprocess.run([sys.executable, "-X", "faulthandler", "-c", path + head + textwrap.dedent(text)], stdout=subprocess.PIPE,
-                          stderr=subprocess.PIPE, timeout=timeout, universal_newlines=True)
+    done = subprocess.run([sys.executable, "-X", "faulthandler", "-c", path + head + textwrap.dedent(text)],
+                          stdout=subprocess.PIPE, stderr=subprocess.PIPE, timeout=timeout, universal_newlines=True)
     return done.stdout, done.stderr, done.returncode
 
 
@@ -86,7 +86,8 @@ class Case(unittest.TestCase):
         plan, (words, times, replies, told, names, values, errors) = cf.Plan(), request._facts()
         many = memoryview(bytes(told)).cast("I")
         ledger = cf.Ledger.of_words(plan, list(memoryview(bytes(words)).cast("Q")), len(names))
-        self.assertEqual((len(bytes(words)), len(bytes(replies)), ledger.stages()), (len(bytes(times)), 6 * len(bytes(words)), len(names)))
+        self.assertEqual((len(bytes(words)), len(bytes(replies)), ledger.stages()),
+                         (len(bytes(times)), 6 * len(bytes(words)), len(names)))
         for place, number, kind, *_ in (many[k:k + 7].tolist() for k in range(0, len(many), 7)):
             outcome = ledger.stage(number).outcome
             self.assertEqual(kind != 0, outcome is not None, number)
@@ -121,7 +122,8 @@ class Interpreters(unittest.TestCase):
                 request.promise().result(0)
             except concurrent.futures.TimeoutError:
                 pass
-            return stage.result(9) == 1 and type(stage) is Stage and isinstance(stage, kept) and failed.cancelled() and "abs" in str(request.history())
+            is_kept = type(stage) is Stage and isinstance(stage, kept)
+            return stage.result(9) == 1 and is_kept and failed.cancelled() and "abs" in str(request.history())
 
         service, kept = Service(2), Stage
         assert is_right()
@@ -229,7 +231,8 @@ service.request().promise().or_timeout(1000)
 
 @unittest.skipUnless(IS_MODULE, "in Python an odd call raises what Python does")
 class Misuse(Case):
-    """Calls that no caller of cf.service makes, and which any Python may: each raises, and what is there stays right."""
+    """Calls that no caller of cf.service makes, and which any Python may: each raises, and what is there stays
+    right."""
 
     def refused(self, *calls, kinds=(TypeError, ValueError, IndexError, RuntimeError, OverflowError)):
         for number, call in enumerate(calls):
@@ -237,11 +240,13 @@ class Misuse(Case):
                 call()
 
     def test_a_request_that_isnt_opened(self):
-        for made in (_core.RequestCore.__new__(_core.RequestCore), Request.__new__(Request), type("Own", (Request,), {"__init__": lambda self: None})()):
+        for made in (_core.RequestCore.__new__(_core.RequestCore), Request.__new__(Request),
+                     type("Own", (Request,), {"__init__": lambda self: None})()):
             stage = self.request.promise()
-            self.refused(lambda: made._attach(0, None, None, None, None, None, "x"), lambda: made._change(COMPLETE, 0, 0, 1),
-                         lambda: made._run(stage, 3), lambda: made._work(3), lambda: made._begin(stage, 3), lambda: made._end(stage, 3, 1, 1),
-                         lambda: made._stage(0), lambda: made._set_running(stage), lambda: made._name_of(0), lambda: made._rename(0, "x"),
+            self.refused(lambda: made._attach(0, None, None, None, None, None, "x"),
+                         lambda: made._change(COMPLETE, 0, 0, 1), lambda: made._run(stage, 3), lambda: made._work(3),
+                         lambda: made._begin(stage, 3), lambda: made._end(stage, 3, 1, 1), lambda: made._stage(0),
+                         lambda: made._set_running(stage), lambda: made._name_of(0), lambda: made._rename(0, "x"),
                          lambda: made._attach(3, stage, None, str, None, None, None))
             self.assertIsNone(made._open())
             self.assertEqual(made._facts()[4], [])
@@ -250,14 +255,16 @@ class Misuse(Case):
         request = _core.RequestCore.__new__(_core.RequestCore)
         plan = _core.PlanCore.__new__(_core.PlanCore)
         self.refused(lambda: request.__init__(None, "", 1, None, plan), lambda: request.__init__(None, "", 1, None, 7),
-                     lambda: request._attach(0, None, None, None, None, None, "x"), lambda: request._work(3), lambda: request._open() or request._stage(0))
+                     lambda: request._attach(0, None, None, None, None, None, "x"), lambda: request._work(3),
+                     lambda: request._open() or request._stage(0))
 
     def test_opened_and_planned_once(self):
         flow = Flow()
         end = flow.promise().then(str)
         request = flow.run(1)
         facts = request._facts()[:3]
-        self.refused(lambda: request.__init__(None, "", 1), lambda: flow._plan.__init__([]), lambda: flow._plan.__init__([(0, (), None, "x")] * 3))
+        self.refused(lambda: request.__init__(None, "", 1), lambda: flow._plan.__init__([]),
+                     lambda: flow._plan.__init__([(0, (), None, "x")] * 3))
         self.assertEqual((request._facts()[:3], request[end].result(0), flow.run(2)[end].result(0)), (facts, "1", "2"))
         self.assertEqual(flow.run()._stage(1).name, "str")
 
@@ -272,21 +279,28 @@ class Misuse(Case):
             rows[1] = row
             del row
             self.assertEqual((len(_core.PlanCore(rows).rows), rows), (50, []))
-        self.refused(lambda: _core.PlanCore([7]), lambda: _core.PlanCore([()]), lambda: _core.PlanCore([(3, (0,), str, "x")]),
-                     lambda: _core.PlanCore([(0, (), None, "x"), (3, (65536,), str, "y")]), lambda: _core.PlanCore([(3, (-1,), str, "y")]),
-                     lambda: _core.PlanCore([(99, (), None, "x")]), lambda: _core.PlanCore([(0, (), None, 7)]), lambda: _core.PlanCore(7))
+        self.refused(lambda: _core.PlanCore([7]), lambda: _core.PlanCore([()]),
+                     lambda: _core.PlanCore([(3, (0,), str, "x")]),
+                     lambda: _core.PlanCore([(0, (), None, "x"), (3, (65536,), str, "y")]),
+                     lambda: _core.PlanCore([(3, (-1,), str, "y")]), lambda: _core.PlanCore([(99, (), None, "x")]),
+                     lambda: _core.PlanCore([(0, (), None, 7)]), lambda: _core.PlanCore(7))
         with self.assertRaises(RequestFull):
             _core.PlanCore([(0, (), None, "x")] * 4097)
 
     def test_numbers_out_of_their_range_reach_no_word(self):
-        """An event of another kind, caller or form than is meant would let the ledger and what stands beside it part."""
+        """An event of another kind, caller or form than is meant would let the ledger and what stands beside it
+        part."""
         r = self.request
         stage = r.promise()
         for bad in (-2, -1, 7, 64, 255, 256, 1 << 16, 1 << 32, 7 << 8, -(1 << 40), 1 << 70):
-            self.refused(lambda: r._change(bad, 0, stage, None) if bad != 7 else r._change(7, 0, 0, None), lambda: r._run(stage, bad) if bad != 7 else 1 / 0,
-                         lambda: r._end(stage, bad, 1, None) if bad != 7 else 1 / 0, lambda: r._end(stage, 3, bad, None), lambda: r._stage(bad),
-                         lambda: _core.be(bad) if bad != 7 else 1 / 0, lambda: r._change(COMPLETE, bad if bad not in (-1, 7) else 99, stage, 1),
-                         lambda: r._attach(bad if bad != 7 else 19, stage, None, str, None, None, None), lambda: r._name_of(bad), lambda: r._rename(bad, "x"),
+            self.refused(lambda: r._change(bad, 0, stage, None) if bad != 7 else r._change(7, 0, 0, None),
+                         lambda: r._run(stage, bad) if bad != 7 else 1 / 0,
+                         lambda: r._end(stage, bad, 1, None) if bad != 7 else 1 / 0,
+                         lambda: r._end(stage, 3, bad, None), lambda: r._stage(bad),
+                         lambda: _core.be(bad) if bad != 7 else 1 / 0,
+                         lambda: r._change(COMPLETE, bad if bad not in (-1, 7) else 99, stage, 1),
+                         lambda: r._attach(bad if bad != 7 else 19, stage, None, str, None, None, None),
+                         lambda: r._name_of(bad), lambda: r._rename(bad, "x"),
                          kinds=(TypeError, ValueError, IndexError, RuntimeError, OverflowError, ZeroDivisionError))
         for kind in (4, 5, 6, 9):
             self.refused(lambda: r._change(kind, 0, stage, None))
@@ -296,16 +310,21 @@ class Misuse(Case):
     def test_arguments_of_other_types(self):
         r, other = self.request, self.service.request().promise()
         stage = r.promise()
-        self.refused(lambda: r._attach(1, None, None, str, 5, None, None), lambda: r._attach(1, None, None, str, None, 5, None),
-                     lambda: r._attach(1, None, None, str, [], {}, None), lambda: r._attach("3", stage, None, str, None, None, None), lambda: r._attach(),
-                     lambda: r._attach(3, other, None, str, None, None, None), lambda: r._attach(3, 7, None, str, None, None, None),
-                     lambda: r._run(other, 3), lambda: r._begin(None, 3), lambda: r._end(stage, 3, 3, other), lambda: r._change(COMPLETE, 0, "x", 1),
-                     lambda: r._set_running(other), lambda: r._work(None), lambda: _core.RequestCore(), lambda: _core.RequestCore(1, 2, 3, 4, 5, 6))
+        self.refused(lambda: r._attach(1, None, None, str, 5, None, None),
+                     lambda: r._attach(1, None, None, str, None, 5, None),
+                     lambda: r._attach(1, None, None, str, [], {}, None),
+                     lambda: r._attach("3", stage, None, str, None, None, None), lambda: r._attach(),
+                     lambda: r._attach(3, other, None, str, None, None, None),
+                     lambda: r._attach(3, 7, None, str, None, None, None), lambda: r._run(other, 3),
+                     lambda: r._begin(None, 3), lambda: r._end(stage, 3, 3, other),
+                     lambda: r._change(COMPLETE, 0, "x", 1), lambda: r._set_running(other), lambda: r._work(None),
+                     lambda: _core.RequestCore(), lambda: _core.RequestCore(1, 2, 3, 4, 5, 6))
         self.fits(r)
 
     def test_classes_in_use(self):
-        self.refused(lambda: _core.use(int, RequestFull, ValueError), lambda: _core.use(Stage, 7, ValueError), lambda: _core.use(Stage, RequestFull, "x"),
-                     lambda: _core.use(object(), object(), object()), lambda: _core.use())
+        self.refused(lambda: _core.use(int, RequestFull, ValueError), lambda: _core.use(Stage, 7, ValueError),
+                     lambda: _core.use(Stage, RequestFull, "x"), lambda: _core.use(object(), object(), object()),
+                     lambda: _core.use())
         self.assertIs(type(self.request.promise()), Stage)
         full = Flow().run()
         with self.assertRaises(RequestFull):
@@ -318,8 +337,10 @@ class Misuse(Case):
             spec = importlib.util.find_spec("cf._cf")
             module = importlib.util.module_from_spec(spec)
             spec.loader.exec_module(module)
-            for call in (lambda: module.StageCore(), lambda: object.__new__(module.StageCore), lambda: type("X", (module.StageCore,), {})(),
-                         lambda: module.RequestCore(None, "", 1)._attach(0, None, None, None, None, None, "x"), lambda: setattr(module.StageCore, "done", 1)):
+            for call in (lambda: module.StageCore(), lambda: object.__new__(module.StageCore),
+                         lambda: type("X", (module.StageCore,), {})(),
+                         lambda: module.RequestCore(None, "", 1)._attach(0, None, None, None, None, None, "x"),
+                         lambda: setattr(module.StageCore, "done", 1)):
                 try:
                     call()
                     print("done")
@@ -335,19 +356,22 @@ class Misuse(Case):
         for each in (stage, self.request, flow._plan):
             for call in (copy.copy, copy.deepcopy, pickle.dumps, lambda it: it.__reduce_ex__(2)):
                 self.refused(lambda: call(each))
-        self.refused(lambda: object.__new__(Stage), lambda: Stage.__new__(Stage), lambda: Stage(), lambda: Stage(self.request, 0),
-                     lambda: setattr(stage, "__class__", concurrent.futures.Future), lambda: setattr(self.request, "__class__", Flow))
+        self.refused(lambda: object.__new__(Stage), lambda: Stage.__new__(Stage), lambda: Stage(),
+                     lambda: Stage(self.request, 0), lambda: setattr(stage, "__class__", concurrent.futures.Future),
+                     lambda: setattr(self.request, "__class__", Flow))
         stage.__class__ = type("Own", (Stage,), {})
         self.request.__class__ = type("Own", (Request,), {"__slots__": ()})
-        self.assertEqual((stage.complete(2), stage.then(str).result(9), self.request.promise().complete(1)), (True, "2", True))
+        self.assertEqual((stage.complete(2), stage.then(str).result(9), self.request.promise().complete(1)),
+                         (True, "2", True))
         self.refused(lambda: Stage.__init__(stage), kinds=AttributeError)
         self.assertEqual((stage.result(0), stage.done()), (2, True))
 
     def test_what_a_stage_lets_be_set(self):
         stage = self.request.promise()
-        self.refused(*[functools.partial(setattr, stage, name, None) for name in
-                       ("request", "number", "_state", "_condition", "_waiters", "_done_callbacks", "_result", "_exception", "_form")],
-                     functools.partial(delattr, stage, "_shown"), functools.partial(delattr, stage, "request"), kinds=(AttributeError, TypeError, SystemError))
+        self.refused(*[functools.partial(setattr, stage, name, None)
+                       for name in ("request", "number", "_state", "_condition", "_waiters", "_done_callbacks",
+                                    "_result", "_exception", "_form")], functools.partial(delattr, stage, "_shown"),
+                     functools.partial(delattr, stage, "request"), kinds=(AttributeError, TypeError, SystemError))
         stage._shown = True
         self.assertFalse(stage.done())
         with self.assertRaises(concurrent.futures.TimeoutError):
@@ -383,7 +407,8 @@ class Reentrant(Case):
                     del held
                     if not inner.done():
                         gc.collect()
-                    self.assertEqual([it._result if kind == COMPLETE else it._exception for it in (outer, inner)], list(given), allocations)
+                    self.assertEqual([it._result if kind == COMPLETE else it._exception for it in (outer, inner)],
+                                     list(given), allocations)
                     self.fits(r)
         finally:
             gc.set_threshold(*known)
@@ -424,7 +449,9 @@ class Reentrant(Case):
                 return 1
         many = Many()
         many.__qualname__ = 17
-        names = [self.request.supply(call).name for call in (Called(), operator.itemgetter(0), functools.partial(self.fits, 1), str.upper, "x".upper, many)]
+        names = [self.request.supply(call).name
+                 for call in (Called(), operator.itemgetter(0), functools.partial(self.fits, 1), str.upper, "x".upper,
+                              many)]
         self.assertEqual(names, ["Called", "itemgetter", "Case.fits", "str.upper", "str.upper", "17"])
 
     def test_callbacks_that_change_what_is_told(self):
@@ -445,7 +472,8 @@ class Reentrant(Case):
         self.fits(r)
 
     def test_what_is_dropped_calls_its_request(self):
-        """What a settled stage lets go of is dropped under no lock: a function, arguments, a callback, and a waiter's future."""
+        """What a settled stage lets go of is dropped under no lock: a function, arguments, a callback, and a
+        waiter's future."""
         r, calls = self.request, []
 
         class Dropped:
@@ -499,7 +527,8 @@ class Telling(Case):
             except BaseException as one:
                 raised = type(one)
             self.assertIs(raised, None if error is ValueError else error)
-            self.assertEqual((sorted(told), relay.result(9), behind.result(9)), ([end.number for end in ends], None, "1"))
+            self.assertEqual((sorted(told), relay.result(9), behind.result(9)),
+                             ([end.number for end in ends], None, "1"))
 
     def test_a_callback_within_a_run_loses_no_stage(self):
         flow, told = Flow(), []
@@ -537,10 +566,12 @@ class Telling(Case):
         ends = [first.then(str) for _ in range(3)]
         with self.assertRaises(KeyboardInterrupt):
             first.complete(1)
-        self.assertEqual((works.taken, str(ends[0].exception(0)), [it.done() for it in ends]), ([1, 2, 3], "nobody", [True, False, False]))
+        self.assertEqual((works.taken, str(ends[0].exception(0)), [it.done() for it in ends]),
+                         ([1, 2, 3], "nobody", [True, False, False]))
 
     def test_waiters_that_raise(self):
-        """One of those who wait raises as it is told, as an interrupt may: the others are told, each once, and who waits for a result wakes."""
+        """One of those who wait raises as it is told, as an interrupt may: the others are told, each once, and who
+        waits for a result wakes."""
         class Waiter:
             def __init__(self, error=None):
                 self.told, self.error = 0, error
@@ -563,17 +594,21 @@ class Telling(Case):
         thread.join(30)
         self.assertEqual((got, [it.told for it in waiters], promise._state), ([5], [1, 1, 1], "FINISHED"))
 
-    @unittest.skipUnless(IS_MODULE, "by ctypes the stack may end between an event and its showing, as within concurrent.futures")
+    @unittest.skipUnless(IS_MODULE,
+                         "by ctypes the stack may end between an event and its showing, as within concurrent.futures")
     def test_at_the_end_of_the_stack(self):
-        """A stage is settled where Python's stack has no room left: who waits for it wakes, and what is behind it runs."""
+        """A stage is settled where Python's stack has no room left: who waits for it wakes, and what is behind it
+        runs."""
         out, err, status = program("""
             import concurrent.futures
             service, told = Service(1), []
             service.submit(abs, 1).result(9)
             promises = [service.request().promise() for _ in range(60)]
             behind = [promise.then(abs) for promise in promises]
-            threads = [threading.Thread(target=lambda it=it: told.append(it.result(20)), daemon=True) for it in promises[::2]]
-            waits = threading.Thread(target=lambda: told.append(len(concurrent.futures.wait(promises, 20).done)), daemon=True)
+            threads = [threading.Thread(target=lambda it=it: told.append(it.result(20)), daemon=True)
+                       for it in promises[::2]]
+            waits = threading.Thread(target=lambda: told.append(len(concurrent.futures.wait(promises, 20).done)),
+                                     daemon=True)
             for thread in (*threads, waits):
                 thread.start()
             while not all(it._condition._waiters for it in promises[::2]) or not all(it._waiters for it in promises):
@@ -601,7 +636,8 @@ class Telling(Case):
 
     @unittest.skipIf(IS_MODULE, "the module has no lock")
     def test_who_is_told_that_a_stage_is_settled_finds_it_so(self):
-        """An event and what it settles are shown under one lock: here the first of two stages is long in being shown."""
+        """An event and what it settles are shown under one lock: here the first of two stages is long in being
+        shown."""
         r, begun, goes_on, told = self.request, threading.Event(), threading.Event(), []
 
         class Slow:
@@ -611,7 +647,8 @@ class Telling(Case):
         first = r.promise()
         second = r.all_of(first)
         first._waiters.append(Slow())
-        threads = [threading.Thread(target=first.complete, args=[1]), threading.Thread(target=lambda: told.append((second.complete(2), second.done())))]
+        threads = [threading.Thread(target=first.complete, args=[1]),
+                   threading.Thread(target=lambda: told.append((second.complete(2), second.done())))]
         threads[0].start()
         self.assertTrue(begun.wait(30))
         threads[1].start()
@@ -654,8 +691,9 @@ class Lifetime(Case):
         super().tearDown()
 
     def test_a_settled_stage_keeps_no_function_arguments_or_callbacks(self):
-        ways = [lambda stage, source: source.complete(1), lambda stage, source: source.fail(OSError()), lambda stage, source: source.cancel(),
-                lambda stage, source: stage.cancel(), lambda stage, source: stage.complete(2), lambda stage, source: stage.or_timeout(0.001)]
+        ways = [lambda stage, source: source.complete(1), lambda stage, source: source.fail(OSError()),
+                lambda stage, source: source.cancel(), lambda stage, source: stage.cancel(),
+                lambda stage, source: stage.complete(2), lambda stage, source: stage.or_timeout(0.001)]
         for number, way in enumerate(ways):
             source, function, callback = self.request.promise(), Thing(), Thing()
             stage = source.then(function)
@@ -765,7 +803,8 @@ class Relays(Case):
     def setUp(self):
         super().setUp()
         self.loop = asyncio.new_event_loop()
-        self.stop = {"a stage": self.service.request("server").promise("stop"), "a future": concurrent.futures.Future(), "of asyncio": self.loop.create_future()}
+        self.stop = {"a stage": self.service.request("server").promise("stop"),
+                     "a future": concurrent.futures.Future(), "of asyncio": self.loop.create_future()}
 
     def tearDown(self):
         self.loop.close()
@@ -823,7 +862,8 @@ class Relays(Case):
                 while any(it() is not None for it in known) and time.monotonic() < until:
                     gc.collect()  # (a thread may still have one for a moment)
                     time.sleep(0.001)
-                self.assertEqual((len([it for it in known if it() is not None]), len(stop._relays)), (0, 0), f"{make.__name__} with {kind}")
+                self.assertEqual((len([it for it in known if it() is not None]), len(stop._relays)), (0, 0),
+                                 f"{make.__name__} with {kind}")
 
     def test_relays_that_are_settled_leave_the_future(self):
         for kind, stop in self.stop.items():
@@ -893,9 +933,11 @@ class Relays(Case):
             self.request.adopt(Mute())
 
     def test_a_relay_ends_as_what_it_stands_for(self):
-        """As timed out, or with a bad answer. Where somebody failed it with an exception of such a class, the relay fails with that."""
+        """As timed out, or with a bad answer. Where somebody failed it with an exception of such a class, the relay
+        fails with that."""
         for error, says, cause in ((TimeoutError("x"), "relay times out 0 relay of p of a\n", "timeout"),
-                                   (cf.BadAnswer("x"), "relay fails 0 relay of p of a with a bad answer\n", "badanswer")):
+                                   (cf.BadAnswer("x"), "relay fails 0 relay of p of a with a bad answer\n",
+                                    "badanswer")):
             stage, b = self.service.request("a").promise("p"), self.service.request("b")
             relays = [b.adopt(stage)]
             self.assertTrue(stage.request._change(FAIL_AS, CLIENT, stage, error))
@@ -970,8 +1012,8 @@ class Relays(Case):
 @unittest.skipUnless(IS_MODULE, "of the module")
 class Memory(unittest.TestCase):
     def test_refused_memory(self):
-        """Each allocation of the module's calls in turn is refused: what raises changed nothing or all, and the request goes on. No code in
-        Python runs meanwhile, which may itself end Python then."""
+        """Each allocation of the module's calls in turn is refused: what raises changed nothing or all, and the
+        request goes on. No code in Python runs meanwhile, which may itself end Python then."""
         try:
             import _testcapi  # noqa: F401
         except ImportError:
@@ -981,19 +1023,25 @@ class Memory(unittest.TestCase):
             flow = Flow()
             flow.promise().then(abs)
             flow.run()
-            works = types.SimpleNamespace(closed=False, put=functools.partial(operator.is_not, None), refusal=functools.partial(RuntimeError, "nobody"))
+            works = types.SimpleNamespace(closed=False, put=functools.partial(operator.is_not, None),
+                                          refusal=functools.partial(RuntimeError, "nobody"))
 
             def trial(n):
                 r, planned = Request(works, "r", 1), Request(works, "p", 0, None, flow._plan)
                 first = r._attach(0, None, None, None, None, None, "first")
                 seen = r._attach(3, first, None, abs, None, None, None)
                 error, row, rows = OSError(), (0, (), None, "x"), [(0, (), None, "x"), (3, (0,), abs, "y")]
-                calls = [lambda: r._attach(0, None, None, None, None, None, "x"), lambda: r._attach(3, first, None, abs, None, None, None),
-                         lambda: r._attach(12, first, None, abs, None, None, None), lambda: r._attach(16, first, first, None, None, None, "x"),
-                         lambda: planned._change(1, -1, 0, -5), lambda: planned._stage(1), lambda: planned._work(3), lambda: planned._stage(1).result(0),
-                         lambda: first.add_done_callback(id), lambda: first._waiters, lambda: r._change(1, -1, first, -5), lambda: r._change(2, -1, 2, error),
-                         lambda: first.exception(0), lambda: first.add_done_callback(id), lambda: r._facts(), lambda: r._run(seen, 3), lambda: seen.result(0),
-                         lambda: _core.PlanCore(rows), lambda: _core.RequestCore(works, "s", 3), lambda: _core.RequestCore(works, "s", 3, None, flow._plan)]
+                calls = [lambda: r._attach(0, None, None, None, None, None, "x"),
+                         lambda: r._attach(3, first, None, abs, None, None, None),
+                         lambda: r._attach(12, first, None, abs, None, None, None),
+                         lambda: r._attach(16, first, first, None, None, None, "x"),
+                         lambda: planned._change(1, -1, 0, -5), lambda: planned._stage(1), lambda: planned._work(3),
+                         lambda: planned._stage(1).result(0), lambda: first.add_done_callback(id),
+                         lambda: first._waiters, lambda: r._change(1, -1, first, -5),
+                         lambda: r._change(2, -1, 2, error), lambda: first.exception(0),
+                         lambda: first.add_done_callback(id), lambda: r._facts(), lambda: r._run(seen, 3),
+                         lambda: seen.result(0), lambda: _core.PlanCore(rows), lambda: _core.RequestCore(works, "s", 3),
+                         lambda: _core.RequestCore(works, "s", 3, None, flow._plan)]
                 refused = 0
                 for call in calls:
                     _testcapi.set_nomemory(n, n + 1)

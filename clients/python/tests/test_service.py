@@ -1,11 +1,12 @@
 #!/usr/bin/env python3
-"""Tests of cf.service: what stages tell, who settles them, what functions, callbacks and coroutines raise, shutdown, forks, bounds, memory.
+"""Tests of cf.service: what stages tell, who settles them, what functions, callbacks and coroutines raise, shutdown,
+forks, bounds, memory.
 
     CF_LIBRARY=/path/to/libcf.so python3 clients/python/tests/test_service.py [-v] [TEST ..]
 
-They are of the package beside this folder, or with CF_INSTALLED=1 of the one that is installed; over the C module where it was built, and
-by ctypes with CF_NO_MODULE=1. CF_REQUESTS is how many requests the tests of memory make (20,000), CF_FORKS how often the test of forks
-does (20).
+They are of the package beside this folder, or with CF_INSTALLED=1 of the one that is installed; over the C module where
+it was built, and by ctypes with CF_NO_MODULE=1. CF_REQUESTS is how many requests the tests of memory make (20,000),
+CF_FORKS how often the test of forks does (20).
 """
 import asyncio
 import concurrent.futures
@@ -35,7 +36,8 @@ HERE = Path(__file__).resolve().parent
 if not os.environ.get("CF_INSTALLED"):
     sys.path.insert(0, str(HERE.parent))
 import cf  # noqa: E402
-from cf.service import Flow, LoopService, Request, RequestFull, Service, Stage, describe_nothing, describe_types, flow as flows  # noqa: E402
+from cf.service import Flow, LoopService, Request, RequestFull, Service, Stage  # noqa: E402
+from cf.service import describe_nothing, describe_types, flow as flows  # noqa: E402
 from cf.service._core import IS_MODULE  # noqa: E402
 from cf.service.words import CLIENT, CLOCK, FAIL_AS  # noqa: E402
 
@@ -99,8 +101,9 @@ def program(text, timeout=60, **environment):
     """What a program of its own prints, whose first lines find the package."""
     head = "" if os.environ.get("CF_INSTALLED") else f"import sys; sys.path.insert(0, {str(HERE.parent)!r})\n"
     head += "import os, threading, time\nfrom cf.service import Service, LoopService\n"
-    done = subprocess.run([sys.executable, "-c", head + textwrap.dedent(text)], stdout=subprocess.PIPE, stderr=subprocess.PIPE, timeout=timeout,
-                          universal_newlines=True, env=dict(os.environ, **environment))
+    done = subprocess.run([sys.executable, "-c", head + textwrap.dedent(text)], stdout=subprocess.PIPE,
+                          stderr=subprocess.PIPE, timeout=timeout, universal_newlines=True,
+                          env=dict(os.environ, **environment))
     return done.stdout, done.stderr, done.returncode
 
 
@@ -141,8 +144,9 @@ class Forms(Case):
         error = failed.exception()
         self.assertIsInstance(error, Oops)
         self.assertEqual([frame.name for frame in traceback.extract_tb(error.__traceback__)], ["fails"])
-        for stage in (failed.then(inc), failed.combine(r.supply(str), lambda a, b: 0), failed.when_done(lambda v, e: 1), r.all_of(failed, failed),
-                      r.first_of(failed, failed), failed.compose(lambda x: x), r.gather(failed)):
+        for stage in (failed.then(inc), failed.combine(r.supply(str), lambda a, b: 0),
+                      failed.when_done(lambda v, e: 1), r.all_of(failed, failed), r.first_of(failed, failed),
+                      failed.compose(lambda x: x), r.gather(failed)):
             self.assertIs(stage.exception(), error)
             with self.assertRaises(Oops):
                 stage.result()
@@ -200,7 +204,8 @@ class Settling(Case):
         self.assertFalse(promise.done())
         self.assertTrue(promise.complete(1))
         self.assertFalse(promise.complete(2) or promise.fail(Oops()) or promise.cancel() or promise.abandon())
-        self.assertEqual((promise.result(), promise.done(), promise.cancelled(), promise.running()), (1, True, False, False))
+        self.assertEqual((promise.result(), promise.done(), promise.cancelled(), promise.running()),
+                         (1, True, False, False))
         with self.assertRaises(InvalidStateError):
             promise.set_result(1)
         with self.assertRaises(InvalidStateError):
@@ -250,7 +255,8 @@ class Settling(Case):
         self.assertIsInstance(behind.exception(20), TimeoutError)
         self.assertFalse(r._change(FAIL_AS, CLOCK, late, TimeoutError()))
         history = r.history()
-        for part in ("clock times out 0 late\n", "0 late ends: timeout\n", "1 inc ends: timeout, passed on\n", "clock times out 0 late, too late"):
+        for part in ("clock times out 0 late\n", "0 late ends: timeout\n", "1 inc ends: timeout, passed on\n",
+                     "clock times out 0 late, too late"):
             self.assertIn(part, str(history))
         script, before = json.loads(history.script()), json.loads(history.script(2))
         self.assertEqual((script["cf"], script["steps"]), (3, before["steps"] + [["failAs", 0, "timeout"]] * 2))
@@ -272,9 +278,10 @@ class Settling(Case):
         """All that stand behind a stage which timed out have its exception, whenever they are told."""
         r, told = self.request, []
         late, slow = r.promise("late"), r.promise("slow")
-        made = [late.then(inc), late.either(slow, inc), r.first_of(slow, late), late.when_done(lambda *_: None), late.combine(slow, max),
-                slow.combine(late, max), r.all_of(slow, late), r.gather(slow, late), r.supply(str).compose(lambda _: late),
-                self.service.request("other").adopt(late), self.service.request("other").supply(str).compose(lambda _: late)]
+        made = [late.then(inc), late.either(slow, inc), r.first_of(slow, late), late.when_done(lambda *_: None),
+                late.combine(slow, max), slow.combine(late, max), r.all_of(slow, late), r.gather(slow, late),
+                r.supply(str).compose(lambda _: late), self.service.request("other").adopt(late),
+                self.service.request("other").supply(str).compose(lambda _: late)]
         calls = [late.recover(told.append), late.handle(lambda _, error: told.append(error)),
                  late.recover_compose(lambda error: [told.append(error), slow][1])]
         error = late.or_timeout(0.01).exception(20)
@@ -299,7 +306,8 @@ class Settling(Case):
         self.assertIs(request[told].result(20), errors[0])
 
     def test_two_timeouts_and_a_stage_that_nobody_runs(self):
-        """What fails as nobody runs it, behind the second that times out, lets a stage have the exception of the first."""
+        """What fails as nobody runs it, behind the second that times out, lets a stage have the exception of the
+        first."""
         r, service = self.request, self.service
         first, second = r.promise(), r.promise()
         both = r.all_of(first, second.recover(str))
@@ -310,7 +318,8 @@ class Settling(Case):
         self.assertIs(both.exception(20), errors[0])
 
     def test_limits_of_any_size(self):
-        """An endless limit never fires, one that is over fires at once, one that is none is refused; and the clock goes on."""
+        """An endless limit never fires, one that is over fires at once, one that is none is refused; and the clock
+        goes on."""
         r = self.request
         for seconds in (math.inf, 1e10, 1e300, threading.TIMEOUT_MAX, 10**20):
             promise = r.promise().or_timeout(seconds)
@@ -355,7 +364,8 @@ class Settling(Case):
 
         class Last:
             def __del__(it):
-                asks = threading.Thread(target=lambda: told.append(self.request.promise().complete_on_timeout(1, 0.01).result(20)))
+                promise = self.request.promise
+                asks = threading.Thread(target=lambda: told.append(promise().complete_on_timeout(1, 0.01).result(20)))
                 asks.start()
                 asks.join(5)
                 told.append(asks.is_alive())
@@ -495,7 +505,8 @@ class Raising(Case):
     def test_callbacks_may_call_their_request(self):
         r, told = self.request, []
         promise = r.promise()
-        promise.add_done_callback(lambda done: told.append((r.promise().complete(1), len(r.history().entries()), done.then(inc).result(5))))
+        promise.add_done_callback(lambda done: told.append((r.promise().complete(1), len(r.history().entries()),
+                                                            done.then(inc).result(5))))
         promise.complete(3)
         self.assertEqual(told[0][2], 4)
 
@@ -516,7 +527,8 @@ class Raising(Case):
     def test_interrupt_of_who_waits(self):
         out, err, status = program("""
             import signal
-            signal.signal(signal.SIGINT, signal.default_int_handler)  # (where this was begun in the background, it is ignored)
+            # (where this was begun in the background, it is ignored)
+            signal.signal(signal.SIGINT, signal.default_int_handler)
             with Service(2) as service:
                 promise = service.request().promise()
                 behind = promise.then(lambda x: x + 1)
@@ -530,9 +542,11 @@ class Raising(Case):
         """)
         self.assertEqual((out, status), ("interrupted False\n2\n", 0), err)
 
-    @unittest.skipUnless(IS_MODULE, "by ctypes an interrupt may come between an event and its showing, as within concurrent.futures")
+    @unittest.skipUnless(IS_MODULE, "by ctypes an interrupt may come between an event and its showing, as within "
+                                    "concurrent.futures")
     def test_interrupts_lose_nothing(self):
-        """The main thread is interrupted at any point while it attaches and completes; each stage that it was given is settled."""
+        """The main thread is interrupted at any point while it attaches and completes; each stage that it was given
+        is settled."""
         out, err, status = program("""
             import random, signal
             seen, lost = 0, 0
@@ -580,7 +594,8 @@ class Threads(unittest.TestCase):
             self.assertEqual(len(service._works.threads), 1)
 
     def test_each_ready_stage_has_a_thread(self):
-        """Stages that wait for each other become ready at once, while one thread is idle, and all of a full pool are."""
+        """Stages that wait for each other become ready at once, while one thread is idle, and all of a full pool
+        are."""
         with Service(3) as service:
             service.submit(str).result(20)
             self.idle(service, 1)
@@ -598,7 +613,8 @@ class Threads(unittest.TestCase):
                     self.assertIn("can't start new thread", str(service.submit(str).exception(20)))
                     self.assertIsInstance(service.submit(str).exception(20), RuntimeError)
                 r, gate = service.request(), threading.Barrier(threads)
-                self.assertEqual(len([end.result(20) for end in [r.supply(gate.wait, 20) for _ in range(threads)]]), threads)
+                self.assertEqual(len([end.result(20) for end in [r.supply(gate.wait, 20) for _ in range(threads)]]),
+                                 threads)
 
     def test_a_start_of_the_clock_that_fails_is_tried_again(self):
         with Service(1) as service:
@@ -659,8 +675,9 @@ class Kept(Case):
         def behind(source):
             return lambda call, first, other: source.then(call)
         source = r.promise()
-        cases = [(supplied, Stage.cancel), (supplied, lambda stage: stage.complete(1)), (supplied, lambda stage: stage.fail(Oops())),
-                 (supplied, lambda _: goes_on.set()), (supplied, lambda _: None), (behind(source), Stage.cancel),
+        cases = [(supplied, Stage.cancel), (supplied, lambda stage: stage.complete(1)),
+                 (supplied, lambda stage: stage.fail(Oops())), (supplied, lambda _: goes_on.set()),
+                 (supplied, lambda _: None), (behind(source), Stage.cancel),
                  (behind(source), lambda _: source.cancel()), (behind(r.supply(str)), lambda _: None)]
         held = []
         for attach, settle in cases:
@@ -800,12 +817,13 @@ class Loops(unittest.TestCase):
     def test_names_of_functions(self):
         async def main():
             r = LoopService(asyncio.get_running_loop()).request()
-            self.assertEqual([r.supply(inc).name, r.supply(flows.functools.partial(inc, 1)).name, r.supply(Thing()).name, r.promise().then(inc).name],
-                             ["inc", "inc", "Thing", "inc"])
+            self.assertEqual([r.supply(inc).name, r.supply(flows.functools.partial(inc, 1)).name,
+                              r.supply(Thing()).name, r.promise().then(inc).name], ["inc", "inc", "Thing", "inc"])
         asyncio.run(main())
 
     def test_interrupts_and_exits_leave_the_loop(self):
-        """As those of asyncio's tasks do. The stage has it, and what is behind it is run all the same, once the loop goes on."""
+        """As those of asyncio's tasks do. The stage has it, and what is behind it is run all the same, once the loop
+        goes on."""
         for kind in (KeyboardInterrupt, SystemExit):
             async def later():
                 await asyncio.sleep(0)
@@ -885,7 +903,8 @@ class Flows(Case):
         flow, number, doubled, total, more = self.flow()
         requests = [self.service.start(flow, k) for k in range(200)]
         for k, request in enumerate(requests):
-            self.assertEqual((request[number].result(), request[total].result(5), request[more].result(5)), (k, 2 * k + 5, 2 * k + 6))
+            self.assertEqual((request[number].result(), request[total].result(5), request[more].result(5)),
+                             (k, 2 * k + 5, 2 * k + 6))
         self.assertEqual(request[total].name, "total")
         self.assertEqual(request[total].then(inc).result(), 2 * 199 + 6)
         self.assertIn("total", str(request.history()))
@@ -897,7 +916,8 @@ class Flows(Case):
         saved, all_, first = failed.recover(str), flow.all_of(start, failed, start), flow.first_of(start, failed)
         both = flow.gather(start, saved, first)
         request = flow.run(1)
-        self.assertEqual((request[saved].result(0), request[first].result(0), request[both].result(0)), ("x", 1, [1, "x", 1]))
+        self.assertEqual((request[saved].result(0), request[first].result(0), request[both].result(0)),
+                         ("x", 1, [1, "x", 1]))
         self.assertIsInstance(request[all_].exception(0), Oops)
         self.assertFalse(flow.run()[start].done())
 
@@ -982,7 +1002,8 @@ class Flows(Case):
             flow = Flow()
             end = flow.promise().then(load).then(load)
             service = LoopService(asyncio.get_running_loop())
-            self.assertEqual(await asyncio.gather(*[service.start(flow, k)[end] for k in range(50)]), list(range(2, 52)))
+            self.assertEqual(await asyncio.gather(*[service.start(flow, k)[end] for k in range(50)]),
+                             list(range(2, 52)))
         asyncio.run(main())
 
 
@@ -994,13 +1015,14 @@ class Bounds(Case):
         for _ in range(4094):
             last = last.then(inc)
         before = len(r.history().words)
-        for attach in (lambda: first.compose(r.supply), lambda: r.all_of(*[first] * 4), lambda: first.combine(concurrent.futures.Future(), inc),
-                       lambda: r.gather(first, first, first)):
+        for attach in (lambda: first.compose(r.supply), lambda: r.all_of(*[first] * 4),
+                       lambda: first.combine(concurrent.futures.Future(), inc), lambda: r.gather(first, first, first)):
             with self.assertRaises(RequestFull):
                 attach()
         self.assertEqual(len(r.history().words), before)
         r.promise()
-        for attach in (r.promise, lambda: r.supply(str), lambda: first.then(inc), lambda: r.adopt(concurrent.futures.Future())):
+        for attach in (r.promise, lambda: r.supply(str), lambda: first.then(inc),
+                       lambda: r.adopt(concurrent.futures.Future())):
             with self.assertRaises(RequestFull):
                 attach()
         history = r.history()
@@ -1029,12 +1051,14 @@ class Bounds(Case):
     def test_100_threads(self):
         with Service(100) as service:
             request, gate = service.request(), threading.Barrier(100)
-            self.assertEqual(len(set(request.gather(*[request.supply(gate.wait, 20) for _ in range(100)]).result(30))), 100)
+            self.assertEqual(len(set(request.gather(*[request.supply(gate.wait, 20) for _ in range(100)]).result(30))),
+                             100)
             self.assertIn("worker 60 claims", str(request.history()))
 
     def test_misuse(self):
         other = self.service.request().promise()
-        for call in (lambda: Stage(), lambda: self.request._attach(3, other, None, str, None, None, None), lambda: pickle.dumps(self.request)):
+        for call in (lambda: Stage(), lambda: self.request._attach(3, other, None, str, None, None, None),
+                     lambda: pickle.dumps(self.request)):
             with self.assertRaises(TypeError):
                 call()
         self.assertIs(self.request.adopt(stage := self.request.promise()), stage)
@@ -1048,9 +1072,11 @@ class Histories(Case):
         total.exception()
         self.service.shutdown()
         text = str(r.history())
-        for part in ("order 17: 6 events, 2 stages", "caller attaches 0 price, supply", "caller attaches 1 total, apply behind 0 price",
-                     "worker 0 claims 0 price and is granted", "worker 0 finishes 0 price, which gave 49", "0 price ends: 49",
-                     "worker 0 claims 1 total and is granted, with 49", "finishes 1 total, which raised Oops('x')", "1 total ends: Oops('x')"):
+        for part in ("order 17: 6 events, 2 stages", "caller attaches 0 price, supply",
+                     "caller attaches 1 total, apply behind 0 price", "worker 0 claims 0 price and is granted",
+                     "worker 0 finishes 0 price, which gave 49", "0 price ends: 49",
+                     "worker 0 claims 1 total and is granted, with 49", "finishes 1 total, which raised Oops('x')",
+                     "1 total ends: Oops('x')"):
             self.assertIn(part, text)
         self.assertNotIn("\n", r.history().line())
         self.assertEqual(self.service.submit.__name__, "submit")
@@ -1062,9 +1088,10 @@ class Histories(Case):
         self.request.promise().complete(Mute())
         self.assertIn("a Mute", str(self.request.history()))
 
-    FORGED = "x\r\n    9.999 ms  caller completes 0 paid\t\x1b[2J\b\u2028\u2029\u202e\u200b\ud800\U000e0041\x85; 0 paid ends: 1\\n   y"
-    ESCAPED = (r"x\r\n    9.999 ms  caller completes 0 paid\t\u001b[2J\u0008\u2028\u2029\u202e\u200b\ud800\udb40\udc41\u0085; 0 paid "
-               r"ends: 1\n   y")
+    FORGED = ("x\r\n    9.999 ms  caller completes 0 paid\t\x1b[2J\b\u2028\u2029\u202e\u200b\ud800\U000e0041\x85; "
+              "0 paid ends: 1\\n   y")
+    ESCAPED = (r"x\r\n    9.999 ms  caller completes 0 paid\t"
+               r"\u001b[2J\u0008\u2028\u2029\u202e\u200b\ud800\udb40\udc41\u0085; 0 paid ends: 1\n   y")
 
     def test_texts_forge_no_lines(self):
         class Forged:
@@ -1125,21 +1152,28 @@ class Histories(Case):
             request = service.start(flow, secret, **given)
             return request, request[flows.Step(flow, 0)], request[end]
         with Service(2, describe=describe_types) as typed:
-            cases = [(new(typed), ("str of 23", "list of 2", "Oops", "NoneType")), (begun(typed), ("str of 23", "list of 2", "Oops", "NoneType")),
-                     (new(typed, describe=describe_nothing), ("-", "-", "-", "-")), (new(typed, describe=raises), ("?", "?", "?", "?")),
-                     (new(typed, describe=lambda value: 7), ("?", "?", "?", "?")), (begun(typed, describe=describe_nothing), ("-", "-", "-", "-")),
-                     (new(self.service, describe=lambda value: f"<{type(value).__name__}\n>"), ("<str\\n>", "<list\\n>", "<Oops\\n>", "<NoneType\\n>"))]
+            cases = [(new(typed), ("str of 23", "list of 2", "Oops", "NoneType")),
+                     (begun(typed), ("str of 23", "list of 2", "Oops", "NoneType")),
+                     (new(typed, describe=describe_nothing), ("-", "-", "-", "-")),
+                     (new(typed, describe=raises), ("?", "?", "?", "?")),
+                     (new(typed, describe=lambda value: 7), ("?", "?", "?", "?")),
+                     (begun(typed, describe=describe_nothing), ("-", "-", "-", "-")),
+                     (new(self.service, describe=lambda value: f"<{type(value).__name__}\n>"),
+                      ("<str\\n>", "<list\\n>", "<Oops\\n>", "<NoneType\\n>"))]
             request = flow.run(secret, describe=describe_types)
-            cases.append(((request, request[flows.Step(flow, 0)], request[end]), ("str of 23", "list of 2", "Oops", "NoneType")))
+            cases.append(((request, request[flows.Step(flow, 0)], request[end]),
+                          ("str of 23", "list of 2", "Oops", "NoneType")))
             for case, told in cases:
                 texts, history = of(*case)
                 self.assertNotIn("0123456789", "".join(texts))
-                for text in (f"caller completes 0 token with {told[0]}", f"which gave {told[1]}", f"with {told[2]}", f"nothing with {told[3]}"):
+                for text in (f"caller completes 0 token with {told[0]}", f"which gave {told[1]}", f"with {told[2]}",
+                             f"nothing with {told[3]}"):
                     self.assertIn(text, texts[0])
                 self.assertEqual((history.values, history.errors), (texts[2:4], texts[4:]))
             stage = typed.submit(lambda: secret)
             stage.result(20)
-            self.assertTrue(until(lambda: "0 Histories.test_what_is_told_of_values.<locals>.<lambda> ends: str of 23" in str(stage.request.history())))
+            said = "0 Histories.test_what_is_told_of_values.<locals>.<lambda> ends: str of 23"
+            self.assertTrue(until(lambda: said in str(stage.request.history())))
         texts, history = of(*new(self.service))
         self.assertIn(secret, texts[0])
         self.assertEqual(history.values[0], secret)
@@ -1182,7 +1216,8 @@ class Ending(unittest.TestCase):
         stages = [r.supply(time.sleep, 0.01).then(done.append) for _ in range(20)]
         service.shutdown()
         self.assertEqual((len(done), all(stage.done() for stage in stages)), (20, True))
-        for attach in (lambda: service.submit(str), lambda: r.supply(str), lambda: stages[0].then(str), lambda: stages[0].compose(str)):
+        for attach in (lambda: service.submit(str), lambda: r.supply(str), lambda: stages[0].then(str),
+                       lambda: stages[0].compose(str)):
             with self.assertRaises(RuntimeError):
                 attach()
 
@@ -1379,9 +1414,10 @@ class Ending(unittest.TestCase):
             r = service.request()
             promise = r.promise()
             promise.then(print)
-            r.supply(time.sleep, 0.2).then(lambda _: print("done", flush=True)).then(lambda _: print("and behind", flush=True))
+            done = r.supply(time.sleep, 0.2).then(lambda _: print("done", flush=True))
+            done.then(lambda _: print("and behind", flush=True))
             r.promise().or_timeout(100)
-            service = r = None
+            service = r = done = None
         """)
         self.assertEqual((out, err, status), ("done\nand behind\n", "", 0))
 
@@ -1418,7 +1454,8 @@ class Ending(unittest.TestCase):
 
     @unittest.skipUnless(hasattr(os, "fork"), "no fork")
     def test_forks_under_load(self):
-        """Children go on with requests that the parent's threads were changing, waiting for and reading as it forked."""
+        """Children go on with requests that the parent's threads were changing, waiting for and reading as it
+        forked."""
         out, err, status = program("""
             import concurrent.futures, random, signal
             from cf.service import RequestFull
@@ -1436,7 +1473,8 @@ class Ending(unittest.TestCase):
                         both = request.all_of(*behind)
                         promise.add_done_callback(lambda _: request.promise())
                         time.sleep(rng / 1000)
-                        (promise.complete if rng < 0.6 else promise.fail if rng < 0.8 else promise.or_timeout)(0.001 if rng >= 0.8 else KeyError())
+                        settles = promise.complete if rng < 0.6 else promise.fail if rng < 0.8 else promise.or_timeout
+                        settles(0.001 if rng >= 0.8 else KeyError())
                         both.add_done_callback(lambda _: None)
                     except RequestFull:
                         known[k] = service.request(room=64)
@@ -1480,7 +1518,8 @@ class Ending(unittest.TestCase):
                     assert history.report().count("\\n") == len(history.words) + len(history.names)
                 assert service.submit(os.getpid).result(10) == os.getpid()
 
-            threads = [threading.Thread(target=each, args=[k], daemon=True) for k in range(6) for each in (change, wait_for)]
+            threads = [threading.Thread(target=each, args=[k], daemon=True)
+                       for k in range(6) for each in (change, wait_for)]
             for thread in threads:
                 thread.start()
             ends = []
@@ -1598,7 +1637,8 @@ class Ending(unittest.TestCase):
         try:
             with Service(1) as service:
                 r, thing = service.request(), Thing()
-                stage = r.supply(lambda it: it, thing).then(lambda it: it).compose(lambda it: r.supply(str)).recover(str)
+                stage = r.supply(lambda it: it,
+                                 thing).then(lambda it: it).compose(lambda it: r.supply(str)).recover(str)
                 known = weakref.ref(thing)
                 del thing
                 stage.result(5)
@@ -1613,7 +1653,8 @@ class Else(unittest.TestCase):
     def test_a_library_that_is_missing(self):
         out, err, status = program("", CF_LIBRARY="/nowhere/libcf.so")
         self.assertEqual(status, 1)
-        for part in ("OSError: cf needs its library for C, libcf.so", "CF_LIBRARY says, which is /nowhere/libcf.so", "cf._cf", "docs/C.md"):
+        for part in ("OSError: cf needs its library for C, libcf.so", "CF_LIBRARY says, which is /nowhere/libcf.so",
+                     "cf._cf", "docs/C.md"):
             self.assertIn(part, err)
 
     def test_workers_of_a_desk_outlive_functions(self):
@@ -1627,12 +1668,14 @@ class Else(unittest.TestCase):
         with cf.Workers(desk.callers[1:], functions, code=3) as workers:
             self.assertTrue(until(lambda: desk.callers[0].read(stages[3]) is not None))
         self.assertEqual([(number, type(error)) for number, error in workers.errors], [(0, SystemExit), (2, Oops)])
-        self.assertEqual([str(desk.callers[0].read(stage).fault) for stage in stages[:3]], ["thrown 3", "thrown 7", "thrown 3"])
+        self.assertEqual([str(desk.callers[0].read(stage).fault) for stage in stages[:3]],
+                         ["thrown 3", "thrown 7", "thrown 3"])
 
     def test_workers_of_which_one_does_not_start(self):
         plan = cf.Plan()
         plan.stage(cf.Form.SOURCE)
-        workers, begun, real = cf.Workers(plan.open_desk(callers=3, log=4, calls=4).callers[1:], []), [], threading.Thread.start
+        workers, begun, real = cf.Workers(plan.open_desk(callers=3, log=4, calls=4).callers[1:],
+                                          []), [], threading.Thread.start
 
         def start(thread):
             if begun:
@@ -1676,7 +1719,8 @@ class Memory(unittest.TestCase):
             r = self.service.request()
             number = r.supply(int, "1").or_timeout(1000)
             r.promise().then(inc), r.promise().cancel()
-            number.then(fails).recover(str).combine(number, lambda a, b: [a, b]).compose(lambda x: r.supply(list, x)).result()
+            number.then(fails).recover(str).combine(number,
+                                                    lambda a, b: [a, b]).compose(lambda x: r.supply(list, x)).result()
             r.gather(number, number).result()
         self.flat(make)
 

@@ -1,10 +1,10 @@
 #!/usr/bin/env python3
-"""Tests of cf.shared: rows, desks, durable services, workers, what a dead worker means, bad rows, the command.
+"""Tests of cf.shared: rows, views, durable services, workers, what a dead worker means, bad rows, the command.
 
     CF_LIBRARY=/path/to/libcf.so python3 clients/python/tests/test_shared.py [-v] [TEST ..]
 
-They are over SQLite in a temporary folder. With CF_STORES="postgresql://.. etcd://.." those of rows and services are over these, too, which
-have to be empty.
+They are over SQLite in a temporary folder. With CF_STORES="postgresql://.. etcd://.." those of rows and services are
+over these, too, which have to be empty.
 """
 import asyncio
 import contextlib
@@ -31,14 +31,14 @@ if not os.environ.get("CF_INSTALLED"):
 import shared_functions as f  # noqa: E402
 from cf import BadAnswer, requests, run_script  # noqa: E402
 from cf.service import Flow, RequestFull, Service, describe_nothing, describe_types  # noqa: E402
-from cf.service.words import BAD_ANSWER, FAIL_AS, TIMED_OUT, VALUE  # noqa: E402
-from cf.shared import (Abandoned, Broken, Desk, DurableService, Functions, Grouped, Json, Memory, Put, RemoteError, StoreError, Timer,  # noqa: E402
-                       Unknown, connect, new_session)
-from cf.shared import Watcher  # noqa: E402
+from cf.service.words import ATTACH, BAD_ANSWER, CANCEL, CLAIM, COMPLETE, FAIL, FAIL_AS, FINISH  # noqa: E402
+from cf.service.words import TIMED_OUT, VALUE  # noqa: E402
+from cf.shared import Abandoned, Broken, DurableService, Functions, Grouped, Json, Memory, Put  # noqa: E402
+from cf.shared import RemoteError, RowView, StoreError, Timer, Unknown, Watcher, connect, new_session  # noqa: E402
 from cf.shared import service as shared_service  # noqa: E402
 from cf.shared import sqlite as shared_sqlite  # noqa: E402
 from cf.shared.plans import text_of  # noqa: E402
-from cf.shared.request import Request  # noqa: E402
+from cf.shared.request import DurableRequest  # noqa: E402
 
 STORES = os.environ.get("CF_STORES", "").split()
 EMPTY = text_of(None, Functions())
@@ -70,8 +70,8 @@ class Case(unittest.TestCase):
     def worker(self, address=None, lease=None):
         head = "import sys; sys.path[:0] = %r; from cf import worker; sys.exit(worker.main(sys.argv[1:]))"
         paths = [str(HERE)] + ([] if os.environ.get("CF_INSTALLED") else [str(HERE.parent)])
-        process = subprocess.Popen([sys.executable, "-c", head % paths, "--store", address or self.address, "--lease", str(lease or self.lease),
-                                    "shared_functions"], stderr=subprocess.PIPE)
+        process = subprocess.Popen([sys.executable, "-c", head % paths, "--store", address or self.address, "--lease",
+                                    str(lease or self.lease), "shared_functions"], stderr=subprocess.PIPE)
         self.processes.append(process)
         return process
 
@@ -88,7 +88,8 @@ class Rows(Case):
         for address in ["memory://", self.address, self.address + "2", *STORES]:
             store = connect(address)
             made = Grouped(store) if address[-1] == "2" else store
-            made.again = (lambda made=made: made) if address == "memory://" else lambda address=address: connect(address)
+            made.again = ((lambda made=made: made) if address == "memory://" else
+                          (lambda address=address: connect(address)))
             yield made
 
     def test_appends(self):
@@ -102,13 +103,17 @@ class Rows(Case):
                 self.assertIsNone(store.append(Put(name, 0, [(1, 11)], {1: b"one"})))
                 self.assertEqual(store.append(Put(name, 0, [(2, 12)], {})), [(1, 11)])
                 self.assertIsNone(store.append(Put(name, 1, [(3, 13), (4, 14)], {2: b"x" * 5000})))
-                self.assertEqual(store.append(Put(name, 1, [(5, 15), (6, 16), (7, 17)], {2: b"lost"})), [(3, 13), (4, 14)])
-                self.assertEqual((store.read(name), store.read(name, 2), store.read(name, 9)), ([(1, 11), (3, 13), (4, 14)], [(4, 14)], []))
+                self.assertEqual(store.append(Put(name, 1, [(5, 15), (6, 16), (7, 17)], {2: b"lost"})),
+                                 [(3, 13), (4, 14)])
+                self.assertEqual((store.read(name), store.read(name, 2), store.read(name, 9)),
+                                 ([(1, 11), (3, 13), (4, 14)], [(4, 14)], []))
                 self.assertEqual(store.payloads(name, [1, 2, 3, 9]), {1: b"one", 2: b"x" * 5000})
                 told = store.append_groups([Put(other, 0, [(8, 18)], {}), Put(name, 1, [(9, 19)], {}), ])
                 self.assertEqual(told, [None, [(3, 13), (4, 14)]])
-                self.assertEqual({key: value for key, value in store.ends().items() if key.startswith(name)}, {name: 3, other: 1})
-                self.assertEqual({key: value for key, value in store.news(None)[0].items() if key.startswith(name)}, {name: 3, other: 1})
+                self.assertEqual({key: value for key, value in store.ends().items() if key.startswith(name)},
+                                 {name: 3, other: 1})
+                self.assertEqual({key: value for key, value in store.news(None)[0].items() if key.startswith(name)},
+                                 {name: 3, other: 1})
                 store.end(name, 2)
                 self.assertIn(name, store.ends())
                 store.end(name, 3)
@@ -128,7 +133,9 @@ class Rows(Case):
                 for name in names[:3]:
                     store.open(name, "plan")
                 store.append(Put(names[0], 0, [(1, 1)], {}))
-                mine = lambda told: {name: many for name, many in told.items() if name.startswith(self.name)}  # noqa: E731
+
+                def mine(told):
+                    return {name: many for name, many in told.items() if name.startswith(self.name)}
                 told, mark = store.news(None)
                 self.assertEqual(mine(told), {names[0]: 1, names[1]: 0, names[2]: 0})
                 told, mark = store.news(mark)
@@ -148,7 +155,8 @@ class Rows(Case):
                 store.close()
 
     def test_forgotten_beats(self):
-        """A session that ends drops its beat, and one that is long gone is forgotten by others; one that comes back beats anew."""
+        """A session that ends drops its beat, and one that is long gone is forgotten by others; one that comes back
+        beats anew."""
         for store in self.stores():
             with self.subTest(type(store).__name__):
                 gone, there = new_session(), new_session()
@@ -206,7 +214,8 @@ class Rows(Case):
         self.assertLess(time.monotonic() - begun, 20)
 
     def test_dropped(self):
-        """A request that goes on isn't dropped; a put to one that was dropped is told so, also where another of its name was opened."""
+        """A request that goes on isn't dropped; a put to one that was dropped is told so, also where another of its
+        name was opened."""
         for store in self.stores():
             with self.subTest(type(store).__name__):
                 name = self.name
@@ -238,7 +247,8 @@ class Rows(Case):
                 store.close()
 
     def test_a_later_request_of_the_name(self):
-        """Who has the number of one that was dropped reads, closes and times nothing of the one that has its name now."""
+        """Who has the number of one that was dropped reads, closes and times nothing of the one that has its name
+        now."""
         for store in self.stores():
             with self.subTest(type(store).__name__):
                 name = self.name
@@ -247,8 +257,9 @@ class Rows(Case):
                 self.assertTrue(store.again().drop(name))
                 number = store.again().open(name, "plan").number
                 store.again().append(Put(name, 0, [(2, 12)], {1: b"new"}, number))
-                calls = [lambda: store.read(name, 0, old), lambda: store.read(name, 1, old), lambda: store.payloads(name, [1], old),
-                         lambda: store.end(name, 1, old), lambda: store.set_timer(Timer(name, 0, 0.0, b"N", old)), lambda: store.reopen(name, old)]
+                calls = [lambda: store.read(name, 0, old), lambda: store.read(name, 1, old),
+                         lambda: store.payloads(name, [1], old), lambda: store.end(name, 1, old),
+                         lambda: store.set_timer(Timer(name, 0, 0.0, b"N", old)), lambda: store.reopen(name, old)]
                 for call in calls:
                     with self.assertRaises(Broken) as told:
                         call()
@@ -258,7 +269,8 @@ class Rows(Case):
                 self.assertEqual(store.read(name, 1, number), [])
                 self.assertIn(name, store.ends())
                 store.set_timer(Timer(name, 3, 1.0, b"N", number))
-                self.assertEqual([it for it in store.due(2.0) if it.request == name], [Timer(name, 3, 1.0, b"N", number)])
+                self.assertEqual([it for it in store.due(2.0) if it.request == name],
+                                 [Timer(name, 3, 1.0, b"N", number)])
                 store.drop_timer(name, 3, number)
                 self.assertEqual([it for it in store.due(2.0) if it.request == name], [])
                 store.end(name, 1, number)
@@ -334,8 +346,8 @@ class Rows(Case):
     def test_what_a_server_of_postgresql_says(self):
         """One that can only be read for now is away; what it refuses for good is told as such, also at a commit."""
         from cf.shared import postgres
-        said = {"ReadOnlySqlTransaction": Unknown, "AdminShutdown": Unknown, "UniqueViolation": StoreError, "DataError": StoreError,
-                "ProgramLimitExceeded": StoreError, "InFailedSqlTransaction": StoreError}
+        said = {"ReadOnlySqlTransaction": Unknown, "AdminShutdown": Unknown, "UniqueViolation": StoreError,
+                "DataError": StoreError, "ProgramLimitExceeded": StoreError, "InFailedSqlTransaction": StoreError}
         for name, kind in said.items():
             with self.assertRaises(kind), postgres.Postgres._telling(None):
                 raise getattr(postgres.errors, name, getattr(postgres.psycopg2, name, None))("why")
@@ -343,10 +355,13 @@ class Rows(Case):
     def test_a_notice_that_cant_be_sent(self):
         """It is sent later, whatever was in its way: no thread, or a server that is refused for now."""
         absent = {it: unittest.mock.MagicMock() for it in ("psycopg2", "psycopg2.errors")}
-        with unittest.mock.patch.dict(sys.modules, absent) if importlib.util.find_spec("psycopg2") is None else contextlib.nullcontext():
+        is_absent = importlib.util.find_spec("psycopg2") is None
+        with unittest.mock.patch.dict(sys.modules, absent) if is_absent else contextlib.nullcontext():
             from cf.shared import postgres
-        store, sent, left = postgres.Postgres.__new__(postgres.Postgres), threading.Event(), [StoreError("refused"), ValueError("odd"), Unknown("away")]
-        store._changes, store._notifier, store._lock, store._is_closed = threading.Event(), None, threading.Lock(), False
+        store, sent = postgres.Postgres.__new__(postgres.Postgres), threading.Event()
+        left = [StoreError("refused"), ValueError("odd"), Unknown("away")]
+        store._changes, store._notifier = threading.Event(), None
+        store._lock, store._is_closed = threading.Lock(), False
         db = unittest.mock.MagicMock(closed=0)
         db.cursor().__enter__().execute = lambda *_: sent.set()
 
@@ -365,7 +380,8 @@ class Rows(Case):
         store._notifier.join(20)
 
     def test_who_reopens_while_others_close(self):
-        """Others put a word and close it between two calls of etcd's: it can be closed again, by the count of its words."""
+        """Others put a word and close it between two calls of etcd's: it can be closed again, by the count of its
+        words."""
         for store in [it for it in self.stores() if hasattr(it, "_txn")]:
             other, real = store.again(), store._txn
             number = store.open(self.name, "plan").number
@@ -466,7 +482,8 @@ class Rows(Case):
         """One writer puts them one after the other, since both are for one place: each is told what came of its own."""
         store, told = Grouped(connect(self.address)), {}
         store.open("r", "plan")
-        threads = [threading.Thread(target=lambda k=k: told.update({k: store.append(Put("r", 0, [(k, k)], {}))}), daemon=True) for k in (1, 2, 3)]
+        threads = [threading.Thread(target=lambda k=k: told.update({k: store.append(Put("r", 0, [(k, k)], {}))}),
+                                    daemon=True) for k in (1, 2, 3)]
         with store._change:  # so that all wait for one commit
             for thread in threads:
                 thread.start()
@@ -483,8 +500,11 @@ class Rows(Case):
                 with self.assertRaises((Unknown, StoreError)) as told:
                     connect(address)
                 self.assertNotIn("secret", str(told.exception))
-                done = subprocess.run([sys.executable, "-m", "cf.requests", "--store", address, "list"], stderr=subprocess.PIPE, timeout=60,
-                                      env=dict(os.environ, PYTHONPATH=os.pathsep.join([str(HERE.parent), os.environ.get("PYTHONPATH", "")])))
+                done = subprocess.run([sys.executable, "-m", "cf.requests", "--store", address, "list"],
+                                      stderr=subprocess.PIPE, timeout=60,
+                                      env=dict(os.environ,
+                                               PYTHONPATH=os.pathsep.join([str(HERE.parent),
+                                                                           os.environ.get("PYTHONPATH", "")])))
                 self.assertEqual(done.returncode, 2, done.stderr)
                 self.assertTrue(done.stderr.startswith(b"cf.requests: "), done.stderr)
 
@@ -530,28 +550,31 @@ class Silent(Memory):
         raise Unknown("cut")
 
 
-class Desks(Case):
-    def desk(self, store, session=None):
-        return Desk(store, store.open("r", json.dumps({"cf": 3, "flow": "", "stages": [{"form": "supply", "name": "s", "fn": "inc", "version": 1}]})),
-                    session or new_session())
+class Views(Case):
+    def view(self, store, session=None):
+        return RowView(store,
+                       store.open("r",
+                                  json.dumps({"cf": 3, "flow": "",
+                                              "stages": [{"form": "supply", "name": "s", "fn": "inc", "version": 1}]})),
+                       session or new_session())
 
-    def claim(self, desk):
-        desk.catch_up()
-        done, _ = desk.act(lambda desk: [(4 << 56 | desk.who << 48, None)] if 0 in desk.ready else None)
+    def claim(self, view):
+        view.catch_up()
+        done, _ = view.act(lambda view: [(CLAIM << 56 | view.who << 48, None)] if 0 in view.ready else None)
         return done is not None and not done[0].reply[0]
 
     def test_a_lost_reply(self):
         """What was put is known by its token, and isn't put twice."""
         for lands in (True, False):
             store = Silent(lands)
-            desk = self.desk(store)
-            self.assertTrue(self.claim(desk))
-            self.assertEqual((len(store.read("r")), desk.unknown), (1, 1))
+            view = self.view(store)
+            self.assertTrue(self.claim(view))
+            self.assertEqual((len(store.read("r")), view.unknown), (1, 1))
 
     def test_a_lost_reply_and_another(self):
         """Two that would be caller 0 both claim; the first's put was lost on the way. One is granted."""
         store, granted = Silent(False), []
-        first, second = self.desk(store), self.desk(store)
+        first, second = self.view(store), self.view(store)
         store.meanwhile = lambda: granted.append(self.claim(second))
         granted.append(self.claim(first))
         self.assertEqual(sorted(granted), [False, True])
@@ -560,32 +583,33 @@ class Desks(Case):
     def test_numbers(self):
         """Each session takes the lowest free number by its first word, and keeps it."""
         store = Memory()
-        desks = [self.desk(store) for _ in range(3)]
-        for desk in desks * 2:
-            desk.act(lambda desk: [(1 << 56 | desk.who << 48, None)])
+        views = [self.view(store) for _ in range(3)]
+        for view in views * 2:
+            view.act(lambda view: [(COMPLETE << 56 | view.who << 48, None)])
         self.assertEqual([word >> 48 & 0xFF for word, _ in store.read("r")], [0, 1, 2, 0, 1, 2])
 
     def test_80_sessions(self):
         """Above 64 numbers are shared; each stage is granted to one."""
         store = Memory()
         plan = {"cf": 3, "flow": "", "stages": [{"form": "supply", "name": "s", "fn": "inc", "version": 1}] * 80}
-        desks = [Desk(store, store.open("r", json.dumps(plan)), new_session()) for _ in range(80)]
+        views = [RowView(store, store.open("r", json.dumps(plan)), new_session()) for _ in range(80)]
 
-        def work(desk):
+        def work(view):
             for stage in range(80):
-                done, _ = desk.act(lambda desk: [(4 << 56 | desk.who << 48 | stage << 36, None)] if stage in desk.ready else None)
+                done, _ = view.act(lambda view: None if stage not in view.ready else
+                                   [(CLAIM << 56 | view.who << 48 | stage << 36, None)])
                 if done and not done[0].reply[0]:
                     granted.append(stage)
-                    desk.act(lambda desk: [(5 << 56 | desk.who << 48 | stage << 36, None)])
+                    view.act(lambda view: [(FINISH << 56 | view.who << 48 | stage << 36, None)])
         granted = []
-        threads = [threading.Thread(target=work, args=[desk]) for desk in desks]
+        threads = [threading.Thread(target=work, args=[view]) for view in views]
         for thread in threads:
             thread.start()
         for thread in threads:
             thread.join(60)
         self.assertEqual(sorted(granted), list(range(80)))
-        desks[0].catch_up()
-        self.assertTrue(desks[0].is_done())
+        views[0].catch_up()
+        self.assertTrue(views[0].is_done())
 
     def test_a_stale_read(self):
         """Reads that lack the last words change nothing: the put decides, and who loses is told what stands."""
@@ -593,8 +617,9 @@ class Desks(Case):
             def read(self, name, at=0, number=0):
                 return super().read(name, at, number)[:1] if at == 0 else []
         store = Stale()
-        first, second = self.desk(store), self.desk(store)
-        first.act(lambda desk: [(7 << 56 | desk.who << 48, b'{"name":"one"}'), (7 << 56 | desk.who << 48, b'{"name":"two"}')])
+        first, second = self.view(store), self.view(store)
+        first.act(lambda view: [(ATTACH << 56 | view.who << 48, b'{"name":"one"}'),
+                                (ATTACH << 56 | view.who << 48, b'{"name":"two"}')])
         self.assertTrue(self.claim(first))
         second.catch_up()
         self.assertEqual(second.seen, 1)
@@ -602,74 +627,76 @@ class Desks(Case):
         self.assertEqual((second.seen, second.lost, len(Memory.read(store, "r"))), (3, 1, 3))
 
     def test_a_finish_that_comes_late(self):
-        """Anybody may fail the stage of a session that he thinks gone. If it isn't, its finish is late, and nobody else was granted the stage."""
+        """Anybody may fail the stage of a session that he thinks gone. If it isn't, its finish is late, and nobody
+        else was granted the stage."""
         store = Memory()
-        first, second = self.desk(store), self.desk(store)
+        first, second = self.view(store), self.view(store)
         self.assertTrue(self.claim(first))
         second.catch_up()
         self.assertEqual(second.open_claims(), {0: first.session})
-        done, _ = second.act(lambda desk: [(2 << 56 | desk.who << 48 | desk.place, b"{}")])
+        done, _ = second.act(lambda view: [(FAIL << 56 | view.who << 48 | view.place, b"{}")])
         self.assertEqual(done[0].reply[0], 1)
         self.assertFalse(self.claim(second))
-        done, _ = first.act(lambda desk: [(5 << 56 | desk.who << 48, None)])
+        done, _ = first.act(lambda view: [(FINISH << 56 | view.who << 48, None)])
         self.assertEqual(done[0].reply[0], 1)
         self.assertEqual(first.open_claims(), {})
 
     def test_a_put_that_was_given_up(self):
-        """The store is silent for too long. If the claim stands all the same, it is this session's, under the number that it was put with."""
+        """The store is silent for too long. If the claim stands all the same, it is this session's, under the number
+        that it was put with."""
         for lands in (True, False):
             with self.subTest(lands=lands):
                 store = Silent(lands)
-                desk, other = self.desk(store), self.desk(store)
-                desk._patience, append = 0, store.append
+                view, other = self.view(store), self.view(store)
+                view._patience, append = 0, store.append
                 store.append = lambda put: append(put) if store.lands is not None else self.silent()
                 with self.assertRaises(Unknown) as told:
-                    self.claim(desk)
+                    self.claim(view)
                 self.assertIn("'r', place 1: the store doesn't answer", str(told.exception))
                 store.append = append
-                other.act(lambda desk: [(1 << 56 | desk.who << 48, None)])
-                desk.catch_up()
-                self.assertEqual(list(desk.found), [0] if lands else [])
-                done, _ = desk.act(lambda desk: [(5 << 56 | desk.who << 48, None)])
-                self.assertEqual((done[0].reply[0], desk.who, other.who), (1, 0, 1) if lands else (2, 1, 0))
+                other.act(lambda view: [(COMPLETE << 56 | view.who << 48, None)])
+                view.catch_up()
+                self.assertEqual(list(view.found), [0] if lands else [])
+                done, _ = view.act(lambda view: [(FINISH << 56 | view.who << 48, None)])
+                self.assertEqual((done[0].reply[0], view.who, other.who), (1, 0, 1) if lands else (2, 1, 0))
 
     def silent(self):
         raise Unknown("silent")
 
     def test_a_session_keeps_its_number(self):
-        """Also by a desk that it opens later."""
+        """Also by a view that it opens later."""
         store, session = Memory(), new_session()
         for of in (session, new_session(), session):
-            desk = self.desk(store, of)
-            desk.catch_up()
-            desk.act(lambda desk: [(1 << 56 | desk.who << 48, None)])
+            view = self.view(store, of)
+            view.catch_up()
+            view.act(lambda view: [(COMPLETE << 56 | view.who << 48, None)])
         self.assertEqual([word >> 48 & 0xFF for word, _ in store.read("r")], [0, 1, 0])
 
     def test_tokens_of_lost_puts(self):
         """Whose place was taken is forgotten: a later word of the same token isn't that one."""
         store = Silent(False)
-        desk, other = self.desk(store), self.desk(store)
-        desk._patience, store.append = 0, lambda put: self.silent()
+        view, other = self.view(store), self.view(store)
+        view._patience, store.append = 0, lambda put: self.silent()
         with self.assertRaises(Unknown):
-            self.claim(desk)
+            self.claim(view)
         del store.append
         store.lands = None
-        lost = desk._count - 1
-        other.act(lambda desk: [(1 << 56 | desk.who << 48, None)])
-        desk.catch_up()
-        self.assertEqual(desk._doubt, {})
-        store.append(Put("r", 1, [(4 << 56, desk.session << 23 | lost)], {}))
-        desk.catch_up()
-        self.assertEqual(desk.found, {})
+        lost = view._count - 1
+        other.act(lambda view: [(COMPLETE << 56 | view.who << 48, None)])
+        view.catch_up()
+        self.assertEqual(view._doubt, {})
+        store.append(Put("r", 1, [(CLAIM << 56, view.session << 23 | lost)], {}))
+        view.catch_up()
+        self.assertEqual(view.found, {})
 
     def test_two_that_put_one_token(self):
         """Whose token stands with other words has lost, and replays what stands."""
         store, session = Memory(), new_session()
         plan = {"cf": 3, "flow": "", "stages": [{"form": "source", "name": "p"}, {"form": "source", "name": "q"}]}
-        first, second = (Desk(store, store.open("r", json.dumps(plan)), session) for _ in range(2))
+        first, second = (RowView(store, store.open("r", json.dumps(plan)), session) for _ in range(2))
         second._count = first._count
-        first.act(lambda desk: [(1 << 56 | desk.who << 48, None)])
-        done, others = second.act(lambda desk: [(1 << 56 | desk.who << 48 | 1 << 36, None)])
+        first.act(lambda view: [(COMPLETE << 56 | view.who << 48, None)])
+        done, others = second.act(lambda view: [(COMPLETE << 56 | view.who << 48 | 1 << 36, None)])
         first.catch_up()
         self.assertEqual(([it.place for it in others], [it.place for it in done]), ([1], [2]))
         self.assertEqual((list(first.words), list(second.words)), ([word for word, _ in store.read("r")],) * 2)
@@ -678,17 +705,19 @@ class Desks(Case):
     def test_words_are_tested(self):
         """One that fits no graph isn't put, nor its group: it would break the row for everybody."""
         store = Memory()
-        desk = self.desk(store)
-        attach = (7 << 56, b'{"name":"p"}')
-        for words in ([(99 << 56, None)], [(4 << 56 | 7 << 36, None)], [(1 << 56 | 5 << 48, None)], [(1 << 56, None), (5 << 56 | 1 << 36, None)],
-                      [(7 << 56 | 1 << 32 | 3 << 24 | 1 | 2 << 36, None)], [attach, attach, (1 << 56 | 3 << 36, None)], [(-1, None)]):
+        view = self.view(store)
+        attach = (ATTACH << 56, b'{"name":"p"}')
+        for words in ([(99 << 56, None)], [(CLAIM << 56 | 7 << 36, None)], [(COMPLETE << 56 | 5 << 48, None)],
+                      [(COMPLETE << 56, None), (FINISH << 56 | 1 << 36, None)],
+                      [(ATTACH << 56 | 1 << 32 | 3 << 24 | 1 | 2 << 36, None)],
+                      [attach, attach, (COMPLETE << 56 | 3 << 36, None)], [(-1, None)]):
             with self.subTest(words), self.assertRaises(ValueError) as told:
-                desk.act(lambda desk: words)
+                view.act(lambda view: words)
             self.assertIn("'r', place 1: the word", str(told.exception))
         self.assertEqual(store.read("r"), [])
-        self.assertEqual(len(desk.act(lambda desk: [attach, attach, (1 << 56 | 2 << 36, None)])[0]), 3)
+        self.assertEqual(len(view.act(lambda view: [attach, attach, (COMPLETE << 56 | 2 << 36, None)])[0]), 3)
         with self.assertRaises(RequestFull):
-            desk.act(lambda desk: [attach] * 4094)
+            view.act(lambda view: [attach] * 4094)
         self.assertEqual(len(store.read("r")), 3)
 
     def test_silence_isnt_absence(self):
@@ -725,42 +754,43 @@ class Desks(Case):
 
     def test_hand_written_words(self):
         store = Memory()
-        desk = self.desk(store)
-        self.claim(desk)
+        view = self.view(store)
+        self.claim(view)
         store.append(Put("r", 1, [(99 << 56, 1)], {}))
         with self.assertRaises(Broken) as told:
-            self.desk(store).catch_up()
+            self.view(store).catch_up()
         self.assertEqual((told.exception.request, told.exception.place), ("r", 2))
         self.assertIn("'r', place 2", str(told.exception))
 
     def test_a_word_that_doesnt_fit(self):
         """An event of a stage that isn't there, and a plan of another version: the errors name request and place."""
         store = Memory()
-        desk = self.desk(store)
-        self.claim(desk)
-        store.append(Put("r", 1, [(4 << 56 | 7 << 36, 1)], {}))
+        view = self.view(store)
+        self.claim(view)
+        store.append(Put("r", 1, [(CLAIM << 56 | 7 << 36, 1)], {}))
         with self.assertRaises(Broken) as told:
-            desk.catch_up()
+            view.catch_up()
         self.assertIn("'r', place 2: the word", str(told.exception))
         with self.assertRaises(Broken) as told:
-            Desk(store, store.open("old", json.dumps({"cf": 2, "flow": "", "stages": []})), new_session())
+            RowView(store, store.open("old", json.dumps({"cf": 2, "flow": "", "stages": []})), new_session())
         self.assertIn("'old', place 0: its plan can't be read", str(told.exception))
         self.assertIn("version 2", str(told.exception))
 
     def test_a_stage_that_speaks_of_others(self):
-        """A further try and a promise for what comes are told by the numbers of lower stages, in a plan and in a payload."""
+        """A further try and a promise for what comes are told by the numbers of lower stages, in a plan and in a
+        payload."""
         store = Memory()
         for key in ("again", "to"):
             for number in (-1, 1, 77):
                 said = {"form": "supply", "name": "s", key: number}
                 with self.assertRaises(Broken) as told:
                     plan = {"cf": 3, "flow": "", "stages": [{"form": "source", "name": "p"}, said]}
-                    Desk(store, store.open(f"{key} {number}", json.dumps(plan)), new_session())
+                    RowView(store, store.open(f"{key} {number}", json.dumps(plan)), new_session())
                 self.assertIn("place 0: its plan can't be read", str(told.exception))
-        desk = Desk(store, store.open("r", EMPTY), new_session())
-        desk.act(lambda desk: [(7 << 56 | 1 << 24, b'{"name":"s","again":5}')])
+        view = RowView(store, store.open("r", EMPTY), new_session())
+        view.act(lambda view: [(ATTACH << 56 | 1 << 24, b'{"name":"s","again":5}')])
         with self.assertRaises(Broken) as told:
-            desk.said(0)
+            view.said(0)
         self.assertIn("'r', place 1: its payload can't be read", str(told.exception))
 
     def test_a_store_that_is_away(self):
@@ -768,37 +798,40 @@ class Desks(Case):
             def append(self, put):
                 raise Unknown("no connection")
         store = Away()
-        desk = Desk(store, store.open("r", EMPTY), new_session(), patience=0.1)
+        view = RowView(store, store.open("r", EMPTY), new_session(), patience=0.1)
         with self.assertRaises(Unknown) as told:
-            desk.act(lambda desk: [(7 << 56, b'{"name":"p"}')])
+            view.act(lambda view: [(ATTACH << 56, b'{"name":"p"}')])
         self.assertIn("'r', place 1: the store doesn't answer: no connection", str(told.exception))
 
     def test_an_account_by_sessions(self):
         """Above 64 sessions a number is two sessions', each of which has its own records."""
         store = Memory()
         plan = {"cf": 3, "flow": "", "stages": [{"form": "supply", "name": "s", "fn": "inc", "version": 1}] * 70}
-        desks = [Desk(store, store.open("r", json.dumps(plan)), new_session()) for _ in range(70)]
-        for stage, desk in enumerate(desks):
-            desk.catch_up()
-            desk.act(lambda desk, stage=stage: [(4 << 56 | desk.who << 48 | stage << 36, None)])
-        desks[0].catch_up()
-        account = json.loads(desks[0].history(Json()).account())
+        views = [RowView(store, store.open("r", json.dumps(plan)), new_session()) for _ in range(70)]
+        for stage, view in enumerate(views):
+            view.catch_up()
+            view.act(lambda view, stage=stage: [(CLAIM << 56 | view.who << 48 | stage << 36, None)])
+        views[0].catch_up()
+        account = json.loads(views[0].history(Json()).account())
         shared = [own["sessions"] for own in account["callers"] if isinstance(own, dict)]
         self.assertTrue(shared)
         self.assertEqual(sum(len(own) - 1 for own in shared), 6)
-        records = [record for own in account["callers"] for it in (own["sessions"] if isinstance(own, dict) else [own]) for record in it]
+        records = [record for own in account["callers"] for it in (own["sessions"] if isinstance(own, dict) else [own])
+                   for record in it]
         self.assertEqual(sorted(record[1] for record in records if record[0] == "did"), list(range(1, 71)))
         self.look(json.dumps(account))
 
     def look(self, account):
         """By `cf_look check`, where CF_LOOK names it."""
         if os.environ.get("CF_LOOK"):
-            done = subprocess.run([os.environ["CF_LOOK"], "check"], input=account, stdout=subprocess.PIPE, universal_newlines=True)
+            done = subprocess.run([os.environ["CF_LOOK"], "check"], input=account, stdout=subprocess.PIPE,
+                                  universal_newlines=True)
             self.assertEqual(done.stdout, "fits\n")
 
 
 class Effects(Memory):
-    """Has transactions in memory: what a function adds to its list is an effect once that is committed. Others can put meanwhile."""
+    """Has transactions in memory: what a function adds to its list is an effect once that is committed. Others can
+    put meanwhile."""
 
     is_transactional = True
 
@@ -858,7 +891,8 @@ class Services(Case):
                     yield self.service(address, groups=groups), f"{self.name} {groups}", address
 
     def test_what_follows_a_transaction(self):
-        """A stage behind a transactional function, and a callback that puts: both come once its transaction has ended."""
+        """A stage behind a transactional function, and a callback that puts: both come once its transaction has
+        ended."""
         for service, name, address in self.transactional():
             same = service.function(name, transactional=True)(lambda connection, x: x)
             flow = Flow("order")
@@ -866,14 +900,16 @@ class Services(Case):
             paid = first.then(same)
             last = paid.then(f.inc)
             request, heard = service.start(flow, name=name), []
-            request[paid].add_done_callback(lambda _: heard.append(service.request(f"{name} mail").promise("sent").number))
+            request[paid].add_done_callback(
+                lambda _: heard.append(service.request(f"{name} mail").promise("sent").number))
             request[first].complete(1)
             self.assertEqual(request[last].result(20), 2)
             self.until(lambda: heard)
             self.assertEqual(self.service(address).request(f"{name} else").supply(f.inc, 1).result(20), 2)
 
     def test_two_of_a_request_and_one_transacts(self):
-        """Another thread puts to the request while its transactional function runs: neither waits for the other's lock."""
+        """Another thread puts to the request while its transactional function runs: neither waits for the other's
+        lock."""
         self.impatient()
         for service, name, _ in self.transactional():
             begun, request = threading.Event(), service.request(name)
@@ -888,7 +924,8 @@ class Services(Case):
             stage.complete(1)
             self.assertTrue(begun.wait(20))
             told = []
-            threads = [threading.Thread(target=lambda it=it: told.append(it.complete(2)), daemon=True) for it in (other, gate)]
+            threads = [threading.Thread(target=lambda it=it: told.append(it.complete(2)), daemon=True)
+                       for it in (other, gate)]
             for thread in threads:
                 thread.start()
             for thread in threads:
@@ -897,15 +934,18 @@ class Services(Case):
             self.assertEqual(other.then(f.inc).result(20), 3)
 
     def test_a_transactional_function_that_puts(self):
-        """To its own request, to another, or by another service on the file: that would wait for itself, and fails at once."""
+        """To its own request, to another, or by another service on the file: that would wait for itself, and fails
+        at once."""
         self.impatient()
         for groups in (False, True):
             with self.subTest(groups=groups):
                 service, other = self.service(groups=groups), self.service()
                 request = service.request(self.name)
-                puts = [lambda: request.promise(), lambda: service.request(f"{self.name} another").promise(), lambda: other.request(self.name).promise()]
+                puts = [lambda: request.promise(), lambda: service.request(f"{self.name} another").promise(),
+                        lambda: other.request(self.name).promise()]
                 puts = puts + [service.request("there").promise] if groups else puts
-                function = service.function(f"puts {groups}", transactional=True)(lambda connection, k: puts[k]().number)
+                function = service.function(f"puts {groups}",
+                                            transactional=True)(lambda connection, k: puts[k]().number)
                 for k in range(len(puts)):
                     error = request.supply(function, k).exception(20)
                     self.assertIn("transactional function", str(error))
@@ -914,14 +954,16 @@ class Services(Case):
     def test_what_a_transactional_function_does_to_its_connection(self):
         """Whatever it is, its stage ends and others can put."""
         service = self.service()
-        request, acts = service.request(self.name), [lambda db: db.close(), lambda db: db.execute("no statement"), lambda db: db.rollback()]
+        request, acts = service.request(self.name), [lambda db: db.close(), lambda db: db.execute("no statement"),
+                                                     lambda db: db.rollback()]
         function = service.function("acts", transactional=True)(lambda connection, k: acts[k](connection))
         for k in range(len(acts)):
             self.assertTrue(request.supply(function, k).exception(20) is not None or k == 2)
         self.assertEqual(self.service().request(f"{self.name} 2").supply(f.inc, 1).result(20), 2)
 
     def test_no_effect_is_for_nothing(self):
-        """Where the stage was settled by others, before its transactional function is called or while it runs, no effect stands."""
+        """Where the stage was settled by others, before its transactional function is called or while it runs, no
+        effect stands."""
         for meanwhile in (False, True):
             with self.subTest(meanwhile=meanwhile):
                 store, functions, called = Effects(), Functions(), []
@@ -949,7 +991,7 @@ class Services(Case):
                 pay = service.function("pay", transactional=True)(pay)
                 request = service.request("r")
                 self.assertIsInstance(request.supply(pay).exception(20), KeyError)
-                self.until(lambda: not request._desk.claims)
+                self.until(lambda: not request._view.claims)
                 self.assertEqual((store.effects, len(called)), ([], int(meanwhile)))
                 service.shutdown(), other.shutdown()
 
@@ -1014,7 +1056,8 @@ class Services(Case):
             self.until(lambda: stage.request.name not in service.store.ends())
 
     def test_timeouts(self):
-        """A stage times out by a word of its own, and all that stand behind it have its exception, whenever they are told."""
+        """A stage times out by a word of its own, and all that stand behind it have its exception, whenever they are
+        told."""
         for service, name in self.each():
             r = service.request(name)
             late, slow = r.promise("late"), r.promise("slow")
@@ -1026,7 +1069,8 @@ class Services(Case):
             fails += [late.then(f.inc), r.all_of(slow, late), late.when_done(f.nothing)]
             texts += [late.recover(f.text), fails[0].recover(f.text)]
             for stage in fails:
-                self.assertEqual((type(stage.exception(20)), str(stage.exception())), (TimeoutError, "late took longer than 0.05 s"))
+                self.assertEqual((type(stage.exception(20)), str(stage.exception())),
+                                 (TimeoutError, "late took longer than 0.05 s"))
             self.assertEqual([stage.result(20) for stage in texts], ["sorry, late took longer than 0.05 s"] * 3)
             history = r.history()
             for part in (" times out 0 late\n", "0 late ends: timeout\n", " ends: timeout, passed on\n"):
@@ -1036,10 +1080,11 @@ class Services(Case):
             with Service(1) as plain:
                 relay = plain.request().adopt(late)
                 self.assertIs(relay.exception(0), late.exception())
-                self.assertIn("relay times out 0 relay of a Stage\n", str(relay.request.history()))
+                self.assertIn("relay times out 0 relay of a DurableStage\n", str(relay.request.history()))
 
     def test_promises_of_what_ends_without_a_code(self):
-        """A stage that composes ends as the one does that its function gives: as timed out, with that one's exception, or with a bad answer."""
+        """A stage that composes ends as the one does that its function gives: as timed out, with that one's
+        exception, or with a bad answer."""
         for service, name in self.each():
             for failure, given, kind, text in ((TIMED_OUT, Json().write_error(TimeoutError("x")), TimeoutError, "x"),
                                                (TIMED_OUT, None, TimeoutError, ""), (BAD_ANSWER, None, BadAnswer, "")):
@@ -1047,11 +1092,12 @@ class Services(Case):
                 number = r.promise("number")
                 composed = number.compose(f.waiting)
                 number.complete(1)
-                self.until(lambda: any(it["name"] == "late" for it in map(r._desk.said, range(len(r._desk.forms)))))
+                self.until(lambda: any(it["name"] == "late" for it in map(r._view.said, range(len(r._view.forms)))))
                 self.assertTrue(r._settle(FAIL_AS, r["late"].number, given, failure=failure))
                 for stage in (r["late"], composed, composed.then(f.inc)):
                     self.assertEqual((type(stage.exception(20)), str(stage.exception())), (kind, text))
-                self.assertEqual([word >> 32 & 0xF for word in r._desk.words if word >> 56 == FAIL_AS], [failure - TIMED_OUT] * 2)
+                self.assertEqual([word >> 32 & 0xF for word in r._view.words if word >> 56 == FAIL_AS],
+                                 [failure - TIMED_OUT] * 2)
 
     def test_a_promise_that_timed_out_before_it_was_linked_to(self):
         for service, name in self.each():
@@ -1071,17 +1117,20 @@ class Services(Case):
             self.assertEqual(str(composed.exception(20)), str(error))
 
     def test_rows_and_timers_of_before(self):
-        """A time-out was a failing with an exception, and may stand so in a row. A timer that was set then lets the stage time out."""
+        """A time-out was a failing with an exception, and may stand so in a row. A timer that was set then lets the
+        stage time out."""
         store = Memory()
-        desk = Desk(store, store.open("r", EMPTY), new_session())
+        view = RowView(store, store.open("r", EMPTY), new_session())
         given, promise = Json().write_error(TimeoutError("p took longer than 1 s")), b'{"name":"p"}'
-        desk.act(lambda desk: [(7 << 56 | desk.who << 48, promise)] * 2 + [(2 << 56 | desk.who << 48 | desk.place + 2, given)])
+        view.act(lambda view: [(ATTACH << 56 | view.who << 48, promise)] * 2 +
+                 [(FAIL << 56 | view.who << 48 | view.place + 2, given)])
         store.set_timer(Timer("r", 1, 0.0, b"E" + given))
         service = DurableService(store, 1, functions=f.functions)
         self.services.append(service)
         r = service.open("r")
         for stage in (r[0], r[1], r[0].then(f.inc), r[1].then(f.inc)):
-            self.assertEqual((type(stage.exception(20)), str(stage.exception())), (TimeoutError, "p took longer than 1 s"))
+            self.assertEqual((type(stage.exception(20)), str(stage.exception())),
+                             (TimeoutError, "p took longer than 1 s"))
         self.assertIn("fails 0 p with TimeoutError('p took longer than 1 s')\n", str(r.history()))
         self.assertIn(" times out 1 p\n", str(r.history()))
 
@@ -1095,18 +1144,19 @@ class Services(Case):
             self.assertIsInstance(number.compose(f.both).exception(20), TypeError)
             self.assertIsInstance(r.supply(f.fails).compose(f.loading).exception(20), PermissionError)
             late = number.compose(f.waiting)
-            self.until(lambda r=r: any(it["name"] == "late" for it in map(r._desk.said, range(len(r._desk.forms)))))
+            self.until(lambda r=r: any(it["name"] == "late" for it in map(r._view.said, range(len(r._view.forms)))))
             self.assertFalse(late.done())
             r["late"].complete(None)
             self.assertIsNone(late.result(20))
             again = number.compose(f.waiting)
-            self.until(lambda r=r: [it["name"] for it in map(r._desk.said, range(len(r._desk.forms)))].count("late") == 2)
-            names = [it["name"] for it in map(r._desk.said, range(len(r._desk.forms)))]
+            self.until(lambda r=r: [it["name"]
+                                    for it in map(r._view.said, range(len(r._view.forms)))].count("late") == 2)
+            names = [it["name"] for it in map(r._view.said, range(len(r._view.forms)))]
             self.assertTrue(r[len(names) - 1 - names[::-1].index("late")].cancel())
             self.assertIsInstance(again.exception(20) if not again.cancelled() else CancelledError(), CancelledError)
             with self.assertRaises(TypeError):
                 late.again()
-            self.until(lambda r=r: not r._desk.links and not r._desk.unlinked)
+            self.until(lambda r=r: not r._view.links and not r._view.unlinked)
 
     def test_a_promise_that_nothing_comes_of(self):
         """Where a stage that composes fails, its promise is cancelled: a flow's request is closed all the same."""
@@ -1152,7 +1202,8 @@ class Services(Case):
         for service, name in self.each():
             flow, total, both, sorry = self.flow()
             request = service.start(flow, 10, name=name)
-            self.assertEqual((request[total].result(20), request[both].result(20), request[sorry].result(20)), (15, [15, 15], "sorry, card declined"))
+            self.assertEqual((request[total].result(20), request[both].result(20), request[sorry].result(20)),
+                             (15, [15, 15], "sorry, card declined"))
             self.until(lambda: name not in service.store.ends())
             same = service.start(flow, 99, name=name)
             self.assertEqual(same[total].result(5), 15)
@@ -1162,7 +1213,8 @@ class Services(Case):
                 service.start(other, name=name)
 
     def test_a_store_that_is_away_for_long(self):
-        """A claim and finishes that the store was silent about are not lost: what was claimed runs once, and what was run is told."""
+        """A claim and finishes that the store was silent about are not lost: what was claimed runs once, and what
+        was run is told."""
         class Away(Memory):
             left, lands, many = 0, False, 0
 
@@ -1194,7 +1246,8 @@ class Services(Case):
                     works.shutdown(), asks.shutdown()
 
     def test_a_store_that_takes_nothing_for_a_while(self):
-        """What a function came to is kept and put once the store takes words again: it wasn't the value that it refused."""
+        """What a function came to is kept and put once the store takes words again: it wasn't the value that it
+        refused."""
         class Shut(Memory):
             is_shut = False
 
@@ -1220,7 +1273,8 @@ class Services(Case):
                 stage = request.supply(function, 17, fails)
                 self.until(lambda: len(refused) > 1)  # what it came to, and that it was refused
                 store.is_shut = False
-                self.assertEqual(repr(stage.exception(20)) if fails else stage.result(20), "KeyError(17)" if fails else 17)
+                self.assertEqual(repr(stage.exception(20)) if fails else stage.result(20),
+                                 "KeyError(17)" if fails else 17)
             self.assertIn("nothing can be put: it can only be read", "".join(logs.output))
             refused.clear()
         self.assertEqual(ran, [17, 17])
@@ -1253,7 +1307,8 @@ class Services(Case):
                     cursor.execute("select pg_reload_conf()")
                 self.assertEqual(stage.result(30), "done")
                 cursor.execute("create table if not exists one (k int unique deferrable initially deferred)")
-                twice = service.function("twice", transactional=True)(lambda it: it.execute("insert into one values (1), (1)"))
+                twice = service.function("twice",
+                                         transactional=True)(lambda it: it.execute("insert into one values (1), (1)"))
                 self.assertIn("one", str(service.request(self.name).supply(twice).exception(20)))
                 cursor.execute("drop table one")
 
@@ -1285,7 +1340,8 @@ class Services(Case):
         class Unshown(Exception):
             def __str__(self):
                 raise TypeError("no text")
-        functions, given = Functions(), [Unshown(object()), FileNotFoundError(2, "none", "\udcff"), RecursionError(), SystemExit(3)]
+        functions, given = Functions(), [Unshown(object()), FileNotFoundError(2, "none", "\udcff"), RecursionError(),
+                                         SystemExit(3)]
 
         @functions.function("odd")
         def odd(k):
@@ -1298,7 +1354,7 @@ class Services(Case):
         self.assertEqual([type(it) for it in told], [RemoteError, FileNotFoundError, RecursionError, SystemExit])
         self.assertEqual(told[1].filename, "\udcff")
         self.assertEqual(r.supply(half).result(20), "\ud800")
-        self.assertFalse(r._desk.claims)
+        self.assertFalse(r._view.claims)
 
     def test_functions_that_nobody_knows(self):
         """However many stages wait for such, others behind them are found."""
@@ -1325,24 +1381,26 @@ class Services(Case):
         one, two = flow.promise("one"), flow.supply(f.nothing)
         store = connect(self.address)
         for name, claims in (("last", False), ("claimed", True)):
-            desk = Desk(store, store.open(name, text_of(flow, f.functions)), new_session())
-            words = [(4 << 56 | 1 << 36, None)] if claims else []
-            desk.act(lambda desk: [(word | desk.who << 48, None) for word in [it for it, _ in words] + [1 << 56, 3 << 56 | 1 << 36]])
-            self.assertTrue(desk.is_settled(one.number) and desk.is_settled(two.number))
+            view = RowView(store, store.open(name, text_of(flow, f.functions)), new_session())
+            words = [(CLAIM << 56 | 1 << 36, None)] if claims else []
+            view.act(lambda view: [(word | view.who << 48, None)
+                                   for word in [it for it, _ in words] + [COMPLETE << 56, CANCEL << 56 | 1 << 36]])
+            self.assertTrue(view.is_settled(one.number) and view.is_settled(two.number))
         self.until(lambda: not store.ends())
         store.close()
 
     def test_what_is_late_for_a_name_that_is_used_again(self):
-        """A timer that was due, and a look-up, of a request that was dropped meanwhile do nothing to the next one of its name."""
+        """A timer that was due, and a look-up, of a request that was dropped meanwhile do nothing to the next one of
+        its name."""
         service = DurableService(Memory(), 0, functions=f.functions)
         self.services.append(service)
         first = service.request("r")
         first.promise().complete(1)
-        found, timer = service.store.find("r"), Timer("r", 0, 0, b"V2", first._desk.opened.number)
+        found, timer = service.store.find("r"), Timer("r", 0, 0, b"V2", first._view.opened.number)
         service.store.drop("r")
         stage = service.request("r").promise()
         service._fire(timer)
-        kept = service._kept(Request(service, Desk(service.store, found, service.session)))
+        kept = service._kept(DurableRequest(service, RowView(service.store, found, service.session)))
         self.assertIs(kept, stage.request)
         self.assertFalse(stage.done())
         self.assertTrue(stage.complete(3))
@@ -1362,12 +1420,12 @@ class Services(Case):
         service = DurableService(Memory(), 0, functions=f.functions)
         self.services.append(service)
         r = service.request("r")
-        promise, desk, seen = r.promise(), r._desk, []
+        promise, view, seen = r.promise(), r._view, []
 
         def look():
-            seen.extend((desk.is_settled(k), desk.told[k].kind == VALUE) for k in range(len(desk.forms)))
+            seen.extend((view.is_settled(k), view.told[k].kind == VALUE) for k in range(len(view.forms)))
         for name in ("forms", "kinds", "told", "places"):
-            setattr(desk, name, Watched(getattr(desk, name), look))
+            setattr(view, name, Watched(getattr(view, name), look))
         promise.complete(1), r.promise()
         self.assertEqual({(False, False), (True, True)}, set(seen) - {(False, True)})
 
@@ -1385,14 +1443,14 @@ class Services(Case):
                 closers.append(threading.Thread(target=r._end_if_done))
                 closers[0].start()
                 closers[0].join(0.5)
-        r._desk.words = Watched(r._desk.words, close)
+        r._view.words = Watched(r._view.words, close)
         store = connect(self.address)
         store.reopen("r")
-        other = Desk(store, store.find("r"), new_session())
+        other = RowView(store, store.find("r"), new_session())
         other.catch_up()
         other.make_room(1)
-        other.act(lambda desk: [(7 << 56 | desk.who << 48, b'{"name": "late"}')])
-        self.until(lambda: len(r._desk.forms) == 2)
+        other.act(lambda view: [(ATTACH << 56 | view.who << 48, b'{"name": "late"}')])
+        self.until(lambda: len(r._view.forms) == 2)
         closers[0].join()
         self.assertIn("r", store.ends())
         store.close()
@@ -1401,10 +1459,12 @@ class Services(Case):
         """A stage whose function runs elsewhere isn't failed by one that looks, as long as who has it is there."""
         functions, goes, store = Functions(), threading.Event(), Memory()
         waits = functions.function("waits")(lambda: goes.wait(20))
-        first, second = DurableService(store, 1, functions=functions), DurableService(store, 0, functions=functions, takes_all=True)
+        first, second = DurableService(store, 1,
+                                       functions=functions), DurableService(store, 0, functions=functions,
+                                                                            takes_all=True)
         stage = first.request("r").supply(waits)
         seen = second.open("r")
-        self.until(lambda: seen._desk.claims)
+        self.until(lambda: seen._view.claims)
         second._work(seen)
         goes.set()
         self.assertTrue(stage.result(20))
@@ -1447,9 +1507,12 @@ class Services(Case):
         self.assertEqual(request[step].result(5), 1)
 
     def test_a_request_that_others_open_again(self):
-        """It was let go here, and who waits for one of its stages is told all the same. A plain request that was ended is opened again, too."""
+        """It was let go here, and who waits for one of its stages is told all the same. A plain request that was
+        ended is opened again, too."""
         store = Memory()
-        asks, works = DurableService(store, 0, functions=f.functions, lease=0.5), DurableService(store, 1, functions=f.functions, lease=0.5, takes_all=True)
+        asks, works = DurableService(store, 0, functions=f.functions,
+                                     lease=0.5), DurableService(store, 1, functions=f.functions, lease=0.5,
+                                                                takes_all=True)
         self.services += [asks, works]
         request = asks.request("r")
         promise = request.promise("p")
@@ -1490,7 +1553,8 @@ class Services(Case):
             self.until(lambda: store.left < 0 and "r" not in store.ends())
 
     def test_what_was_read_before_a_call_failed(self):
-        """A put loses its place, and then the store is silent or its row is at fault: what others have settled is shown."""
+        """A put loses its place, and then the store is silent or its row is at fault: what others have settled is
+        shown."""
         class Loses(Memory):
             meanwhile = None
 
@@ -1509,12 +1573,12 @@ class Services(Case):
                 request = service.request("r")
             answer, heard = request.promise("answer"), threading.Event()
             answer.add_done_callback(lambda _: heard.set())
-            other = Desk(store, store.find("r"), new_session())
+            other = RowView(store, store.find("r"), new_session())
             other.catch_up()
 
             def meanwhile():
                 other.who = 1
-                Memory.append_groups(store, [other.put_of([(1 << 56 | 1 << 48, None)])])
+                Memory.append_groups(store, [other.put_of([(COMPLETE << 56 | 1 << 48, None)])])
                 if at_fault:
                     store._rows["r"].append((99 << 56, 1))
                 return True
@@ -1547,7 +1611,7 @@ class Services(Case):
                 promise.complete(1)
             self.until(lambda: len(heard) == 8 and logs.output)
         self.assertEqual(stages[3].result(20), 3)
-        self.assertFalse(request._desk.claims)
+        self.assertFalse(request._view.claims)
         waits = [request.promise() for _ in range(3)]
         waits[0].add_done_callback(ends)
         with self.assertRaises(SystemExit):
@@ -1652,12 +1716,12 @@ class Services(Case):
             works = DurableService(store, 1, functions=f.functions, lease=0.5)
             self.services.append(works)
             stage = works.open("r")
-            stage._desk.said(0)
+            stage._view.said(0)
             store.left = 2
             self.assertEqual(stage[0].result(20), 1)
             behind = asks.open("r")[0].then(f.inc)
             stage._catch_up()
-            stage._desk.said(1)
+            stage._view.said(1)
             store.left = 1
             works._serve(stage)
             self.assertEqual(behind.result(20), 2)
@@ -1669,14 +1733,14 @@ class Services(Case):
         self.services.append(service)
         request = service.request("r")
         first, second = request.supply(f.inc, 1), request.supply(f.inc, 2)
-        done = request._act(lambda desk: [(4 << 56 | desk.who << 48, None)])  # as by a put whose reply was lost
+        done = request._act(lambda view: [(CLAIM << 56 | view.who << 48, None)])  # as by a put whose reply was lost
         self.assertTrue(first.abandon())
         service._pool.submit(int).result(20)  # (so that the one thread has nothing to do)
-        request._desk.found[0] = done[0]
+        request._view.found[0] = done[0]
         service._workers = 1
         service._serve(request)
         self.assertEqual(second.result(20), 3)
-        self.until(lambda: not request._desk.claims)
+        self.until(lambda: not request._view.claims)
 
     def test_a_codec_that_ends(self):
         """Whatever a codec raises, its stage is shown, and no claim is left."""
@@ -1699,12 +1763,15 @@ class Services(Case):
         self.assertIsInstance(promise.exception(5), Broken)
         error = request.supply(fails).exception(20)
         self.assertIn("it can't be written", str(error))
-        self.assertFalse(request._desk.claims)
+        self.assertFalse(request._view.claims)
 
     def test_a_name_that_began_anew_with_fewer_words(self):
-        """A worker that has seen more words of an earlier request of the name works on the new one; who has the old one is told."""
+        """A worker that has seen more words of an earlier request of the name works on the new one; who has the old
+        one is told."""
         store = Memory()
-        asks, works = DurableService(store, 0, functions=f.functions, lease=0.5), DurableService(store, 1, functions=f.functions, lease=0.5, takes_all=True)
+        asks, works = DurableService(store, 0, functions=f.functions,
+                                     lease=0.5), DurableService(store, 1, functions=f.functions, lease=0.5,
+                                                                takes_all=True)
         self.services += [asks, works]
         old = asks.request("r")
         other = old.promise()
@@ -1809,8 +1876,8 @@ class Services(Case):
         r = service.request("order 17")
         self.assertEqual(r.supply(f.load, 17).then(f.fails).recover(f.text).result(20), "sorry, card declined")
         history = r.history()
-        for part in ("order 17: 9 words, 3 stages", "attaches 0 load, supply", "1 fails ends: PermissionError('card declined')",
-                     "2 text ends: 'sorry, card declined'"):
+        for part in ("order 17: 9 words, 3 stages", "attaches 0 load, supply",
+                     "1 fails ends: PermissionError('card declined')", "2 text ends: 'sorry, card declined'"):
             self.assertIn(part, str(history))
         self.assertEqual(len(json.loads(history.account())["events"]), 9)
 
@@ -1825,7 +1892,8 @@ class Services(Case):
             asks.join(2)
             told.append(asks.is_alive())
             return "own"
-        for describe, words in ((None, ("dict of 2", "PermissionError", "str of 20")), (describe_nothing, ("-", "-", "-")), (own, ("own", "own", "own"))):
+        for describe, words in ((None, ("dict of 2", "PermissionError", "str of 20")),
+                                (describe_nothing, ("-", "-", "-")), (own, ("own", "own", "own"))):
             r, told = service.request(f"order\n{self.name} {words}", describe=describe), []
             self.assertEqual(r.supply(f.load, 17).then(f.fails).recover(f.text).result(20), "sorry, card declined")
             history = r.history()
@@ -1885,8 +1953,9 @@ class Processes(Case):
         self.assertEqual(second.open("r")["number"].result(20), 5)
 
     def test_a_timer_outlives_who_set_it(self):
-        code = ("import sys, os; sys.path[:0] = %r; import shared_functions as f; from cf.shared import *; s = DurableService(connect(%r), 0, "
-                "functions=f.functions); s.request('r').promise('p').or_timeout(0.5); os._exit(0)")
+        code = ("import sys, os; sys.path[:0] = %r; import shared_functions as f; from cf.shared import *; "
+                "s = DurableService(connect(%r), 0, functions=f.functions); "
+                "s.request('r').promise('p').or_timeout(0.5); os._exit(0)")
         paths = [str(HERE)] + ([] if os.environ.get("CF_INSTALLED") else [str(HERE.parent)])
         subprocess.run([sys.executable, "-c", code % (paths, self.address)], check=True, timeout=60)
         service = self.service()
@@ -1918,7 +1987,8 @@ class Processes(Case):
         order = r.promise()
         stage = order.compose(f.marking)
         order.complete(path)
-        self.assertIn("sorry, the worker that ran mark is gone", self.killed(stage, path, lambda: r._desk.links).result(30))
+        self.assertIn("sorry, the worker that ran mark is gone",
+                      self.killed(stage, path, lambda: r._view.links).result(30))
 
     def test_again(self):
         service, path = self.service(), f"{self.folder.name}/mark"
@@ -1941,8 +2011,9 @@ class Processes(Case):
         worker = self.worker()
         r = service.request("r")
         stage = r.supply(f.pay, "anna", 1.0).again()
-        store = connect(self.address)  # (while the transaction has the file nobody beats, but who reads isn't kept waiting)
-        self.until(lambda: any(word >> 56 == 4 for word, _ in store.read("r")))
+        # while the transaction has the file nobody beats, but who reads isn't kept waiting
+        store = connect(self.address)
+        self.until(lambda: any(word >> 56 == CLAIM for word, _ in store.read("r")))
         time.sleep(0.5)
         store.close()
         worker.kill()
@@ -1997,7 +2068,8 @@ class Processes(Case):
     def test_bad_plans_leave_others_alone(self):
         """Plans of another version, or that are none: each is told with its request, and others go on."""
         store = connect(self.address)
-        bad = {"old": '{"cf":2,"flow":"","stages":[]}', "text": "no plan", "low": '{"cf":3,"flow":"","stages":[{"form":"apply","of":[7],"name":"s"}]}',
+        bad = {"old": '{"cf":2,"flow":"","stages":[]}', "text": "no plan",
+               "low": '{"cf":3,"flow":"","stages":[{"form":"apply","of":[7],"name":"s"}]}',
                "odd": '{"cf":3,"flow":"","stages":[{"form":"supply","name":"s","args":5}]}'}
         for name, plan in bad.items():
             store.open(name, plan)
@@ -2034,17 +2106,18 @@ class Processes(Case):
         db.close()
 
     def test_bad_payloads_and_timers_leave_others_alone(self):
-        """What a composing stage and a timer name by hand isn't there: each is told with its request, and others go on."""
+        """What a composing stage and a timer name by hand isn't there: each is told with its request, and others go
+        on."""
         store = connect(self.address)
-        promise, completes = (7 << 56, b'{"name":"p"}'), (1 << 56 | 1 << 36, None)
-        composes = 7 << 56 | 1 << 36 | 1 << 32 | 12 << 24 | 2, b'{"name":"loading","fn":"loading","version":1}'
+        promise, completes = (ATTACH << 56, b'{"name":"p"}'), (COMPLETE << 56 | 1 << 36, None)
+        composes = ATTACH << 56 | 1 << 36 | 1 << 32 | 12 << 24 | 2, b'{"name":"loading","fn":"loading","version":1}'
         to_0 = composes[0], composes[1][:-1] + b',"to":0}'
-        links = [(4 << 56 | 2 << 36, None), (5 << 56 | 2 << 36 | 3 << 32, b'{"stage":9}')]
-        rows = {"no promise": [promise, promise, composes, completes], "no stage": [promise, promise, to_0, completes, *links],
-                "no timer": [promise]}
+        links = [(CLAIM << 56 | 2 << 36, None), (FINISH << 56 | 2 << 36 | 3 << 32, b'{"stage":9}')]
+        rows = {"no promise": [promise, promise, composes, completes],
+                "no stage": [promise, promise, to_0, completes, *links], "no timer": [promise]}
         for name, words in rows.items():
-            desk = Desk(store, store.open(name, EMPTY), new_session())
-            desk.act(lambda desk, words=words: [(word | desk.who << 48, said) for word, said in words])
+            view = RowView(store, store.open(name, EMPTY), new_session())
+            view.act(lambda view, words=words: [(word | view.who << 48, said) for word, said in words])
         db = sqlite3.connect(f"{self.folder.name}/db", isolation_level=None)
         db.execute("insert into cf_timer values (3, 77, 0, 'by hand')")
         db.close()
@@ -2054,7 +2127,8 @@ class Processes(Case):
             self.assertEqual(service.request("no timer").supply(f.load, 1).result(20)["number"], 1)
             service.shutdown()
         told = "\n".join(logs.output)
-        for part in ("'no promise', place 3: stage 2 composes", "'no stage', place 6: its payload can't be read", "'no timer': place 2: a timer"):
+        for part in ("'no promise', place 3: stage 2 composes", "'no stage', place 6: its payload can't be read",
+                     "'no timer': place 2: a timer"):
             self.assertIn(part, told)
         self.assertNotIn("CRITICAL", told)
         store.close()
@@ -2072,7 +2146,8 @@ class Processes(Case):
         store.close()
 
     def test_the_worker_command(self):
-        for words in (["--store", "nothing://", "shared_functions"], ["--store", self.address, "json"], ["--store", self.address, "no.such.module"]):
+        for words in (["--store", "nothing://", "shared_functions"], ["--store", self.address, "json"],
+                      ["--store", self.address, "no.such.module"]):
             done = subprocess.run([sys.executable, "-m", "cf.worker", *words], stderr=subprocess.PIPE, timeout=60,
                                   env=dict(os.environ, PYTHONPATH=os.pathsep.join([str(HERE), str(HERE.parent)])))
             self.assertEqual(done.returncode, 2, done.stderr)
@@ -2101,7 +2176,8 @@ class Command(Case):
         program.chmod(0o755)
         self.assertEqual(len(json.loads(self.run_it("show", "order 17", "--page", str(program))[1])["events"]), 4)
         self.assertEqual(self.run_it("show", "order 17", "--page", str(program) + "?")[0], 1)
-        self.assertEqual(self.run_it("end", "order 17", "--cancel")[:2], (0, "order 17 is closed, 1 stages were cancelled\n"))
+        self.assertEqual(self.run_it("end", "order 17", "--cancel")[:2],
+                         (0, "order 17 is closed, 1 stages were cancelled\n"))
         self.assertNotIn("order 17", self.run_it("list")[1])
         self.assertIn("order 17", self.run_it("list", "--closed")[1])
         self.assertEqual(self.run_it("drop", "--days", "1")[1], "0 dropped\n")

@@ -3,8 +3,8 @@
 
     CF_LIBRARY=/path/to/libcf.so python3 clients/python/tests/test_steps.py [-v] [TEST ..]
 
-They are of the package beside this folder, or with CF_INSTALLED=1 of the one that is installed. conformance/python and desks.py have random
-loops by the same calls, beside the model.
+They are of the package beside this folder, or with CF_INSTALLED=1 of the one that is installed. conformance/clients/python-module and
+desks.py have random loops by the same calls, beside the model.
 """
 import os
 import sys
@@ -151,8 +151,8 @@ class Desks(unittest.TestCase):
         plan.stage(Form.SOURCE)
         with plan.open_desk(2, 8, 8) as desk:
             one, other = desk.callers
-            self.assertEqual((one.fail_as(0, cf.Failure.TIMED_OUT), other.fail_as(2, cf.Failure.BAD_ANSWER), other.fail_as(0, cf.Failure.BAD_ANSWER)),
-                             (True, True, False))
+            self.assertEqual((one.fail_as(0, cf.Failure.TIMED_OUT), other.fail_as(2, cf.Failure.BAD_ANSWER),
+                              other.fail_as(0, cf.Failure.BAD_ANSWER)), (True, True, False))
             with self.assertRaises(cf.Refused) as refused:
                 one.fail_as(0, 2)
             self.assertEqual(refused.exception.code, Code.NO_SUCH_NUMBER)
@@ -160,7 +160,8 @@ class Desks(unittest.TestCase):
             event = cf.events.FailAs(1, 2, cf.Failure.BAD_ANSWER)
             self.assertEqual((closed.records(1)[0].event, closed.records(1)[0].reply), (event, True))
             graph = closed.graph()
-        self.assertEqual([type(graph.outcome(stage).fault) for stage in range(3)], [cf.TimedOut, cf.TimedOut, cf.BadAnswer])
+        self.assertEqual([type(graph.outcome(stage).fault) for stage in range(3)],
+                         [cf.TimedOut, cf.TimedOut, cf.BadAnswer])
 
     def test_completes_a_row_up_to_what_is_refused(self):
         plan = cf.Plan()
@@ -175,7 +176,8 @@ class Desks(unittest.TestCase):
                     caller.complete_all(row)
                 self.assertEqual((misfit.exception.place, misfit.exception.code), (place, code))
             graph = desk.close().graph()
-        self.assertEqual([graph.outcome(stage) for stage in range(4)], [cf.Outcome(value, None) for value in (5, None, 7, 8)])
+        self.assertEqual([graph.outcome(stage) for stage in range(4)],
+                         [cf.Outcome(value, None) for value in (5, None, 7, 8)])
 
     def test_callers_of_two_desks_never_meet(self):
         """The library sees that they are of two only while nobody else has callers of the second, so it isn't asked."""

@@ -1,10 +1,12 @@
 #!/usr/bin/env python3
-"""What a type checker has to find of the public names of cf and cf.service: each line without a remark is right, and each remark is needed.
+"""What a type checker has to find of the public names of cf and cf.service: each line without a remark is right, and
+each remark is needed.
 
     mypy --strict clients/python/cf clients/python/tests/typed.py
 
-It is read and not run. `python3 clients/python/tests/typed.py` says which public function or method, and which attribute of a class that
-cf, cf.service or cf.shared exports, has its type left out, which mypy may guess and pyright reports.
+It is read and not run. `python3 clients/python/tests/typed.py` says which public function or method, and which
+attribute of a class that cf, cf.service or cf.shared exports, has its type left out, which mypy may guess and pyright
+reports.
 """
 import ast
 import asyncio
@@ -15,7 +17,8 @@ from typing import TYPE_CHECKING, Any, Iterator, List, Optional, Set, Tuple
 
 if TYPE_CHECKING:
     import cf
-    from cf.service import Flow, History, LoopService, Request, RequestFull, Service, Stage, describe_nothing, describe_types
+    from cf.service import (Flow, History, LoopService, Request, RequestFull, Service, Stage, describe_nothing,
+                            describe_types)
 
     def load(number: int) -> str: ...
 
@@ -28,8 +31,10 @@ if TYPE_CHECKING:
         mixed: Stage[float] = number.combine(other, lambda a, b: a + b)
         first: Stage[int] = number.either(text.then(size), lambda x: x)
         told: Stage[bool] = text.handle(lambda value, error: error is None)
-        same: Stage[str] = text.when_done(lambda value, error: None).recover(lambda error: str(error)).complete_on_timeout("late", 1)
-        deeper: Stage[int] = text.compose(lambda it: request.supply(size, it)).recover_compose(lambda error: request.supply(size, ""))
+        same: Stage[str] = text.when_done(lambda value, error: None).recover(str).complete_on_timeout("late", 1)
+        shown: Stage[str] = same.recover(lambda error: str(error))
+        composed: Stage[int] = text.compose(lambda it: request.supply(size, it))
+        deeper: Stage[int] = composed.recover_compose(lambda error: request.supply(size, ""))
         listed: Stage[List[int]] = request.gather(number, first)
         nothing: Stage[None] = request.all_of(number, text, other)
         one: Stage[float] = request.first_of(other, request.adopt(other))
@@ -62,8 +67,10 @@ if TYPE_CHECKING:
 
     def told(loop: asyncio.AbstractEventLoop, flow: Flow) -> None:
         service = Service(2, describe=describe_types)
-        requests: List[Request] = [service.request("r", describe=describe_nothing), service.start(flow, 1, describe=lambda value: type(value).__name__),
-                                   LoopService(loop, describe=str).request(describe=repr), flow.run(describe=describe_types)]
+        requests: List[Request] = [service.request("r", describe=describe_nothing),
+                                   service.start(flow, 1, describe=lambda value: type(value).__name__),
+                                   LoopService(loop, describe=str).request(describe=repr),
+                                   flow.run(describe=describe_types)]
         service.request("r", describe=len)  # type: ignore[arg-type]
         service.request("r", describe="types")  # type: ignore[arg-type]
         print(requests)
@@ -74,7 +81,7 @@ if TYPE_CHECKING:
         task: Optional[cf.Task] = told.task
         args: Tuple[Any, ...] = () if task is None else task.args
         again: cf.Stepped = ledger.step(3, task, cf.Thrown(4), first=1)
-        news: List[cf.Stage] = again.news
+        news: List[cf.StageState] = again.news
         ledger.apply_all([1, 2])
         ledger.restart()
         ledger.step(3, answer="x")  # type: ignore[arg-type]
@@ -93,26 +100,32 @@ def left_out(tree: ast.AST, name: str) -> Iterator[str]:
                 yield from left_out(node, f"{name}.{node.name}")
         elif isinstance(node, (ast.FunctionDef, ast.AsyncFunctionDef)):
             if not node.name.startswith("_") or node.name.startswith("__"):
-                given = [*node.args.posonlyargs, *node.args.args, *node.args.kwonlyargs, *filter(None, [node.args.vararg, node.args.kwarg])]
+                given = [*node.args.posonlyargs, *node.args.args, *node.args.kwonlyargs,
+                         *filter(None, [node.args.vararg, node.args.kwarg])]
                 bare = [it.arg for it in given if it.annotation is None and it.arg not in ("self", "cls")]
                 if bare or node.returns is None:
                     yield f"{name}.{node.name}: {', '.join(bare) or 'what it gives'}"
 
 
 def undeclared(cls: ast.ClassDef) -> Iterator[str]:
-    """The public attributes that a class sets, whose type is neither told nor that of a constant. What exceptions have is their own."""
-    told = {node.target.attr for node in ast.walk(cls) if isinstance(node, ast.AnnAssign) and isinstance(node.target, ast.Attribute)} | {"args"}
+    """The public attributes that a class sets, whose type is neither told nor that of a constant. What exceptions
+    have is their own."""
+    told = {node.target.attr for node in ast.walk(cls) if isinstance(node, ast.AnnAssign)
+            and isinstance(node.target, ast.Attribute)} | {"args"}
     for node in ast.walk(cls):
         if isinstance(node, ast.Assign) and not isinstance(node.value, ast.Constant):
             for it in [it for target in node.targets for it in getattr(target, "elts", [target])]:
-                if isinstance(it, ast.Attribute) and isinstance(it.value, ast.Name) and it.value.id == "self" and it.attr not in told and it.attr[0] != "_":
+                is_own = isinstance(it, ast.Attribute) and isinstance(it.value, ast.Name) and it.value.id == "self"
+                if is_own and it.attr not in told and it.attr[0] != "_":
                     yield it.attr
 
 
 def exported(package: Path) -> Set[str]:
     """What the packages name as theirs."""
-    assigned = [node for file in package.rglob("__init__.py") for node in ast.parse(file.read_text()).body if isinstance(node, ast.Assign)]
-    return {name for node in assigned if isinstance(node.targets[0], ast.Name) and node.targets[0].id == "__all__" for name in ast.literal_eval(node.value)}
+    assigned = [node for file in package.rglob("__init__.py") for node in ast.parse(file.read_text()).body
+                if isinstance(node, ast.Assign)]
+    return {name for node in assigned if isinstance(node.targets[0], ast.Name) and node.targets[0].id == "__all__"
+            for name in ast.literal_eval(node.value)}
 
 
 def main() -> int:

@@ -1,7 +1,7 @@
 """Futures that services use: any objects, exceptions, threads, `await` and timeouts, over the proved ledger.
 
-Each request has one history of all that happened to it, which is proved to be one order, and can be judged (`cf_look check`), done again
-(`cf run`) and drawn (`cf_look dot`).
+Each request has one history of all that happened to it, which is proved to be one order, and can be judged (`cf_look
+check`), done again (`cf run`) and drawn (`cf_look dot`).
 """
 from .flow import Flow, Step
 from .history import History, describe_all, describe_nothing, describe_types
@@ -11,5 +11,5 @@ from .service import Service
 from .stage import Stage
 from .words import RequestFull
 
-__all__ = ["Flow", "History", "LoopService", "Request", "RequestFull", "Service", "Stage", "Step", "describe_all", "describe_nothing",
-           "describe_types"]
+__all__ = ["Flow", "History", "LoopService", "Request", "RequestFull", "Service", "Stage", "Step", "describe_all",
+           "describe_nothing", "describe_types"]

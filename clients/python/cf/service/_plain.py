@@ -1,15 +1,18 @@
 """Requests and stages in Python, over the ledger's calls by ctypes. `native/_cf.c` has the same with the same names.
 
-A request has one lock. Each change is a word that the ledger does under it, and what the ledger tells of it, its stages show under the
-same lock: nobody reads what lies behind what he was told. Callbacks and threads are told once the lock is free. The only locks that are
-taken under it are those of stages' conditions, and under these no request's lock is ever taken.
+A request has one lock. Each change is a word that the ledger does under it, and what the ledger tells of it, its stages
+show under the same lock: nobody reads what lies behind what he was told. Callbacks and threads are told once the lock
+is free. The only locks that are taken under it are those of stages' conditions, and under these no request's lock is
+ever taken.
 
-A fork waits until no request is being changed, so that the child has whole ones, with locks that its own threads give back.
+A fork waits until no request is being changed, so that the child has whole ones, with locks that its own threads give
+back.
 
-What no lock can help is what comes up between two bytecodes: a signal's handler that raises in the main thread, or a `__del__` that calls
-the very request in which it was collected, as within concurrent.futures. The C module has neither.
+What no lock can help is what comes up between two bytecodes: a signal's handler that raises in the main thread, or a
+`__del__` that calls the very request in which it was collected, as within concurrent.futures. The C module has neither.
 
-The library is called by `PyDLL`, which keeps the interpreter's lock: to let it go and take it again costs more than a call does.
+The library is called by `PyDLL`, which keeps the interpreter's lock: to let it go and take it again costs more than a
+call does.
 """
 import ctypes as c
 import os
@@ -23,10 +26,11 @@ from typing import TYPE_CHECKING, Any, Callable, Dict, List, NamedTuple, Optiona
 
 from .._library import CALLS, CNews, CReply, CStage, library, path
 from ..plan import Plan
-from ..values import Form, check
-from .words import (ANSWER, ARGS, ATTACH, CANCEL, CANCELLED, CLAIM, COMPLETE, COMPOSE_FORMS, FAIL, FAIL_AS, FAILURES, FINISH, FIRST,
-                    FIRST_SOME, GIVES, GOT, IS_CLAIMED, IS_READY, IS_SETTLED, LINKS, MOST_STAGES, ONE, OUTCOME, PENDING, REPLY_NUMBERS,
-                    SECOND, SECOND_SOME, THIS_THREAD, THROWN, THROWS, TIMED_OUT, VALUE, RequestFull)
+from ..values import Code, Form, check
+from .words import (ANSWER, ARGS, ATTACH, CANCEL, CANCELLED, CLAIM, COMPLETE, COMPOSE_FORMS, FAIL, FAIL_AS, FAILURES,
+                    FINISH, FIRST, FIRST_SOME, GIVES, GOT, IS_CLAIMED, IS_READY, IS_SETTLED, LINKS, MOST_STAGES,
+                    NOT_YET, ONE, OUTCOME, PENDING, REPLY_NUMBERS, SECOND, SECOND_SOME, THIS_THREAD, THROWN, THROWS,
+                    TIMED_OUT, VALUE, RequestFull, Told, name_of)
 
 if TYPE_CHECKING:
     from .request import Works
@@ -87,7 +91,8 @@ class _Parents:
 
 
 class _Forks:
-    """Lets a fork wait until no request is being changed, and none is made. Stages know by `count` which process's threads wait for them."""
+    """Lets a fork wait until no request is being changed, and none is made. Stages know by `count` which process's
+    threads wait for them."""
 
     SECONDS = 10.0  # one that is changed for longer is the parent's alone
 
@@ -128,28 +133,16 @@ if hasattr(os, "register_at_fork"):
     os.register_at_fork(before=_forks.before, after_in_parent=_forks.in_parent, after_in_child=_forks.in_child)
 
 
-class Told(NamedTuple):
-    """The outcome of a stage, as the ledger told it."""
-
-    kind: int
-    wrapped: int
-    code: int
-    some: int
-    number: int
-
-
-_NOT_YET = Told(PENDING, 0, 0, 0, 0)
-
-
 class _Row:
-    """What stands beside a stage. Its future is held until it is settled, and may be missing of a planned one. `error` is the number of
-    the exception of a stage that timed out or has a bad answer, which its outcome doesn't tell; None where nobody gave one."""
+    """What stands beside a stage. Its future is held until it is settled, and may be missing of a planned one.
+    `error` is the number of the exception of a stage that timed out or has a bad answer, which its outcome doesn't
+    tell; None where nobody gave one."""
 
     __slots__ = ("form", "of", "name", "stage", "told", "error", "place", "running")
 
     def __init__(self, form: int, of: Sequence[int], name: str, stage: "Optional[Stage[Any]]" = None) -> None:
         self.form, self.of, self.name, self.stage = form, of, name, stage
-        self.told, self.place, self.running = _NOT_YET, 0, False
+        self.told, self.place, self.running = NOT_YET, 0, False
         self.error: Optional[int] = None
 
 
@@ -233,7 +226,8 @@ class StageCore(_Future):
             self._condition.notify_all()
 
     def _let_go(self) -> Optional[BaseException]:
-        """Calls the callbacks, and forgets them and what it needs no more. The first that was raised and isn't an `Exception`."""
+        """Calls the callbacks, and forgets them and what it needs no more. The first that was raised and isn't an
+        `Exception`."""
         callbacks, self._done_callbacks, first = self._done_callbacks, [], None
         for call in callbacks:
             try:
@@ -310,14 +304,16 @@ def _told(stage: Any) -> Told:
 class RequestCore:
     """A ledger, and the objects that it knows by numbers."""
 
-    __slots__ = ("_works", "_title", "_keeps", "_plan", "_lock", "_ledger", "_rows", "_room", "_values", "_errors", "_times", "_replies", "__weakref__")
+    __slots__ = ("_works", "_title", "_keeps", "_plan", "_lock", "_ledger", "_rows", "_room", "_values", "_errors",
+                 "_times", "_replies", "__weakref__")
 
-    def __init__(self, works: "Works", title: str, room: int, keeps: object = None, plan: Optional[PlanCore] = None) -> None:
+    def __init__(self, works: "Works", title: str, room: int, keeps: object = None,
+                 plan: Optional[PlanCore] = None) -> None:
         self._works, self._title, self._keeps, self._plan = works, title, keeps, plan
         self._lock: "threading.Lock | _Parents" = threading.Lock()
         self._rows: List[_Row] = [] if plan is None else [_Row(form, of, name) for form, of, _, name in plan.rows]
         for row, (kind, told) in zip(self._rows, () if plan is None else plan.start):
-            row.told = told if kind == IS_SETTLED else _NOT_YET
+            row.told = told if kind == IS_SETTLED else NOT_YET
         room = min(room, MOST_STAGES - len(self._rows))
         self._room = len(self._rows) + (room or plan is None)
         self._ledger = _Ledger(plan, self._room - len(self._rows))
@@ -333,8 +329,8 @@ class RequestCore:
     # One event, under the lock.
 
     def _apply(self, word: int, news: _News, error: Optional[int] = None) -> "c.Array[c.c_uint32]":
-        """Does the event of a word, shows what came of it, and adds that to the news. `error` is the number of the exception that stages
-        time out with by it, or have a bad answer with."""
+        """Does the event of a word, shows what came of it, and adds that to the news. `error` is the number of the
+        exception that stages time out with by it, or have a bad answer with."""
         ledger, rows = self._ledger, self._rows
         ledger.apply(word)
         self._times.append(monotonic_ns())
@@ -377,20 +373,21 @@ class RequestCore:
                 self._room += more
                 self._ledger.make_room(self._room)
                 return
-            if code != 16:  # CF_ROOM: with its edges the graph would be too large
+            if code != Code.ROOM:  # with its edges the graph would be too large
                 check(code)
             more //= 2
         raise RequestFull("a request has at most 4,096 stages")
 
     # What others call.
 
-    def _attach(self, form: int, first: "Optional[Stage[Any]]", second: "Optional[Stage[Any]]", call: Optional[Callable[..., Any]],
-                args: Optional[Tuple[Any, ...]], kwargs: Optional[Dict[str, Any]], name: Optional[str]) -> "Stage[Any]":
+    def _attach(self, form: int, first: "Optional[Stage[Any]]", second: "Optional[Stage[Any]]",
+                call: Optional[Callable[..., Any]], args: Optional[Tuple[Any, ...]], kwargs: Optional[Dict[str, Any]],
+                name: Optional[str]) -> "Stage[Any]":
         """A stage more, to at most two sources of this request. Below a composing one stands its relay, a source."""
         of = [source.number for source in (first, second) if source is not None]
         if any(source is not None and source.request is not self for source in (first, second)):
             raise TypeError("no stage of this request")
-        known = name if name is not None else _name(call)
+        known = name if name is not None else name_of(call)
         kind: "Type[Stage[Any]]" = _classes["stage"]
         stage, news = kind(self, 0), _News([], [])
         if call is not None:
@@ -403,14 +400,15 @@ class RequestCore:
             stage.number = number = len(self._rows)
             self._rows.append(_Row(form, of, known, stage))
             sources = (*of, 0, 0)
-            self._apply(ATTACH << 56 | _here.who << 48 | sources[0] << 36 | len(of) << 32 | form << 24 | sources[1] << 12 |
-                        (0 if call is None else number), news)
+            self._apply(ATTACH << 56 | _here.who << 48 | sources[0] << 36 | len(of) << 32 | form << 24 |
+                        sources[1] << 12 | (0 if call is None else number), news)
         self._tell(news)
         return stage
 
     def _change(self, kind: int, who: int, stage: "int | Stage[Any]", given: Any) -> bool:
-        """Completes, fails or cancels a stage, and says whether that did it. `given` is the value, the exception, or True where a stage
-        whose function runs isn't to be cancelled. By FAIL_AS it has a bad answer where the exception is a `BadAnswer`, and else times out."""
+        """Completes, fails or cancels a stage, and says whether that did it. `given` is the value, the exception, or
+        True where a stage whose function runs isn't to be cancelled. By FAIL_AS it has a bad answer where the
+        exception is a `BadAnswer`, and else times out."""
         number, news = stage if isinstance(stage, int) else stage.number, _News([], [])
         with self._lock:
             row = self._rows[number]
@@ -419,7 +417,8 @@ class RequestCore:
             error = self._code(given) if kind == FAIL_AS else None
             low = (self._number(given) if kind == COMPLETE else self._code(given) if kind == FAIL else
                    int(kind == FAIL_AS and isinstance(given, _classes["bad_answer"])) << 32)
-            did = self._apply(kind << 56 | (_here.who if who == THIS_THREAD else who) << 48 | number << 36 | low, news, error)[ANSWER]
+            did = self._apply(kind << 56 | (_here.who if who == THIS_THREAD else who) << 48 | number << 36 | low, news,
+                              error)[ANSWER]
         self._tell(news)
         return bool(did)
 
@@ -450,7 +449,7 @@ class RequestCore:
         while True:
             with self._lock:
                 code = _ready(self._ledger.at, 0, c.byref(ready))
-            if code == 17 or ready.value == last:  # CF_NOTHING, or one that couldn't be claimed
+            if code == Code.NOTHING or ready.value == last:  # or one that couldn't be claimed
                 break
             check(code)
             try:
@@ -460,7 +459,8 @@ class RequestCore:
         if first is not None:
             raise first
 
-    def _begin(self, stage: "Stage[Any]", who: int) -> Optional[Tuple[Callable[..., Any], Tuple[Any, ...], Dict[str, Any]]]:
+    def _begin(self, stage: "Stage[Any]",
+               who: int) -> Optional[Tuple[Callable[..., Any], Tuple[Any, ...], Dict[str, Any]]]:
         """Claims a stage. Its function with its arguments, or None where nobody is to call it."""
         news = _News([], [])
         with self._lock:
@@ -471,10 +471,12 @@ class RequestCore:
             return stage._call, args or self._args(stage, reply), kwargs
 
     def _end(self, stage: "Stage[Any]", who: int, kind: int, given: Any) -> "Optional[Stage[Any]]":
-        """Finishes a stage with a value, an exception or a lower stage. A stage that became ready by that and isn't handed to a thread."""
+        """Finishes a stage with a value, an exception or a lower stage. A stage that became ready by that and isn't
+        handed to a thread."""
         news = _News([], [])
         with self._lock:
-            low = self._number(given) if kind == GIVES else THROWS << 32 | self._code(given) if kind == THROWS else LINKS << 32 | given.number
+            low = (self._number(given) if kind == GIVES else THROWS << 32 | self._code(given) if kind == THROWS else
+                   LINKS << 32 | given.number)
             error = self._rows[given.number].error if kind == LINKS else None  # what it links to may have ended
             self._apply(FINISH << 56 | who << 48 | stage.number << 36 | low, news, error)
         following = self._stage(news.ready.pop(0)) if news.ready else None
@@ -516,7 +518,8 @@ class RequestCore:
         return stage
 
     def _set_running(self, stage: "Stage[Any]") -> Optional[bool]:
-        """Lets nobody cancel it any more but `abandon`. None where it is settled otherwise or runs, else whether it does now."""
+        """Lets nobody cancel it any more but `abandon`. None where it is settled otherwise or runs, else whether it
+        does now."""
         with self._lock:
             row = self._rows[stage.number]
             if row.told.kind == CANCELLED and not row.told.wrapped:
@@ -538,12 +541,12 @@ class RequestCore:
             told = array("I")
             for number, row in enumerate(self._rows):
                 told.extend((row.place, number, *row.told[:4], row.told.number % 2**32))
-            return (self._ledger.words(len(self._times)), self._times[:], bytes(self._replies), told, [row.name for row in self._rows],
-                    self._values[:], self._errors[:])
+            return (self._ledger.words(len(self._times)), self._times[:], bytes(self._replies), told,
+                    [row.name for row in self._rows], self._values[:], self._errors[:])
 
     def _tell(self, news: _News) -> None:
-        """Tells threads of stages that are ready, and callbacks of those that were settled. The lock is free. What a callback raises is
-        raised once all is told."""
+        """Tells threads of stages that are ready, and callbacks of those that were settled. The lock is free. What a
+        callback raises is raised once all is told."""
         first: Optional[BaseException] = None
         for number in news.ready:  # (which grows)
             stage = self._stage(number)
@@ -567,7 +570,8 @@ class RequestCore:
         kind = reply[ARGS]
         if kind == GOT:
             got = Told(*reply[OUTCOME])
-            error = None if got.kind == VALUE else self._error(got, self._error_of_sources(self._rows[stage.number], got.kind))
+            own = self._rows[stage.number]
+            error = None if got.kind == VALUE else self._error(got, self._error_of_sources(own, got.kind))
             if self._rows[stage.number].form in _TOLD_FAULT_ALONE:
                 return (error,)
             return (self._value(got.some, got.number) if error is None else None, error)
@@ -578,11 +582,13 @@ class RequestCore:
         return self._values[number] if some else None
 
     def _error(self, told: Told, error: Optional[int]) -> BaseException:
-        """The exception of an outcome that is a fault, with the number that stands beside it. Where there is none, it is made."""
+        """The exception of an outcome that is a fault, with the number that stands beside it. Where there is none,
+        it is made."""
         number = told.code if told.kind == THROWN else error
         if number is not None:
             return self._errors[number]
-        made: BaseException = (CancelledError if told.kind == CANCELLED else TimeoutError if told.kind == TIMED_OUT else _classes["bad_answer"])()
+        made: BaseException = (CancelledError if told.kind == CANCELLED else TimeoutError if told.kind == TIMED_OUT
+                               else _classes["bad_answer"])()
         return made
 
     def _number(self, value: Any) -> int:
@@ -595,8 +601,3 @@ class RequestCore:
     def _code(self, error: BaseException) -> int:
         self._errors.append(error)
         return len(self._errors) - 1
-
-
-def _name(call: Any) -> str:
-    """What histories call a function: its qualified name, that of what a partial calls, or that of its class."""
-    return str(getattr(getattr(call, "func", call), "__qualname__", type(call).__name__))

@@ -10,7 +10,7 @@ from ..values import Form
 from ._core import PlanCore
 from .history import Describe
 from .request import Request
-from .words import COMPLETE, FIRST_WORKER, MOST_STAGES, THIS_THREAD, RequestFull
+from .words import COMPLETE, FIRST_WORKER, MOST_STAGES, THIS_THREAD, RequestFull, name_of
 from .works import Here
 
 if TYPE_CHECKING:
@@ -26,8 +26,11 @@ if hasattr(os, "register_at_fork"):
 
 
 class Step(Generic[T]):
-    """A stage of a flow. Its methods are those of `Stage` that attach one, and plan one more step. `request[step]` is its stage in a
-    request of the flow."""
+    """A step of a flow: a stage that each request of the flow will have. `request[step]` is that stage.
+
+    Its methods are the ones of `Stage` that attach a stage. Each adds a step to the flow and returns that; nothing
+    runs yet. They raise `RuntimeError` once a request of the flow was begun, `RequestFull` where the flow has 4,096
+    steps, and `ValueError` for a step of another flow."""
 
     def __init__(self, flow: "Flow", number: int) -> None:
         self.flow: "Flow" = flow
@@ -44,40 +47,47 @@ class Step(Generic[T]):
         return self
 
     def then(self, fn: Callable[[T], U]) -> "Step[U]":
-        """What the function gives of the value."""
+        """As `Stage.then`."""
         return self.flow._step(Form.APPLY, (self,), fn)
 
     def compose(self, fn: "Callable[[T], concurrent.futures.Future[U]]") -> "Step[U]":
-        """What the future gives that the function gives of the value."""
+        """As `Stage.compose`. It takes two steps."""
         return self.flow._composing(Form.COMPOSE, self, fn)
 
     def combine(self, other: "Step[U]", fn: Callable[[T, U], V]) -> "Step[V]":
-        """What the function gives of both values."""
+        """As `Stage.combine`."""
         return self.flow._step(Form.COMBINE, (self, other), fn)
 
     def either(self, other: "Step[T]", fn: Callable[[T], U]) -> "Step[U]":
-        """What the function gives of the value that is there first."""
+        """As `Stage.either`."""
         return self.flow._step(Form.APPLY_EITHER, (self, other), fn)
 
     def handle(self, fn: Callable[[Optional[T], Optional[BaseException]], U]) -> "Step[U]":
-        """What the function gives of the value or the exception; the other is None."""
+        """As `Stage.handle`."""
         return self.flow._step(Form.HANDLE, (self,), fn)
 
     def when_done(self, fn: Callable[[Optional[T], Optional[BaseException]], object]) -> "Step[T]":
-        """The same value or exception, once the function was called with it."""
+        """As `Stage.when_done`."""
         return self.flow._step(Form.WHEN_COMPLETE, (self,), fn)
 
     def recover(self, fn: Callable[[BaseException], T]) -> "Step[T]":
-        """The value, or what the function gives of the exception."""
+        """As `Stage.recover`."""
         return self.flow._step(Form.EXCEPTIONALLY, (self,), fn)
 
     def recover_compose(self, fn: "Callable[[BaseException], concurrent.futures.Future[T]]") -> "Step[T]":
-        """The value, or what the future gives that the function gives of the exception."""
+        """As `Stage.recover_compose`. It takes two steps."""
         return self.flow._composing(Form.EXCEPTIONALLY_COMPOSE, self, fn)
 
     def again(self, times: int = 1) -> "Step[T]":
-        """So many further tries, each a step, where the process that ran it is gone: a service with a store has such. What the function did
-        before may be done twice then, unless it is transactional."""
+        """Plans further tries, for the case that the process that runs the function dies. That matters to services with
+        a store; elsewhere the further tries pass on what there is. A function that isn't transactional may have done
+        its work before its process died, and does it once more with each try.
+
+        Args:
+            times: How many further tries, each of which is a step of its own.
+
+        Returns:
+            The last try. It passes on the value of an earlier one."""
         step, name = self, self.name
         for k in range(times):
             step = self.flow._step(Form.EXCEPTIONALLY, (step,), Again(self.number), f"{name} again")
@@ -85,7 +95,8 @@ class Step(Generic[T]):
 
 
 class Again:
-    """A further try of a step whose worker is gone. Where no process can outlive another, none is: the exception stays."""
+    """A further try of a step whose worker is gone. Where no process can outlive another, none is: the exception
+    stays."""
 
     __qualname__ = "again"
 
@@ -106,8 +117,8 @@ class Flow:
         request = service.start(flow, 17)        # completes the promises in their order
         print(request[price].result())
 
-    It may be added to until the first request of it is begun, and is the same from then on; a step more raises `RuntimeError` then. It
-    has at most 4,096 steps, else `RequestFull`."""
+    Steps may be added until the first request of the flow is begun. From then on a further step raises
+    `RuntimeError`. A flow has at most 4,096 steps; one more raises `RequestFull`."""
 
     def __init__(self, name: str = "flow") -> None:
         self.name: str = name
@@ -116,46 +127,60 @@ class Flow:
         self._plan: Optional[PlanCore] = None
 
     def promise(self, name: str = "promise") -> "Step[Any]":
-        """What somebody completes it with."""
+        """A step without a function: `Service.start` and `run` take its value, or somebody settles its stage later."""
         step: Step[Any] = self._step(Form.SOURCE, (), None, name)
         self._promises.append(step.number)
         return step
 
     def supply(self, fn: Callable[..., T], /, *args: Any, **kwargs: Any) -> "Step[T]":
-        """What the function gives, called with these arguments."""
+        """A step whose function is called with these arguments as soon as a request is begun."""
         return self._step(Form.SUPPLY, (), functools.partial(fn, *args, **kwargs) if args or kwargs else fn)
 
     def all_of(self, *of: "Step[Any]") -> "Step[None]":
-        """None, once all have values; else the exception of the first in this order that has one. One step."""
+        """As `Request.all_of`. It takes one step, whatever the number of steps that it waits for."""
         return self._step(Form.ALL_OF, of, None, "all of")
 
     def first_of(self, *of: "Step[T]") -> "Step[T]":
-        """What the first has that is settled, be it an exception. One step. Of none, `ValueError`."""
+        """As `Request.first_of`. It takes one step. `ValueError` if no step is given."""
         if not of:
             raise ValueError("of no stages none is the first")
         return self._step(Form.ANY_OF, of, None, "first of")
 
     def gather(self, *of: "Step[T]") -> "Step[List[T]]":
-        """The values of all, in this order. Of n steps it takes 2 n - 1."""
+        """As `Request.gather`. For n steps it takes 2 n - 1. `ValueError` if no step is given."""
         if not of:
             raise ValueError("a list of nothing needs no step")
         row: List[Step[List[T]]] = [step.then(_alone).named("gather") for step in of]
         while len(row) > 1:
             pairs = [row[k:k + 2] for k in range(0, len(row), 2)]
-            row = [pair[0].combine(pair[1], operator.add).named("gather") if len(pair) == 2 else pair[0] for pair in pairs]
+            row = [pair[0].combine(pair[1], operator.add).named("gather") if len(pair) == 2 else pair[0]
+                   for pair in pairs]
         return row[0]
 
     def run(self, *given: Any, name: str = "", describe: Optional[Describe] = None) -> Request:
-        """A request of the flow, of which this thread runs all that becomes ready, and comes back once nothing is. It is the quickest way.
-        Stages may be attached to it later, and are run by nobody."""
+        """Does the flow on this thread: calls all functions that become ready, and returns once none is. It is the
+        quickest way to do a flow. There is no clock, so `or_timeout` raises `RuntimeError`. Stages that are attached
+        later are run by nobody.
+
+        Args:
+            given: The values of the promises, in their order.
+            name: What histories call the request. By default the flow's name.
+            describe: What its histories tell of values and exceptions.
+
+        Returns:
+            The request; `request[step].result()` is what a step came to.
+
+        Raises:
+            ValueError: More values are given than there are promises."""
         request = self._start(Request, Here(), name or self.name, None, given)._describing(describe)
         request._work(FIRST_WORKER)
         return request
 
-    def _step(self, form: Form, of: "Sequence[Step[Any]]", fn: Optional[Callable[..., Any]], name: str = "") -> "Step[Any]":
+    def _step(self, form: Form, of: "Sequence[Step[Any]]", fn: Optional[Callable[..., Any]],
+              name: str = "") -> "Step[Any]":
         if any(step.flow is not self for step in of):
             raise ValueError("a step of another flow")
-        row = (int(form), tuple(step.number for step in of), fn, name or _name(fn))
+        row = (int(form), tuple(step.number for step in of), fn, name or name_of(fn))
         with _begins:
             number = len(self._rows)
             if self._plan is not None:
@@ -195,7 +220,3 @@ class Flow:
 
 def _alone(value: T) -> List[T]:
     return [value]
-
-
-def _name(call: Any) -> str:
-    return str(getattr(getattr(call, "func", call), "__qualname__", type(call).__name__))

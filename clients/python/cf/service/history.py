@@ -7,8 +7,9 @@ from typing import TYPE_CHECKING, Any, Callable, Dict, Iterator, List, NamedTupl
 
 from ..events import Attach, Cancel, Claim, Complete, Event, Fail, FailAs, Finish, Tick, event_of
 from ..values import Failure, Link, Thrown
-from .words import (ANSWER, ARGS, BAD_ANSWER, CANCELLED, CLIENT, CLOCK, FIRST, FIRST_SOME, FIRST_WORKER, FORMS, GOT, NUMBER, ONE, OUTCOME,
-                    PENDING, RELAY, REPLY_NUMBERS, SECOND, SECOND_SOME, THROWN, TIMED_OUT, VALUE)
+from .words import (ANSWER, ARGS, BAD_ANSWER, CANCELLED, CLIENT, CLOCK, FIRST, FIRST_SOME, FIRST_WORKER, FORMS, GOT,
+                    NUMBER, ONE, OUTCOME, PENDING, RELAY, REPLY_NUMBERS, SECOND, SECOND_SOME, THROWN, TIMED_OUT, VALUE,
+                    Told)
 
 if TYPE_CHECKING:
     from ._plain import PlanCore
@@ -19,22 +20,20 @@ FORGING = ("Cc", "Cf", "Cs", "Zl", "Zp")  # the categories of characters that co
 SHORT = {"\n": "\\n", "\r": "\\r", "\t": "\\t"}
 Describe = Callable[[object], str]  # what is told of a value or an exception
 CALLERS = {CLIENT: "caller", CLOCK: "clock", RELAY: "relay"}
-CAUSES = {CANCELLED: "cancelled", TIMED_OUT: "timeout", BAD_ANSWER: "badanswer"}  # of faults without a code, as scripts name them
-
-
-class Told(NamedTuple):
-    """The outcome of a stage, in the library's numbers."""
-
-    kind: int
-    wrapped: int
-    code: int
-    some: int
-    number: int
+# of faults without a code, as scripts name them
+CAUSES = {CANCELLED: "cancelled", TIMED_OUT: "timeout", BAD_ANSWER: "badanswer"}
 
 
 class Entry(NamedTuple):
-    """An event at its place, counted from 1, when it was done in seconds from the first on, its word and its reply as it came, and which
-    stages were told to be settled by it."""
+    """One event of a history.
+
+    Attributes:
+        place: Its place, counted from 1.
+        at: When it was done, in seconds since the first event.
+        word: Its word of 64 bits.
+        event: The same as a class of `cf.events`.
+        reply: The numbers of the reply, at the places of words.py.
+        told: Which stages it settled, and with what."""
 
     place: int
     at: float
@@ -91,17 +90,25 @@ def _by(describe: Describe, value: object) -> str:
 
 
 class History:
-    """The events of a request in their one order, with all that callers were told. It stays as it is while the request goes on.
+    """The events of a request in their one order, with all that callers were told. It stays as it is while the request
+    goes on.
 
-    `print(history)` tells it in words, a line for each event; `line()` is the same in one line, for a log. `account()` is what
-    `cf_look check` judges, `page()` what a browser shows of it, `script()` what `cf run` does again and `cf_look dot` draws.
+    `print(history)` tells it in words, a line for each event, and `line()` does so in one line, for a log. `account()`
+    is for `cf_look check`, `page()` for a browser, `script()` for `cf run` and `cf_look dot`.
 
-    What is told of values and exceptions, the request or its service chooses by a function: `describe_all`, `describe_types`,
-    `describe_nothing`, or another. With any but the first `values` and `errors` are these texts, and no value is kept."""
+    What is told of values and exceptions depends on the `describe` of the request or of its service. With any but
+    `describe_all`, `values` and `errors` are texts, and no value is kept.
+
+    Attributes:
+        name: The request's name.
+        names: The name of each stage, by its number.
+        words: The word of each event.
+        values, errors: What the numbers in the words stand for."""
 
     _unit, _width = "events", 12
 
-    def __init__(self, name: str, plan: "Optional[PlanCore]", facts: Tuple[Any, Any, Any, Any, List[str], List[Any], List[BaseException]]) -> None:
+    def __init__(self, name: str, plan: "Optional[PlanCore]",
+                 facts: Tuple[Any, Any, Any, Any, List[str], List[Any], List[BaseException]]) -> None:
         words, times, replies, told, names, values, errors = facts
         self.name: str = name
         self.names: List[str] = names
@@ -109,7 +116,9 @@ class History:
         self.errors: List[Any] = errors
         self._describe: Describe = describe_all
         self.words: List[int] = _numbers("Q", words)
-        self.planned: List[Tuple[int, Tuple[int, ...], bool]] = [] if plan is None else [(form, of, call is not None) for form, of, call, _ in plan.rows]
+        rows = [] if plan is None else plan.rows
+        self.planned: List[Tuple[int, Tuple[int, ...], bool]] = [
+            (form, of, call is not None) for form, of, call, _ in rows]
         self._times, self._replies = _numbers("q", times), _numbers("I", replies)
         self._told: Dict[int, List[Tuple[int, Told]]] = {}
         self._entries: Optional[List[Entry]] = None
@@ -121,7 +130,8 @@ class History:
     def _described(self, describe: Describe) -> "History":
         """The same with what a function tells of values and exceptions. It is called here, and no lock is held."""
         if describe is not describe_all:
-            self.values, self.errors = [_by(describe, it) for it in self.values], [_by(describe, it) for it in self.errors]
+            self.values = [_by(describe, it) for it in self.values]
+            self.errors = [_by(describe, it) for it in self.errors]
             self._describe = describe
         return self
 
@@ -130,8 +140,8 @@ class History:
         if self._entries is None:
             first = self._times[0] if self._times else 0
             replies = [tuple(self._replies[k:k + REPLY_NUMBERS]) for k in range(0, len(self._replies), REPLY_NUMBERS)]
-            self._entries = [Entry(k + 1, (self._times[k] - first) / 1e9, word, event_of(word), replies[k], self._told.get(k + 1, []))
-                             for k, word in enumerate(self.words)]
+            self._entries = [Entry(k + 1, (self._times[k] - first) / 1e9, word, event_of(word), replies[k],
+                                   self._told.get(k + 1, [])) for k, word in enumerate(self.words)]
         return self._entries
 
     # In words.
@@ -141,7 +151,8 @@ class History:
 
     def line(self) -> str:
         """All in one line."""
-        return "; ".join(" ".join(filter(None, (at.strip(), text.replace(";", "\\u003b")))) for at, text in self._parts())
+        return "; ".join(" ".join(filter(None, (at.strip(), text.replace(";", "\\u003b"))))
+                         for at, text in self._parts())
 
     def lines(self) -> List[str]:
         """A line for each event, and one for each stage that was settled by it."""
@@ -166,19 +177,26 @@ class History:
             behind = " behind " + " and ".join(map(self.stage, event.of)) if event.of else ""
             return f"{who} attaches {self.stage(reply[NUMBER])}, {FORMS[event.form]}{behind}"
         if isinstance(event, Claim):
-            said = ("is granted", "is too late, it is settled", "is too late, another has it", "is too early")[reply[ANSWER]]
-            return f"{who} claims {self.stage(event.stage)} and {said}{'' if reply[ANSWER] else self._called_with(reply)}"
+            said = ("is granted", "is too late, it is settled", "is too late, another has it",
+                    "is too early")[reply[ANSWER]]
+            called = "" if reply[ANSWER] else self._called_with(reply)
+            return f"{who} claims {self.stage(event.stage)} and {said}{called}"
         if isinstance(event, Finish):
             said = ("", ", too late", ", which it had not claimed")[reply[ANSWER]]
             return f"{who} finishes {self.stage(event.stage)}, {self._answer(event)}{said}"
         if isinstance(event, Tick):
             return f"{who} lets it be {event.now}"
-        did = (f"completes {self.stage(event.stage)} with {self.value(event.value)}" if isinstance(event, Complete) else
-               f"fails {self.stage(event.stage)} with {self.error(event.code)}" if isinstance(event, Fail) else
-               f"times out {self.stage(event.stage)}" if isinstance(event, FailAs) and event.failure == Failure.TIMED_OUT else
-               f"fails {self.stage(event.stage)} with a bad answer" if isinstance(event, FailAs) else
-               f"cancels {self.stage(event.stage)}")
-        return f"{who} {did}{'' if reply[ANSWER] else ', too late'}"
+        return f"{who} {self._did(event)}{'' if reply[ANSWER] else ', too late'}"
+
+    def _did(self, event: "Complete | Fail | FailAs | Cancel") -> str:
+        stage = self.stage(event.stage)
+        if isinstance(event, Complete):
+            return f"completes {stage} with {self.value(event.value)}"
+        if isinstance(event, Fail):
+            return f"fails {stage} with {self.error(event.code)}"
+        if isinstance(event, FailAs):
+            return f"times out {stage}" if event.failure == Failure.TIMED_OUT else f"fails {stage} with a bad answer"
+        return f"cancels {stage}"
 
     def caller(self, who: int) -> str:
         """What a caller is called."""
@@ -203,14 +221,17 @@ class History:
         """What a stage ended in."""
         if told.kind == VALUE:
             return self.value(told.number if told.some else None)
-        return self.error(told.code) if told.kind == THROWN else {CANCELLED: "cancelled", BAD_ANSWER: "a bad answer"}.get(told.kind, "timeout")
+        if told.kind == THROWN:
+            return self.error(told.code)
+        return {CANCELLED: "cancelled", BAD_ANSWER: "a bad answer"}.get(told.kind, "timeout")
 
     def ends(self, entry: Entry) -> List[Tuple[int, str]]:
-        """Which stages were settled by an event, and what they ended in. A fault that is wrapped is one that the stage's function raised, or
-        one that it took from another stage."""
+        """Which stages were settled by an event, and what they ended in. A fault that is wrapped is one that the
+        stage's function raised, or one that it took from another stage."""
         event = entry.event
         own = event.stage if isinstance(event, Finish) and not isinstance(event.answer, Link) else None
-        return [(stage, self.outcome(told) + (", passed on" if told.wrapped and stage != own else "")) for stage, told in entry.told]
+        return [(stage, self.outcome(told) + (", passed on" if told.wrapped and stage != own else ""))
+                for stage, told in entry.told]
 
     def _called_with(self, reply: Sequence[int]) -> str:
         many = reply[ARGS]
@@ -230,11 +251,13 @@ class History:
     # For the programs.
 
     def account(self) -> str:
-        """What `cf_look check` judges, a line of JSON: the events, each caller's replies, what it was told of stages, and what these hold in
-        the end. All of it as it was told, and nothing done again. What `cf_look page` shows besides isn't judged: names, times in nanoseconds
-        from the first event on, values and exceptions as texts."""
+        """What `cf_look check` judges, as a line of JSON: the events, each caller's replies, what it was told of
+        stages, and what these hold in the end. It is all as it was told; nothing is done again for it. Names, times
+        (in nanoseconds since the first event), values and exceptions (as texts) are there for `cf_look page`, and
+        aren't judged."""
         entries = self.entries()
-        callers: List[List[List[Any]]] = [[] for _ in range(1 + max((entry.event.who for entry in entries), default=-1))]
+        last_caller = max((entry.event.who for entry in entries), default=-1)
+        callers: List[List[List[Any]]] = [[] for _ in range(1 + last_caller)]
         last = dict(self._told.get(0, []))
         for entry in entries:
             own = callers[entry.event.who]
@@ -243,40 +266,56 @@ class History:
             last.update(entry.told)
         plan = {"cf": 2, "room": len(self.names) - len(self.planned), "stages": self._stages()}
         outcomes = [_outcome_text(last[stage]) if stage in last else "pending" for stage in range(len(self.names))]
-        return json.dumps({"plan": plan, "functions": max(len(self.names), 1), "events": [str(word) for word in self.words],
-                           "callers": callers, "outcomes": outcomes, **self._for_people(len(callers))})
+        return json.dumps({"plan": plan, "functions": max(len(self.names), 1),
+                           "events": [str(word) for word in self.words], "callers": callers, "outcomes": outcomes,
+                           **self._for_people(len(callers))})
 
     def _for_people(self, callers: int) -> Dict[str, Any]:
         return {"name": _whole(self.name), "names": [_whole(name[:LONGEST_NAME]) for name in self.names],
-                "times": [moment - self._times[0] for moment in self._times], "lanes": [self.caller(who) for who in range(callers)],
-                "values": [_whole(self._text(value)) for value in self.values], "errors": [_whole(self._text(error)) for error in self.errors]}
+                "times": [moment - self._times[0] for moment in self._times],
+                "lanes": [self.caller(who) for who in range(callers)],
+                "values": [_whole(self._text(value)) for value in self.values],
+                "errors": [_whole(self._text(error)) for error in self.errors]}
 
     def page(self, program: str = "cf_look") -> str:
-        """A page for a browser, which loads nothing, as the program cf_look makes it of the account. FileNotFoundError where the program isn't
-        there, subprocess.CalledProcessError where it fails."""
-        done = subprocess.run([program, "page"], input=self.account(), stdout=subprocess.PIPE, check=True, encoding="utf-8")
+        """A page for a browser, which loads nothing. The program cf_look makes it of the account.
+
+        Args:
+            program: The path of cf_look.
+
+        Raises:
+            FileNotFoundError: The program isn't there.
+            subprocess.CalledProcessError: The program fails."""
+        done = subprocess.run([program, "page"], input=self.account(), stdout=subprocess.PIPE, check=True,
+                              encoding="utf-8")
         return done.stdout
 
     def script(self, most: Optional[int] = None) -> str:
-        """What `cf run` does again and `cf_look dot` draws, a line of JSON: the first events, or all. It is of version 3 where one of them
-        lets a stage time out or have a bad answer, else of version 2."""
+        """What `cf run` does again and `cf_look dot` draws, as a line of JSON. It is of version 3 if one of the events
+        lets a stage time out or have a bad answer, else of version 2.
+
+        Args:
+            most: How many of the first events it has. By default all."""
         events = [entry.event for entry in self.entries()[:most]]
         version = 3 if any(isinstance(event, FailAs) for event in events) else 2
         return json.dumps({"cf": version, "room": len(self.names) - len(self.planned), "stages": self._stages(),
                            "steps": [_step(event) for event in events]})
 
     def report(self) -> str:
-        """What `cf run` prints of the script: the replies as they came, and what stages hold in the end."""
+        """What `cf run` prints of the script, told from what callers were told: the replies as they came, and what
+        stages hold in the end."""
         entries = self.entries()
         last = dict(self._told.get(0, []))
         for entry in entries:
             last.update(entry.told)
         lines = [_reply_text(entry.event, entry.reply) for entry in entries]
-        lines += [f"stage {stage} {_outcome_text(last[stage]) if stage in last else 'pending'}" for stage in range(len(self.names))]
+        lines += [f"stage {stage} {_outcome_text(last[stage]) if stage in last else 'pending'}"
+                  for stage in range(len(self.names))]
         return "".join(line + "\n" for line in lines)
 
     def _stages(self) -> List[Dict[str, Any]]:
-        return [_shape(form, of, number if has_function else None) for number, (form, of, has_function) in enumerate(self.planned)]
+        return [_shape(form, of, number if has_function else None)
+                for number, (form, of, has_function) in enumerate(self.planned)]
 
 
 def _numbers(kind: str, given: Any) -> List[int]:

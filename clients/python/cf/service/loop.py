@@ -1,4 +1,5 @@
-"""Functions on an event loop, in place of threads: they may be coroutine functions, and the loop's clock is the clock."""
+"""Functions on an event loop, in place of threads: they may be coroutine functions, and the loop's clock is the
+clock."""
 import asyncio
 import contextvars
 import functools
@@ -8,28 +9,34 @@ from types import FunctionType
 from typing import Any, Awaitable, Callable, Dict, List, Optional, Set, Tuple, cast
 
 from ._core import RequestCore
-from .flow import Flow, _name
+from .flow import Flow
 from .history import Describe, describe_all
 from .request import Request
 from .service import ROOM
 from .stage import Stage
-from .words import COMPOSE_FORMS, FIRST_WORKER, GIVES, THROWS
+from .words import COMPOSE_FORMS, FIRST_WORKER, GIVES, THROWS, name_of
 
 
 class LoopService:
-    """Requests whose functions one event loop calls, one at a time; a coroutine function's work stands still at its awaits. Any thread may
-    complete stages. A coroutine whose stage is settled meanwhile, as by a timeout, is cancelled.
+    """Requests whose functions one event loop calls, one at a time. A function may be a coroutine function; others run
+    while it awaits something. Any thread may complete stages. If the stage of a coroutine is settled meanwhile, as by a
+    timeout, the coroutine is cancelled.
 
-    A function has the context variables of where it was attached, as with `call_soon`, those of a flow of where the request was begun.
-    `KeyboardInterrupt` and `SystemExit` of a function are its stage's, and leave the loop, too, as those of asyncio's tasks do.
+    A function has the context variables of the place where it was attached, as with `call_soon`; a flow's function has
+    those of the place where the request was begun. If a function raises `KeyboardInterrupt` or `SystemExit`, its stage
+    fails with that, and it leaves the loop, too, as with asyncio's tasks.
 
         service = LoopService(asyncio.get_running_loop())
         request = service.request("order 17")
         mail = request.supply(load_user, 3).then(address).or_timeout(2)    # both may be `async def`
         print(await mail)
 
-    Types: a coroutine function's stage is one of what it returns, which type checkers take for one of the coroutine; `typing.cast` helps.
-    """
+    Types: the stage of a coroutine function has the type of what the coroutine returns. Type checkers take it for a
+    stage of the coroutine itself; `typing.cast` helps.
+
+    Args:
+        loop: The loop that calls the functions, and whose clock is the clock.
+        describe: As of `Service`."""
 
     def __init__(self, loop: asyncio.AbstractEventLoop, *, describe: Describe = describe_all) -> None:
         self._works = _LoopWorks(loop, describe)
@@ -41,7 +48,8 @@ class LoopService:
 
     def start(self, flow: Flow, *given: Any, name: str = "", describe: Optional[Describe] = None) -> Request:
         """As `Service.start`."""
-        return flow._start(_Request, self._works, name or f"{flow.name} {next(self._requests)}", self, given)._describing(describe)
+        return flow._start(_Request, self._works, name or f"{flow.name} {next(self._requests)}", self,
+                           given)._describing(describe)
 
 
 class _Request(Request):
@@ -54,12 +62,14 @@ class _Request(Request):
         if self._plan is not None:
             self._context = contextvars.copy_context()
 
-    def _attach(self, form: int, first: "Optional[Stage[Any]]", second: "Optional[Stage[Any]]", call: Optional[Callable[..., Any]],
-                args: Optional[Tuple[Any, ...]], kwargs: Optional[Dict[str, Any]], name: Optional[str]) -> "Stage[Any]":
+    def _attach(self, form: int, first: "Optional[Stage[Any]]", second: "Optional[Stage[Any]]",
+                call: Optional[Callable[..., Any]], args: Optional[Tuple[Any, ...]], kwargs: Optional[Dict[str, Any]],
+                name: Optional[str]) -> "Stage[Any]":
         if call is None:
             return RequestCore._attach(self, form, first, second, None, args, kwargs, name)
-        known = name if name is not None else call.__qualname__ if type(call) is FunctionType else _name(call)
-        return RequestCore._attach(self, form, first, second, _Within(contextvars.copy_context().run, call), args, kwargs, known)
+        known = name if name is not None else call.__qualname__ if type(call) is FunctionType else name_of(call)
+        return RequestCore._attach(self, form, first, second, _Within(contextvars.copy_context().run, call), args,
+                                   kwargs, known)
 
 
 class _Within(functools.partial):  # type: ignore[type-arg]
@@ -138,7 +148,8 @@ class _LoopWorks:
                 stage = _ended(stage, given)
 
     def _raised(self, stage: "Stage[Any]", error: BaseException) -> "Optional[Stage[Any]]":
-        """Finishes a stage whose function raised. What leaves a loop as a task raises it does so here, too, once no stage is left behind."""
+        """Finishes a stage whose function raised. What leaves a loop as a task raises it does so here, too, once no
+        stage is left behind."""
         following = stage.request._end(stage, FIRST_WORKER, THROWS, error)
         if not isinstance(error, (KeyboardInterrupt, SystemExit)):
             return following

@@ -1,7 +1,8 @@
 """Relays: stages of a request that end as a future does that stands elsewhere.
 
-A callback can't be taken back from a future of `concurrent.futures`. So a future has one for all its relays, a row, from which each can be
-taken out by itself: once it is settled, by whomever, or once nobody has its request any more. What lives long keeps nothing that is over.
+A callback can't be taken back from a future of `concurrent.futures`. So a future has one for all its relays, a row,
+from which each can be taken out by itself: once it is settled, by whomever, or once nobody has its request any more.
+What lives long keeps nothing that is over.
 """
 import concurrent.futures
 import threading
@@ -22,8 +23,9 @@ Hold = Callable[[object], None]
 
 
 def link(relay: "Stage[Any]", future: "concurrent.futures.Future[Any]") -> Optional[Hold]:
-    """Lets a relay end as the future does. Until then the future keeps the relay, and with it the request. What is given lets it keep the
-    relay no longer: it is still told, if somebody else has it then. None where it is told already."""
+    """Lets a relay end as the future does. Until then the future keeps the relay, and with it the request. What is
+    given lets it keep the relay no longer: it is still told, if somebody else has it then. None where it is told
+    already."""
     if future.done():
         _drain([relay], future)
         return None
@@ -67,7 +69,8 @@ def _gone(made: Any) -> None:
 
 
 class _Row:
-    """The relays of one future, which calls it once it is done. Nothing here is under a lock: who takes a link out, tells its relay."""
+    """The relays of one future, which calls it once it is done. Nothing here is under a lock: who takes a link out,
+    tells its relay."""
 
     __slots__ = ("links", "is_over")
 
@@ -94,7 +97,8 @@ class _Row:
 
 
 class _Handing(threading.local):
-    """What this thread is about to hand over. What comes up within that waits its turn, so chains of any length need no stack."""
+    """What this thread is about to hand over. What comes up within that waits its turn, so chains of any length need
+    no stack."""
 
     def __init__(self) -> None:
         self.left: "Deque[Tuple[Stage[Any], concurrent.futures.Future[Any]]]" = deque()
@@ -130,7 +134,8 @@ def _settle_as(relay: "Stage[Any]", future: "concurrent.futures.Future[Any]") ->
 
 
 def _outcome_of(future: "concurrent.futures.Future[Any]") -> Tuple[int, Any]:
-    """What a future that is done came to, as a change of a stage. Where one of others' raises when it is asked, that."""
+    """What a future that is done came to, as a change of a stage. Where one of others' raises when it is asked,
+    that."""
     try:
         if future.cancelled():
             return CANCEL, False

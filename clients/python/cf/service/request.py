@@ -1,4 +1,68 @@
-"""A request: stages that belong together, of which one history is kept."""
+"""A request: stages that belong together, of which one history is kept.
+
+The design of `cf.service`, which this file leads through:
+
+A request is one ledger of the proved library and the Python objects that the ledger knows by numbers. Who may settle a
+stage, which stage is ready, and what follows from a settled stage is decided by the ledger alone. The code here hands
+words in, reads the reply and the news, and does to Python objects what they say.
+
+What is kept where
+    - `RequestCore`, `StageCore` and `PlanCore` are written twice, with the same names and answers: in C
+      (`native/_cf.c`) and in Python over ctypes (`_plain.py`). `_core.py` chooses. A core has the ledger; for each
+      event its time and its reply; for each stage a row with form, sources, name, outcome and future; and the lists of
+      values and exceptions. A word names a value or an exception by its index in these lists. The future of a stage is
+      in its row until the stage is settled, and has the function with its arguments until then.
+    - `Request` and `Stage` are below the cores, and have what isn't hot: the methods that users call, relays,
+      deadlines.
+    - `Works` (works.py) has the threads and the clock of a `Service`, `_LoopWorks` (loop.py) the event loop of a
+      `LoopService`. To a request both are the protocol `Works` below.
+
+What guards what
+    - In Python each request has a lock. It guards ledger, rows and lists. Under it only the conditions of stages are
+      taken, with the locks of those who wait by `wait` and `as_completed`; under these never a request's lock. No
+      thread has the locks of two requests.
+    - In C there is no such lock: one event with all that is written down of it runs no Python code, and keeps the
+      interpreter's lock, so it is one step for all threads.
+    - Either way no function and no callback of a user runs within that step.
+    - `Works._lock` is taken to start and to end threads.
+    - Relays (relays.py) need no lock: whoever takes a relay out of its row settles it.
+
+What happens at a change (`_change`: complete, fail, cancel; also `_attach`, `_begin` and `_end`)
+    1. The ledger does one word. Its news say which stages are ready now, and which are settled.
+    2. What is settled is written into rows. So whoever sees an outcome can also see the outcomes of all earlier words.
+    3. Threads that wait for settled stages are woken, and `wait` and `as_completed` are told. (In Python this comes
+       within step 2, under the lock, in C right after it.)
+    4. Ready stages are handed to the works, by `Works.put`. If nobody will run one, it fails with `Works.refusal`.
+    5. Callbacks of settled stages are called, in the thread that made the change. One that raises keeps no other from
+       being called. An `Exception` is logged; the first of anything else is raised at the end.
+
+A function from ready to finished
+    `Works.put` gives a stage to a thread or to the loop. That calls `_run`: the claim is one word, whose reply tells
+    what the function is called with; the function is called without a lock; the finish is one more word. If the finish
+    makes a stage ready, the same thread goes on with it, and hands the other ones to the works. A claim is in vain
+    where somebody has settled the stage meanwhile, and nothing is called then. A finish that comes too late changes
+    nothing. A flow that one thread runs (`flow.run`) asks the ledger for what is ready, by `_work`.
+
+Relays
+    A source has to be a stage of the same request. A future that isn't gets a relay: a source of this request that ends
+    as the future does (`link` in relays.py). The future keeps the relay, and so the request, until either is settled.
+    If a stage needed the relay alone, its end lets go of it (`_let_go_with`). A composing stage has a relay right below
+    it. Its finish links to the stage that the function returned, if that is a lower one of this request, and else to
+    the relay (`_link`, `_follow`).
+
+Deadlines
+    `_later` asks the clock of the works to act after some seconds, and takes that back at the stage's end by a
+    callback. The act is a change by the caller CLOCK: FAIL_AS, by which the stage times out, or COMPLETE.
+
+Room
+    A request has at most 4,096 stages. The ledger has room for a few at first and makes more by doing its words again
+    (`_make_room`, `grow` in C). What takes several stages asks `_check_room` before it attaches the first, so that a
+    call that raises `RequestFull` has changed nothing.
+
+Which methods call a user's code
+    `_run` and `_LoopWorks._run` (functions), `_let_go` (callbacks), `Works._work` (the initializer of threads),
+    `history` (`describe`), and relays, which add a callback to somebody's future and ask for its result.
+"""
 import concurrent.futures
 import functools
 import math
@@ -43,11 +107,17 @@ R = TypeVar("R", bound="Request")
 
 
 class Request(RequestCore):
-    """Stages that belong together, of which one history is kept. A service opens it. Any thread may use it.
+    """Stages that belong together, of which one history is kept. `Service.request` and `Service.start` open one. Any
+    thread may use it.
 
-    Each change is one event of the request's ledger. It and what came of it are shown in one step; callbacks and threads are told behind
-    that. Values and exceptions are kept until nobody has the request or one of its stages any more. `RequestFull` is raised where it
-    would have over 4,096 stages, and `RuntimeError` where a stage with a function is attached after the service's shutdown."""
+    Each change is one event of the request's ledger. An event and what follows from it are shown in one step; callbacks
+    and threads are told after that. Values and exceptions are kept until nobody has the request or one of its stages
+    any more.
+
+    Each method that attaches stages raises
+
+        RequestFull: There would be more than 4,096 stages. Nothing is changed.
+        RuntimeError: The stage has a function, and the service is shut down. Nothing is changed."""
 
     __slots__ = ("_describe",)  # what histories tell of values, where that isn't what the service chose
     _describe: Describe
@@ -60,52 +130,98 @@ class Request(RequestCore):
     # Stages.
 
     def supply(self, fn: Callable[..., T], /, *args: Any, **kwargs: Any) -> "Stage[T]":
-        """What the function gives, called with these arguments."""
+        """Has a function called by one of the service's threads, or by the loop of a `LoopService`.
+
+        Args:
+            fn: Called with the other arguments.
+
+        Returns:
+            A stage that ends with what the function returns or raises."""
         if self._works.closed:
             raise self._works.refusal()
         return self._attach(Form.SUPPLY, None, None, fn, args or None, kwargs or None, None)
 
     def promise(self, name: str = "promise") -> "Stage[Any]":
-        """What somebody completes it with."""
+        """A stage without a function, which somebody settles: by `complete`, `fail`, `cancel` or a time limit.
+
+        Args:
+            name: What histories call it.
+
+        Returns:
+            The stage. Until it is settled, what is attached behind it waits."""
         return self._attach(Form.SOURCE, None, None, None, None, None, name)
 
     def adopt(self, future: "concurrent.futures.Future[T]") -> "Stage[T]":
-        """A stage of this request that ends as the future does. A stage of this request is given back itself. The future keeps the request
-        until either is settled; where the future goes on for long, cancel the stage once it isn't needed."""
+        """Makes a future a stage of this request, so that stages can be attached behind it.
+
+        Args:
+            future: Any future of `concurrent.futures`. It keeps the request alive until it or the returned stage is
+                settled. If it may take long, cancel the stage once it isn't needed.
+
+        Returns:
+            A stage that ends as the future does; a stage of this request is returned as it is."""
         holds: List[Hold] = []
         stage = self._relay_of(future, holds)
         _let_go_with(stage, holds)
         return stage
 
     def all_of(self, *of: "concurrent.futures.Future[Any]") -> "Stage[None]":
-        """None, once all have values; else the exception of the first in this order that has one, once all are settled. Of n futures it
-        takes n - 1 stages."""
+        """Waits for all futures, also where one of them fails.
+
+        Args:
+            of: Stages of this request, or any other futures, each of which takes a relay.
+
+        Returns:
+            A stage that ends once all are settled: with None if all have values, else with the exception of the first
+            one in this order that has one. For n futures it takes n - 1 stages, at least one."""
         return self._of_all(Form.ALL_OF, of, "all of")
 
     def first_of(self, *of: "concurrent.futures.Future[T]") -> "Stage[T]":
-        """What the first has that is settled, be it an exception. Of n futures it takes n - 1 stages; of none, `ValueError`."""
+        """Waits for the future that is settled first. The others go on.
+
+        Args:
+            of: Stages of this request, or any other futures, each of which takes a relay.
+
+        Returns:
+            A stage that ends as the first one does, be it with an exception. For n futures it takes n - 1 stages, at
+            least one.
+
+        Raises:
+            ValueError: No future is given."""
         if not of:
             raise ValueError("of no stages none is the first")
         return self._of_all(Form.ANY_OF, of, "first of")
 
     def gather(self, *of: "concurrent.futures.Future[T]") -> "Stage[List[T]]":
-        """The values of all, in this order; else as `all_of`."""
+        """Waits for all futures, and collects their values.
+
+        Args:
+            of: As in `all_of`.
+
+        Returns:
+            A stage that ends with the list of the values, in this order, or with an exception as `all_of` does. It
+            takes one stage more than `all_of`."""
         if self._works.closed:
             raise self._works.refusal()
         here, holds = self._relays_of(of, 1)
-        done: Stage[List[T]] = self._behind(Form.APPLY, self._tree(Form.ALL_OF, here, "all of"), None, functools.partial(_results, here))
+        done: Stage[List[T]] = self._behind(Form.APPLY, self._tree(Form.ALL_OF, here, "all of"), None,
+                                            functools.partial(_results, here))
         _let_go_with(done, holds)
         return done.named("gather")
 
     def __getitem__(self, step: "Step[T]") -> "Stage[T]":
-        """The stage of a flow's step, in a request that was begun with the flow."""
+        """The stage of a flow's step, in a request that was begun with the flow.
+
+        Raises:
+            KeyError: The step is one of another flow, or the request wasn't begun with one."""
         if self._plan is None or step.flow._plan is not self._plan:
             raise KeyError(f"{step.name} is a step of another flow")
         return self._stage(step.number)
 
     def history(self) -> History:
-        """All that happened until now. It takes time by the number of events."""
-        return History(self.name, self._plan, self._facts())._described(getattr(self, "_describe", self._works.describe))
+        """All that happened until now, as a `History` that stays as it is. It takes about a microsecond an event."""
+        return History(self.name, self._plan,
+                       self._facts())._described(getattr(self, "_describe", self._works.describe))
 
     def _describing(self: R, describe: Optional[Describe]) -> R:
         """This request, whose histories tell of values what a function does, if one is given."""
@@ -115,7 +231,8 @@ class Request(RequestCore):
 
     # Attaching.
 
-    def _behind(self, form: Form, first: "Stage[Any]", second: "Optional[concurrent.futures.Future[Any]]", fn: Callable[..., Any]) -> "Stage[Any]":
+    def _behind(self, form: Form, first: "Stage[Any]", second: "Optional[concurrent.futures.Future[Any]]",
+                fn: Callable[..., Any]) -> "Stage[Any]":
         if self._works.closed:
             raise self._works.refusal()
         if second is None:
@@ -133,9 +250,10 @@ class Request(RequestCore):
         _let_go_with(stage, holds)
         return stage
 
-    def _relays_of(self, of: "Sequence[concurrent.futures.Future[Any]]", more: int) -> "Tuple[List[Stage[Any]], List[Hold]]":
-        """Stages of this request that end as these futures do, and what lets go of the relays among them. There is room for a tree of them
-        and so many stages more, else nothing is attached."""
+    def _relays_of(self, of: "Sequence[concurrent.futures.Future[Any]]",
+                   more: int) -> "Tuple[List[Stage[Any]], List[Hold]]":
+        """Stages of this request that end as these futures do, and what lets go of the relays among them. There is
+        room for a tree of them and so many stages more, else nothing is attached."""
         others = sum(not isinstance(future, Stage) or future.request is not self for future in of)
         self._check_room(others + max(len(of) - 1, 1) + more)
         holds: List[Hold] = []
@@ -166,8 +284,8 @@ class Request(RequestCore):
             raise RequestFull("a request has at most 4,096 stages")
 
     def _later(self, stage: "Stage[T]", seconds: float, act: Callable[[], object]) -> "Stage[T]":
-        """Acts on the stage after some seconds, unless it is settled before. Where they are over already, as soon as may be; after endless
-        ones never."""
+        """Acts on the stage after some seconds, unless it is settled before. Where they are over already, as soon as
+        may be; after endless ones never."""
         if math.isnan(seconds):
             raise ValueError("a time limit can't be NaN")
         if seconds != math.inf and not stage.done():
@@ -176,8 +294,8 @@ class Request(RequestCore):
         return stage
 
     def _link(self, stage: "Stage[Any]", who: int, to: Any) -> "Optional[Stage[Any]]":
-        """Finishes a composing stage with the future that its function gave. A stage links to lower ones alone, and one that its function
-        made is higher; so its relay, which stands just below it, is settled as that one is."""
+        """Finishes a composing stage with the future that its function gave. A stage links to lower ones alone, and
+        one that its function made is higher; so its relay, which stands just below it, is settled as that one is."""
         if not isinstance(to, concurrent.futures.Future):
             return self._end(stage, who, THROWS, TypeError(f"{to!r} is no future"))
         if isinstance(to, Stage) and to.request is self and to.number < stage.number:
@@ -210,6 +328,7 @@ def _results(stages: "List[Stage[T]]", _: None) -> List[T]:
 
 
 def _let_go_with(stage: "Stage[Any]", holds: List[Hold]) -> None:
-    """Lets futures keep relays no longer than the stage is open for which they were made: it is all that is told what they end in."""
+    """Lets futures keep relays no longer than the stage is open for which they were made: it is all that is told
+    what they end in."""
     for hold in holds:
         stage.add_done_callback(hold)

@@ -29,16 +29,29 @@ class Service(concurrent.futures.Executor):
             print(mail.result())
             print(request.history())
 
-    The parameters are those of ThreadPoolExecutor, with the same errors. Threads are started as they are needed, and end with `shutdown`,
-    when nobody has the service or a request of it any more, and once all that was handed in is done, when the interpreter ends. A child
-    of `fork` may use it, too: what was handed in before is its parent's.
+    Args:
+        max_workers: How many threads it has at most. By default 4 more than there are processors, and at most 32.
+        thread_name_prefix: What the names of its threads begin with.
+        initializer: Called by each thread before anything else. If it raises, the service is broken: what was handed in
+            fails with `BrokenThreadPool`.
+        initargs: What it is called with.
+        store: Where requests are kept, so that they outlive the process: `Service(store=..)` gives a
+            `cf.shared.DurableService`.
+        describe: What histories tell of values and exceptions: `describe_all`, `describe_types`, `describe_nothing`, or
+            another function that makes a text of one.
 
-    `describe` is what histories tell of values and exceptions: `describe_all`, the default, `describe_types`, `describe_nothing`, or
-    another function that makes a text of one."""
+    Raises:
+        ValueError: `max_workers` isn't above 0.
+        TypeError: `initializer` can't be called.
+
+    Threads are started as they are needed. They end with `shutdown`, or once nobody has the service or a request of
+    it any more. When the interpreter ends, all that was handed in is done first. A child of `fork` may use the
+    service, too; what was handed in before is its parent's."""
 
     _services = itertools.count()
 
-    def __new__(cls, max_workers: Optional[int] = None, *given: Any, store: "Optional[Store]" = None, **more: Any) -> Any:
+    def __new__(cls, max_workers: Optional[int] = None, *given: Any, store: "Optional[Store]" = None,
+                **more: Any) -> Any:
         """With a `store` of `cf.shared` it is a `cf.shared.DurableService`, whose requests outlive the process."""
         if store is None:
             return super().__new__(cls)
@@ -47,30 +60,58 @@ class Service(concurrent.futures.Executor):
         return DurableService(store, max_workers, *given, **more)
 
     def __init__(self, max_workers: Optional[int] = None, thread_name_prefix: str = "",
-                 initializer: Optional[Callable[..., object]] = None, initargs: Tuple[Any, ...] = (), *, store: "Optional[Store]" = None,
-                 describe: Describe = describe_all) -> None:
+                 initializer: Optional[Callable[..., object]] = None, initargs: Tuple[Any, ...] = (), *,
+                 store: "Optional[Store]" = None, describe: Describe = describe_all) -> None:
         workers = min(32, (os.cpu_count() or 1) + 4) if max_workers is None else max_workers
         if workers <= 0:
             raise ValueError("max_workers must be greater than 0")
         if initializer is not None and not callable(initializer):
             raise TypeError("initializer must be a callable")
         number = next(self._services)
-        self._works = Works(workers, thread_name_prefix or f"{type(self).__name__}-{number}", initializer, initargs, describe)
+        self._works = Works(workers, thread_name_prefix or f"{type(self).__name__}-{number}", initializer, initargs,
+                            describe)
         self._requests = itertools.count()
         weakref.finalize(self, self._works.close)
 
     def request(self, name: str = "", room: int = ROOM, *, describe: Optional[Describe] = None) -> Request:
-        """A request, which keeps this service. `room` is a guess how many stages it will have; one that grows beyond does all its events
-        again a few times. `describe` is what its histories tell of values, in place of what the service chose."""
+        """Opens a request without stages. It keeps this service alive.
+
+        Args:
+            name: What histories call it. By default `request 0` and so on.
+            room: A guess how many stages it will have. One that grows beyond that does all its events again a few
+                times.
+            describe: What its histories tell of values and exceptions, in place of what the service chose."""
         return Request(self._works, name or f"request {next(self._requests)}", room, self)._describing(describe)
 
     def start(self, flow: Flow, *given: Any, name: str = "", describe: Optional[Describe] = None) -> Request:
-        """A request of a flow's stages. Its promises are completed with what is given, in their order, and its supplies begin. Stages can
-        be attached to it as to any other. `ValueError` where more is given than there are promises."""
-        return flow._start(Request, self._works, name or f"{flow.name} {next(self._requests)}", self, given)._describing(describe)
+        """Begins a request of a flow's stages, and comes back at once. Threads run what becomes ready. Further stages
+        can be attached to it as to any other request.
+
+        Args:
+            flow: The plan. It can't be added to from now on.
+            given: The values of its promises, in their order. Promises without a value are open.
+            name: What histories call it. By default the flow's name and a number.
+            describe: As in `request`.
+
+        Returns:
+            The request; `request[step]` is the stage of a step.
+
+        Raises:
+            ValueError: More values are given than there are promises."""
+        return flow._start(Request, self._works, name or f"{flow.name} {next(self._requests)}", self,
+                           given)._describing(describe)
 
     def submit(self, fn: Callable[..., T], /, *args: Any, **kwargs: Any) -> "Stage[T]":
-        """Calls a function on one of the threads: a request of one stage."""
+        """Has a function called on one of the threads. It is a request of one stage.
+
+        Args:
+            fn: Called with the other arguments.
+
+        Returns:
+            A stage that ends with what the function returns or raises.
+
+        Raises:
+            RuntimeError: The service is shut down. Where no thread can be started, the stage fails with this."""
         works = self._works
         if works.closed:
             raise works.refusal()
@@ -78,8 +119,12 @@ class Service(concurrent.futures.Executor):
         return stage
 
     def shutdown(self, wait: bool = True, *, cancel_futures: bool = False) -> None:
-        """Takes no more functions. Those that were handed in, and those of stages behind them, are called; with `cancel_futures` stages
-        that no thread has taken are cancelled, as by `Stage.cancel`."""
+        """Takes no more functions. Those that were handed in are still called, and so are those of stages that become
+        ready by them. What becomes ready later, as by a `complete`, fails with `RuntimeError`.
+
+        Args:
+            wait: Whether to wait until all threads have ended.
+            cancel_futures: Whether to cancel the stages that no thread has taken yet, as `Stage.cancel` does."""
         self._works.close()
         try:
             if cancel_futures:

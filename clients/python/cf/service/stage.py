@@ -34,92 +34,214 @@ else:
 
 
 class Stage(_Future[T]):
-    """A `concurrent.futures.Future` that may have stages behind it, and that can be awaited.
+    """A `concurrent.futures.Future` that can have stages behind it, and that can be awaited.
 
-    What is read here is what the request's ledger has told of it; what is asked here is asked of the ledger, which decides. Each method
-    that attaches a stage raises `RequestFull` where the request has 4,096 stages, and one with a function `RuntimeError` where the service
-    is shut down; neither changes anything. Attaching is one event of the ledger (`compose` two), and a stage's run two more, its claim and
-    its finish.
+    The request's ledger decides what happens to a stage. Reading a stage (`result`, `done`, ..) tells what the ledger
+    has told of it. The head of request.py tells the design.
 
-    A function is called by one of the service's threads, or by the loop of a `LoopService`. What it raises, its stage fails with. A stage
-    whose source failed fails with the same exception, and one whose source was cancelled with `CancelledError`, without a call."""
+    Where functions run: on one of the service's threads, or on the loop of a `LoopService`, where they may be coroutine
+    functions.
+
+    What a failure does: a stage fails with what its function raises. A stage behind a failed one fails with the same
+    exception, and a stage behind a cancelled one with `CancelledError`. Its own function isn't called then, unless it
+    takes exceptions (`handle`, `when_done`, `recover`, `recover_compose`).
+
+    What attaching costs: one stage of the request and one event of the ledger. `compose` and `recover_compose` take
+    two of each. A run is two more events, the claim and the finish.
+
+    Each method that attaches a stage returns the new stage, and raises
+
+        RequestFull: The request has 4,096 stages. Nothing is changed.
+        RuntimeError: The service is shut down, so nobody would run the function. Nothing is changed."""
 
     # What is attached behind it.
 
     def then(self, fn: Callable[[T], U]) -> "Stage[U]":
-        """What the function gives of the value."""
+        """Calls a function with this stage's value, once it is there.
+
+        Args:
+            fn: Called with the value. It isn't called where this stage fails or is cancelled.
+
+        Returns:
+            A stage that ends with what the function returns or raises."""
         return self.request._behind(Form.APPLY, self, None, fn)
 
     def compose(self, fn: "Callable[[T], concurrent.futures.Future[U]]") -> "Stage[U]":
-        """What the future gives that the function gives of the value: a stage of this request or another, or any other future of
-        `concurrent.futures`. It fails with `TypeError` where that is none."""
+        """Calls a function that returns a future, and waits for that future without holding a thread.
+
+        Args:
+            fn: Called with the value. It returns a stage of this request or of another one, or any other future of
+                `concurrent.futures`.
+
+        Returns:
+            A stage that ends as that future does. It fails with `TypeError` where the function returns something else.
+            It takes two stages of the request."""
         return self.request._behind(Form.COMPOSE, self, None, fn)
 
     def combine(self, other: "concurrent.futures.Future[U]", fn: Callable[[T, U], V]) -> "Stage[V]":
-        """What the function gives of both values."""
+        """Calls a function with two values, once both are there.
+
+        Args:
+            other: A stage of this request, or any other future. For one that isn't of this request, a relay is
+                attached: a stage more, which ends as that future does.
+            fn: Called with this stage's value and the other's.
+
+        Returns:
+            A stage that ends with what the function returns or raises. If either of the two fails, it fails with that
+            exception once both are settled; if both fail, with this stage's."""
         return self.request._behind(Form.COMBINE, self, other, fn)
 
     def either(self, other: "concurrent.futures.Future[T]", fn: Callable[[T], U]) -> "Stage[U]":
-        """What the function gives of the value that is there first. Where an exception is first, that is its own."""
+        """Calls a function with the value that is there first.
+
+        Args:
+            other: A stage of this request, or any other future, as in `combine`.
+            fn: Called with the value of whichever is settled first.
+
+        Returns:
+            A stage that ends with what the function returns or raises. If the first that is settled has an
+            exception, it fails with that."""
         return self.request._behind(Form.APPLY_EITHER, self, other, fn)
 
     def handle(self, fn: Callable[[Optional[T], Optional[BaseException]], U]) -> "Stage[U]":
-        """What the function gives of the value or the exception; the other is None."""
+        """Calls a function with this stage's value or exception.
+
+        Args:
+            fn: Called with `(value, None)` or `(None, exception)`, also where this stage was cancelled; the
+                exception is a `CancelledError` then.
+
+        Returns:
+            A stage that ends with what the function returns or raises."""
         return self.request._behind(Form.HANDLE, self, None, fn)
 
     def when_done(self, fn: Callable[[Optional[T], Optional[BaseException]], object]) -> "Stage[T]":
-        """The same value or exception, once the function was called with it. What it raises counts where there was a value."""
+        """Calls a function with this stage's value or exception, and passes the value or exception on.
+
+        Args:
+            fn: Called as in `handle`. What it returns isn't used.
+
+        Returns:
+            A stage that ends as this one, after the function was called. If this stage has a value and the function
+            raises, it fails with what that raised."""
         return self.request._behind(Form.WHEN_COMPLETE, self, None, fn)
 
     def recover(self, fn: Callable[[BaseException], T]) -> "Stage[T]":
-        """The value, or what the function gives of the exception."""
+        """Calls a function with this stage's exception, if it has one.
+
+        Args:
+            fn: Called with the exception. It isn't called where this stage has a value.
+
+        Returns:
+            A stage that ends with this stage's value, or else with what the function returns or raises."""
         return self.request._behind(Form.EXCEPTIONALLY, self, None, fn)
 
     def recover_compose(self, fn: "Callable[[BaseException], concurrent.futures.Future[T]]") -> "Stage[T]":
-        """The value, or what the future gives that the function gives of the exception."""
+        """Calls a function that returns a future with this stage's exception, if it has one.
+
+        Args:
+            fn: Called with the exception. It returns a future, as in `compose`.
+
+        Returns:
+            A stage that ends with this stage's value, or else as that future does. It takes two stages of the
+            request."""
         return self.request._behind(Form.EXCEPTIONALLY_COMPOSE, self, None, fn)
 
     # Who settles it.
 
     def complete(self, value: T) -> bool:
-        """Settles it with a value, unless it is settled; whether it did. One event."""
+        """Settles the stage with a value, unless it is settled. Anybody may, also while its function runs.
+
+        Args:
+            value: What `result` returns from then on.
+
+        Returns:
+            True if this call settled the stage, False if it was settled before. The history has the call either way."""
         return self.request._change(COMPLETE, THIS_THREAD, self, value)
 
     def fail(self, error: BaseException) -> bool:
-        """Settles it with an exception, unless it is settled; whether it did. One event."""
+        """Settles the stage with an exception, unless it is settled.
+
+        Args:
+            error: What `result` raises from then on.
+
+        Returns:
+            True if this call settled the stage, False if it was settled before."""
         return self.request._change(FAIL, THIS_THREAD, self, error)
 
     def cancel(self) -> bool:
-        """Cancels it, unless it is settled or its function runs; whether it is cancelled then."""
+        """Cancels the stage, unless it is settled or its function runs. The stages before it go on.
+
+        Returns:
+            True if the stage is cancelled after the call, also where it was before."""
         return self.request._change(CANCEL, THIS_THREAD, self, True)
 
     def abandon(self) -> bool:
-        """Cancels it also while its function runs, whose answer comes too late then; whether it is cancelled then. A coroutine of a
-        `LoopService` is cancelled."""
+        """Cancels the stage, unless it is settled, also while its function runs. A function on a thread goes on, and
+        its answer comes too late. A coroutine of a `LoopService` is cancelled.
+
+        Returns:
+            True if the stage is cancelled after the call, also where it was before."""
         return self.request._change(CANCEL, THIS_THREAD, self, False)
 
     def or_timeout(self, seconds: float) -> "Stage[T]":
-        """Lets it time out, with a `TimeoutError`, unless it is settled by then: at once where the time is over already, and never where it
-        is endless; `ValueError` of NaN. This stage itself is given back."""
+        """Sets a time limit, after which the stage fails with a `TimeoutError` unless it is settled. That goes for all
+        who wait for the stage, unlike the timeout of `result`. A function that runs in a thread goes on, and its answer
+        comes too late.
+
+        Args:
+            seconds: From now on. With 0 or less it times out at once, with `math.inf` never.
+
+        Returns:
+            This stage itself.
+
+        Raises:
+            ValueError: `seconds` is NaN."""
         error = f"{escaped(self.name)} took longer than {seconds} s"
-        return self.request._later(self, seconds, lambda: self.request._change(FAIL_AS, CLOCK, self, TimeoutError(error)))
+        return self.request._later(self, seconds,
+                                   lambda: self.request._change(FAIL_AS, CLOCK, self, TimeoutError(error)))
 
     def complete_on_timeout(self, value: T, seconds: float) -> "Stage[T]":
-        """Gives it the value, unless it is settled by then, as `or_timeout`. This stage itself is given back."""
+        """Sets a time limit, after which the stage gets a value unless it is settled.
+
+        Args:
+            value: What the stage is settled with at that time.
+            seconds: As in `or_timeout`.
+
+        Returns:
+            This stage itself.
+
+        Raises:
+            ValueError: `seconds` is NaN."""
         return self.request._later(self, seconds, lambda: self.request._change(COMPLETE, CLOCK, self, value))
 
     def set_result(self, result: T) -> None:
-        """As `complete`; a settled stage raises `InvalidStateError`."""
+        """As `complete`, for code that is written for `concurrent.futures`.
+
+        Raises:
+            InvalidStateError: The stage is settled."""
         if not self.complete(result):
             raise InvalidStateError(f"{self._state}: {self!r}")
 
     def set_exception(self, exception: Optional[BaseException]) -> None:
-        """As `fail`; a settled stage raises `InvalidStateError`."""
+        """As `fail`, for code that is written for `concurrent.futures`.
+
+        Args:
+            exception: None stands for a `TypeError`.
+
+        Raises:
+            InvalidStateError: The stage is settled."""
         if not self.fail(TypeError("no exception") if exception is None else exception):
             raise InvalidStateError(f"{self._state}: {self!r}")
 
     def set_running_or_notify_cancel(self) -> bool:
-        """Lets nobody cancel it any more but `abandon`, and says whether nobody has. For a promise that somebody else works on."""
+        """Marks the stage as running, for a promise that somebody outside works on. From then on `cancel` returns
+        False, and `abandon` still cancels.
+
+        Returns:
+            False if the stage is cancelled, so that there is nothing to do. True otherwise.
+
+        Raises:
+            RuntimeError: The stage runs already, or is settled with a value or an exception."""
         told = self.request._set_running(self)
         if told is None:
             raise RuntimeError("Future in unexpected state")
@@ -129,16 +251,20 @@ class Stage(_Future[T]):
 
     @property
     def name(self) -> str:
-        """What histories call it: by default its function's name."""
+        """What histories call the stage: by default its function's name."""
         return self.request._name_of(self.number)
 
     def named(self, name: str) -> "Stage[T]":
-        """Gives it a name. This stage itself is given back."""
+        """Gives the stage a name, which histories use.
+
+        Returns:
+            This stage itself."""
         self.request._rename(self.number, name)
         return self
 
     def __await__(self) -> Generator[Any, None, T]:
-        """Awaits it on the running loop. Where the awaiting task is cancelled, the stage is, as by `cancel`."""
+        """Awaits the stage on the running loop. If the awaiting task is cancelled, `cancel` is called on the stage: it
+        cancels this stage alone, and not while its function runs."""
         return asyncio.wrap_future(self).__await__()
 
     # For the C module.

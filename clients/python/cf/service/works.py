@@ -22,11 +22,12 @@ BROKEN = "A thread initializer failed, the thread pool is not usable anymore"
 
 
 class Works:
-    """Threads, started as they are needed, that run stages which are ready. They end once this is closed and nothing is left to do.
+    """Threads, started as they are needed, that run stages which are ready. They end once this is closed and nothing is
+    left to do.
 
-    Ready stages go through a queue without a lock of ours. `_lock` is taken to start and to end a thread, and around nothing that calls
-    back; no request's lock is held meanwhile. A thread ends only where it finds the queue empty under the lock, and who puts a stage looks
-    behind it whether all have ended, so each stage is run or refused."""
+    Ready stages go through a queue without a lock of ours. `_lock` is taken to start and to end a thread, and around
+    nothing that calls back; no request's lock is held meanwhile. A thread ends only where it finds the queue empty
+    under the lock, and who puts a stage looks behind it whether all have ended, so each stage is run or refused."""
 
     def __init__(self, most: int, prefix: str, initializer: Optional[Callable[..., object]], initargs: Tuple[Any, ...],
                  describe: Describe = describe_all) -> None:
@@ -87,7 +88,8 @@ class Works:
         return True
 
     def _go_without(self, thread: "_Thread") -> None:
-        """A thread couldn't be started. The next put tries again, and what others have put meanwhile isn't left behind."""
+        """A thread couldn't be started. The next put tries again, and what others have put meanwhile isn't left
+        behind."""
         with self._lock:
             self._alive -= 1
             self.threads.discard(thread)
@@ -208,7 +210,8 @@ class _Thread(threading.Thread):
 
 
 def _all(act: "Callable[[Stage[Any]], object]", stages: "Iterable[Stage[Any]]") -> None:
-    """Does it to all of the stages, also where callbacks raise what isn't an `Exception`. The first of that is raised then."""
+    """Does it to all of the stages, also where callbacks raise what isn't an `Exception`. The first of that is
+    raised then."""
     first: Optional[BaseException] = None
     for stage in stages:
         try:
@@ -263,7 +266,8 @@ class Clock:
                     self._due, self._forgotten = left, 0
 
     def end(self) -> None:
-        """Forgets what is due later, and waits for its thread: an interpreter within this process can't end while there is one."""
+        """Forgets what is due later, and waits for its thread: an interpreter within this process can't end while
+        there is one."""
         with self._changed:
             thread, due, self._due, self._forgotten = self._thread, self._due, [], 0
             self._changed.notify()

@@ -3,13 +3,17 @@
 Each process replays a row's words on the proved graph. A word is put where nothing stands yet, so all see one order.
 """
 from .codec import Abandoned, Json, RemoteError
-from .desk import Desk, Watcher, new_session
 from .functions import Functions
-from .request import Request, Stage
+from .request import DurableRequest, DurableStage
 from .rows import Broken, Grouped, Memory, Put, Store, StoreError, Timer, Unknown
 from .service import DurableService
 from .stores import connect
+from .view import RowView, Watcher, new_session
 from .worker import Worker
 
-__all__ = ["Abandoned", "Broken", "Desk", "DurableService", "Functions", "Grouped", "Json", "Memory", "Put", "RemoteError", "Request", "Stage",
-           "Store", "StoreError", "Timer", "Unknown", "Watcher", "Worker", "connect", "new_session"]
+# The names of before. They go with the version for the library 1.5.
+Desk, Request, Stage = RowView, DurableRequest, DurableStage
+
+__all__ = ["Abandoned", "Broken", "Desk", "DurableRequest", "DurableService", "DurableStage", "Functions", "Grouped",
+           "Json", "Memory", "Put", "RemoteError", "Request", "RowView", "Stage", "Store", "StoreError", "Timer",
+           "Unknown", "Watcher", "Worker", "connect", "new_session"]

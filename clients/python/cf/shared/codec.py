@@ -22,14 +22,18 @@ class RemoteError(RuntimeError):
 
 
 class Json:
-    """Values that JSON has: tuples come back as lists, and what it hasn't raises `TypeError`. Exceptions come back as their class where it
-    is one of Python's own or was added, with their arguments where these are in JSON, and as `RemoteError` else."""
+    """Makes bytes of values and exceptions, and reads them back.
+
+    Values are what JSON has. A tuple comes back as a list; what JSON hasn't raises `TypeError`. An exception comes
+    back as its class if that is one of Python's own or was added, with its arguments if JSON has these. Any other
+    exception comes back as a `RemoteError`."""
 
     def __init__(self) -> None:
-        self._kinds: Dict[str, Type[BaseException]] = {"Abandoned": Abandoned, "TimeoutError": TimeoutError, "CancelledError": CancelledError}
+        self._kinds: Dict[str, Type[BaseException]] = {"Abandoned": Abandoned, "TimeoutError": TimeoutError,
+                                                       "CancelledError": CancelledError}
 
     def add(self, kind: Type[BaseException]) -> Type[BaseException]:
-        """Lets exceptions of a class come back as such. It can stand before the class."""
+        """Lets exceptions of a class come back as such. It returns the class, so it can be used as a decorator."""
         self._kinds[kind.__name__] = kind
         return kind
 

@@ -16,13 +16,14 @@ SECONDS = 3  # for an answer
 
 
 class Etcd(Store):
-    """A cluster, by the addresses of its members. It answers what a majority has on disk, unless its members were started with
-    `--unsafe-no-fsync`, which can't be seen here. It has no clock: timers go by each process's own."""
+    """A cluster, by the addresses of its members. It answers what a majority has on disk, unless its members were
+    started with `--unsafe-no-fsync`, which can't be seen here. It has no clock: timers go by each process's own."""
 
     def __init__(self, addresses: str) -> None:
         self._addresses, self._local = addresses.split(","), threading.local()
         self._turn = 0
-        self._born: Dict[str, str] = {}  # the revisions in which requests were opened, which tell one from another of its name
+        # the revisions in which requests were opened, which tell one from another of its name
+        self._born: Dict[str, str] = {}
         self._made: "weakref.WeakSet[http.client.HTTPConnection]" = weakref.WeakSet()
         self._get(b"cf/r/", keys_only=True)  # whether a majority answers
 
@@ -101,7 +102,8 @@ class Etcd(Store):
         return self.news(None)[0]
 
     def news(self, mark: Any) -> Tuple[Dict[str, int], Any]:
-        # Since a mark any member's answer will do. Of all, a request that a member that lags behind doesn't know yet would seem closed.
+        # Since a mark any member's answer will do. Of all, a request that a member that lags behind doesn't know yet
+        # would seem closed.
         more = {} if mark is None else {"min_mod_revision": str(mark + 1), "serializable": True}
         told = self._post("/v3/kv/range", _range(b"cf/o/", b"cf/o0", **more))
         ends = {_name(base64.b64decode(it["key"])): int(base64.b64decode(it["value"])) for it in told.get("kvs", [])}
@@ -119,8 +121,10 @@ class Etcd(Store):
 
     def end(self, name: str, at: int, number: int = 0) -> None:
         key, timers, revision = _key("o", name), _key("t", name) + b"/", str(number or self._revision(name))
-        told = self._txn([self._is_there(name, revision), {"key": _b64(key), "target": "VALUE", "value": _b64(b"%d" % at)}],
-                         [{"request_delete_range": {"key": _b64(key)}}, {"request_delete_range": _range(timers, _after(timers))},
+        told = self._txn([self._is_there(name, revision),
+                          {"key": _b64(key), "target": "VALUE", "value": _b64(b"%d" % at)}],
+                         [{"request_delete_range": {"key": _b64(key)}},
+                          {"request_delete_range": _range(timers, _after(timers))},
                           _put(_key("c", name), json.dumps([time.time(), at]).encode())])
         if not told.get("succeeded") and self._is_dropped(name, revision):
             raise self._gone(name)
@@ -129,7 +133,8 @@ class Etcd(Store):
         revision = str(number or self._revision(name))
         row = self._row("w", name, revision)
         told: Any = {}
-        while not told.get("succeeded"):  # others may put and close it meanwhile: with a count that is too low nobody could close it again
+        # others may put and close it meanwhile: with a count that is too low nobody could close it again
+        while not told.get("succeeded"):
             many = len(self._get(row, _after(row), keys_only=True))
             told = self._txn([self._is_there(name, revision), _absent(_key("o", name)), _absent(_place(row, many))],
                              [_put(_key("o", name), b"%d" % many)], [{"request_range": _range(_key("o", name))}])
@@ -139,7 +144,8 @@ class Etcd(Store):
                 return  # it is open
 
     def drop(self, name: str, at: Optional[int] = None) -> bool:
-        ranges = [_range(key, _after(key)) for key in (_key(kind, name) + b"/" for kind in "wpt")] + [_range(_key(kind, name)) for kind in "roc"]
+        ranges = [_range(key, _after(key))
+                  for key in (_key(kind, name) + b"/" for kind in "wpt")] + [_range(_key(kind, name)) for kind in "roc"]
         revision = self._revision(name)
         row = self._row("w", name, revision)
         is_so = [] if at is None else [_absent(_key("o", name)), _absent(_place(row, at))]
@@ -164,7 +170,8 @@ class Etcd(Store):
         puts = [_put(_place(row, put.at + k), b"%x %x" % entry) for k, entry in enumerate(put.entries)]
         puts += [_put(_place(payloads, place), payload) for place, payload in put.payloads.items()]
         puts.append(_put(_key("o", put.request), b"%d" % (put.at + len(put.entries))))
-        told = self._txn([_absent(key), self._is_there(put.request, revision)], puts, [{"request_range": _range(key, end)}])
+        told = self._txn([_absent(key), self._is_there(put.request, revision)], puts,
+                         [{"request_range": _range(key, end)}])
         if told.get("succeeded"):
             return None
         stands = _pairs(told["responses"][0]["response_range"])
@@ -176,7 +183,8 @@ class Etcd(Store):
         # Any member's answer will do: a stale one is a shorter prefix.
         revision = str(number or self._revision(name))
         row = self._row("w", name, revision)
-        told = self._txn([self._is_there(name, revision)], [{"request_range": _range(_place(row, at), _after(row), serializable=True)}])
+        told = self._txn([self._is_there(name, revision)],
+                         [{"request_range": _range(_place(row, at), _after(row), serializable=True)}])
         if not told.get("succeeded"):
             if self._is_dropped(name, revision):
                 raise self._gone(name)
@@ -253,8 +261,10 @@ class Etcd(Store):
         for key, value in self._get(b"cf/t/", b"cf/t0", serializable=True):
             due, payload = json.loads(value)
             if due <= now:
-                name, *number, stage = key[5:].decode().split("/")  # (without a number where an earlier version has set it)
-                told.append(Timer(unquote(name), int(stage), due, base64.b64decode(payload), int(number[0]) if number else 0))
+                # without a number where an earlier version has set it
+                name, *number, stage = key[5:].decode().split("/")
+                told.append(Timer(unquote(name), int(stage), due, base64.b64decode(payload),
+                                  int(number[0]) if number else 0))
         return sorted(told, key=lambda timer: timer.due)
 
     def drop_timer(self, request: str, stage: int, number: int = 0) -> None:

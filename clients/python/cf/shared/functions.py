@@ -11,8 +11,8 @@ F = TypeVar("F", bound=Callable[..., Any])
 
 
 class Known(NamedTuple):
-    """A function. One that is transactional is called with the engine's connection first, and what it does with that stands exactly where
-    its finish does."""
+    """A function. One that is transactional is called with the engine's connection first, and what it does with that
+    stands exactly where its finish does."""
 
     name: str
     version: int
@@ -30,8 +30,16 @@ class Functions:
         self.function("cf.add")(operator.add)
 
     def function(self, name: str = "", version: int = 1, transactional: bool = False) -> Callable[[F], F]:
-        """Names the function behind it. A changed meaning is a version more; the old one stays registered as long as requests have it.
-        `ValueError` where the name and version are another function's."""
+        """A decorator that registers a function, so that other processes know it by name and version.
+
+        Args:
+            name: By default the function's own name.
+            version: A changed meaning is a new version. The old one stays registered as long as requests have it.
+            transactional: Whether the function gets the store's connection first, and what it does with that stands
+                exactly where its finish does. SQLite and PostgreSQL have such transactions.
+
+        Raises:
+            ValueError: Another function is registered by this name and version."""
         def named(call: F) -> F:
             known = Known(name or call.__name__, version, call, transactional)
             there = self._known.setdefault((known.name, version), known)
@@ -51,7 +59,8 @@ class Functions:
         found = self._names.get(call)
         if found is None:
             name = getattr(call, "__qualname__", repr(call))
-            raise TypeError(f"{name} isn't registered: other processes know functions by the names that @service.function(..) gives")
+            raise TypeError(f"{name} isn't registered: other processes know functions by the names that "
+                            "@service.function(..) gives")
         return found
 
     def named(self, name: str, version: int) -> Optional[Known]:
@@ -68,7 +77,8 @@ class Functions:
         return found
 
 
-def said_of(functions: Functions, call: Optional[Callable[..., Any]], args: Tuple[Any, ...], kwargs: Dict[str, Any]) -> Dict[str, Any]:
+def said_of(functions: Functions, call: Optional[Callable[..., Any]], args: Tuple[Any, ...],
+            kwargs: Dict[str, Any]) -> Dict[str, Any]:
     """What a plan or an attached stage's payload says of its function."""
     if call is None:
         return {}

@@ -4,13 +4,12 @@ from typing import Any, Dict, List, Optional, Tuple
 
 from ..service._plain import PlanCore
 from ..service.flow import Flow
-from ..service.words import COMPOSE_FORMS, FORMS
+from ..service.words import COMPOSE_FORMS, FORMS, FORMS_WITHOUT_FUNCTION
 from ..values import Refused
 from .functions import Functions, said_of
 from .rows import Broken
 
 FORMAT = 3  # of plans in stores, beside those of scripts
-HAS_NO_FUNCTION = (0, 16, 17)
 
 
 class SharedPlan:
@@ -24,8 +23,8 @@ class SharedPlan:
             self.flow = str(read["flow"])
             self.said: List[Dict[str, Any]] = [said_in(it, number) for number, it in enumerate(read["stages"])]
             forms = [FORMS.index(it["form"]) for it in self.said]
-            rows = [(form, tuple(it.get("of", [])), None if form in HAS_NO_FUNCTION else _nobody, str(it["name"]))
-                    for form, it in zip(forms, self.said)]
+            rows = [(form, tuple(it.get("of", [])), None if form in FORMS_WITHOUT_FUNCTION else _nobody,
+                     str(it["name"])) for form, it in zip(forms, self.said)]
             self.core = PlanCore(rows)
         except (ValueError, KeyError, TypeError, Refused) as error:
             raise Broken(name, 0, f"its plan can't be read: {error!r}") from None
@@ -37,10 +36,11 @@ class SharedPlan:
 
 
 def said_in(read: Any, number: int) -> Dict[str, Any]:
-    """What was read of a stage of this number, if it is something of the kind: its name, its function's name, version and arguments, and
-    the lower stages that it speaks of."""
+    """What was read of a stage of this number, if it is something of the kind: its name, its function's name,
+    version and arguments, and the lower stages that it speaks of."""
     kinds = {"name": str, "fn": str, "version": int, "args": list, "kwargs": dict, "again": int, "to": int}
-    if not isinstance(read, dict) or "name" not in read or any(name in read and not isinstance(read[name], kind) for name, kind in kinds.items()):
+    if not isinstance(read, dict) or "name" not in read or any(name in read and not isinstance(read[name], kind)
+                                                               for name, kind in kinds.items()):
         raise ValueError(f"it says nothing of a stage: {str(read)[:80]}")
     if any(not 0 <= read.get(name, 0) < max(number, 1) for name in ("again", "to")):
         raise ValueError(f"it names a stage that isn't lower: {str(read)[:80]}")
@@ -52,14 +52,15 @@ def _nobody(*_: Any) -> None:
 
 
 def text_of(flow: Optional[Flow], functions: Functions) -> str:
-    """The text of a flow's plan, or of one without stages. `TypeError` where a function isn't registered, or a stage composes: the promise
-    for what its function gives would be a stage more."""
+    """The text of a flow's plan, or of one without stages. `TypeError` where a function isn't registered, or a stage
+    composes: the promise for what its function gives would be a stage more."""
     stages = []
     for form, of, call, name in [] if flow is None else flow._rows:
         if form in COMPOSE_FORMS:
             raise TypeError(f"{name}: a flow in a store has no compose; a stage of a request has")
         stages.append({"form": FORMS[form], "of": list(of), "name": name, **said_of(functions, call, (), {})})
-    return json.dumps({"cf": FORMAT, "flow": "" if flow is None else flow.name, "stages": stages}, separators=(",", ":"))
+    return json.dumps({"cf": FORMAT, "flow": "" if flow is None else flow.name, "stages": stages},
+                      separators=(",", ":"))
 
 
 def tried_again(said: Dict[str, Any]) -> Optional[int]:

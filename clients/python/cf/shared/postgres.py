@@ -6,7 +6,8 @@ import threading
 import time
 from typing import Any, Dict, Generator, Iterator, List, NoReturn, Optional, Sequence, Tuple
 
-from .rows import Entry, Gone, Listed, Opened, Put, Store, StoreError, Timer, Transaction, Unknown, in_a_row
+from .rows import Entry, Opened, Put, StoreError, Timer, Transaction, Unknown, in_a_row
+from .tables import TableStore
 
 psycopg2: Any = importlib.import_module("psycopg2")  # (its types are installed on some machines only)
 errors: Any = importlib.import_module("psycopg2.errors")
@@ -15,27 +16,28 @@ SCHEMA = """
     create table if not exists cf_request (id bigserial primary key, name text not null unique, plan text not null,
         opened double precision not null, closed double precision, made_by xid8 not null default pg_current_xact_id());
     create index if not exists cf_request_open on cf_request (made_by) where closed is null;
-    create table if not exists cf_word (request bigint, at int, word bigint not null, token bigint not null, payload bytea,
-        made_by xid8 not null default pg_current_xact_id(), primary key (request, at));
+    create table if not exists cf_word (request bigint, at int, word bigint not null, token bigint not null,
+        payload bytea, made_by xid8 not null default pg_current_xact_id(), primary key (request, at));
     create index if not exists cf_word_made_by on cf_word (made_by);
     create table if not exists cf_beat (session bigint primary key, count bigint not null);
-    create table if not exists cf_timer (request bigint, stage int, due double precision not null, payload bytea not null,
-        primary key (request, stage));
+    create table if not exists cf_timer (request bigint, stage int, due double precision not null,
+        payload bytea not null, primary key (request, stage));
     create index if not exists cf_timer_due on cf_timer (due);
 """
 NOW = "extract(epoch from clock_timestamp())::double precision"
 MARK = "select pg_snapshot_xmin(pg_current_snapshot())::text::bigint"
 SET_UP = 6_318_042  # the number of the lock under which tables are made
 PREPARED = """
-    prepare cf_put(bigint, int, bigint, bigint, bytea) as insert into cf_word select id, $2, $3, $4, $5 from cf_request where id = $1
-        on conflict do nothing;
-    prepare cf_two(bigint, int, bigint, bigint, bytea, bigint, bigint, bytea) as insert into cf_word select id, v.* from cf_request,
-        (values ($2, $3, $4, $5), ($2 + 1, $6, $7, $8)) as v where id = $1;
-    prepare cf_read(bigint, int) as select at, word, token from cf_request left join cf_word on request = id and at >= $2 where id = $1
-        order by at;
+    prepare cf_put(bigint, int, bigint, bigint, bytea) as
+        insert into cf_word select id, $2, $3, $4, $5 from cf_request where id = $1 on conflict do nothing;
+    prepare cf_two(bigint, int, bigint, bigint, bytea, bigint, bigint, bytea) as insert into cf_word
+        select id, v.* from cf_request, (values ($2, $3, $4, $5), ($2 + 1, $6, $7, $8)) as v where id = $1;
+    prepare cf_read(bigint, int) as select at, word, token from cf_request
+        left join cf_word on request = id and at >= $2 where id = $1 order by at;
 """
 HAS = "(select coalesce(max(at) + 1, 0) from cf_word where request = id) = %s"  # so many words
-PUT_ALL = "insert into cf_word select id, at, word, token, payload from (values %s) as v(request, at, word, token, payload) join cf_request on id = request"
+PUT_ALL = ("insert into cf_word select id, at, word, token, payload "
+           "from (values %s) as v(request, at, word, token, payload) join cf_request on id = request")
 SAFE = {"fsync": ("on",), "full_page_writes": ("on",), "transaction_read_only": ("off",)}
 # A network that lets nothing through is told after 20 s: else a call would wait for many minutes.
 NOTICES_SILENCE = {"tcp_user_timeout": 20_000, "keepalives_idle": 10, "keepalives_interval": 5, "keepalives_count": 2}
@@ -43,20 +45,21 @@ LEAST_BETWEEN = 0.01  # seconds between two notices: the first goes at once
 BETWEEN_TRIES = 0.2  # seconds between two tries of a notice that couldn't be sent
 
 
-class Postgres(Store):
-    """A database. Each connection sets `synchronous_commit` to on, where the server hasn't more; a server without `fsync` or
-    `full_page_writes`, or one that can only be read, is refused; one that can only be read later, as in a switch-over, is waited for. With
-    `is_unsafe` it answers before it has written.
+class Postgres(TableStore):
+    """A database. Each connection sets `synchronous_commit` to on, where the server hasn't more; a server without
+    `fsync` or `full_page_writes`, or one that can only be read, is refused; one that can only be read later, as in a
+    switch-over, is waited for. With `is_unsafe` it answers before it has written.
 
-    Waiters are woken by NOTIFY of a connection of its own, behind the commit: within the put it takes a lock of the whole database. That
-    connection doesn't wait for the disk, since a notice that a crash has lost was for nobody."""
+    Waiters are woken by NOTIFY of a connection of its own, behind the commit: within the put it takes a lock of the
+    whole database. That connection doesn't wait for the disk, since a notice that a crash has lost was for nobody."""
 
     is_transactional = True
+    VALUE = "%s"
 
     def __init__(self, address: str, is_unsafe: bool = False) -> None:
+        super().__init__()
         self._address, self._is_unsafe = address, is_unsafe
         self._free: List[Any] = []
-        self._ids: Dict[str, int] = {}
         self._local = threading.local()
         self._changes = threading.Event()
         self._notifier: Optional[threading.Thread] = None
@@ -80,7 +83,8 @@ class Postgres(Store):
                     if found not in wanted:
                         is_away = self._is_made and name == "transaction_read_only"
                         raise (Unknown if is_away else StoreError)(
-                            f"{db.info.host}:{db.info.port}: {name} is {found}, with which words are lost or can't be put")
+                            f"{db.info.host}:{db.info.port}: {name} is {found}, "
+                            "with which words are lost or can't be put")
                 cursor.execute("show synchronous_commit")
                 if self._is_unsafe or cursor.fetchone()[0] in ("off", "local"):
                     cursor.execute(f"set synchronous_commit = {'off' if self._is_unsafe else 'on'}")
@@ -124,45 +128,15 @@ class Postgres(Store):
     def _ask(self, statement: str, *values: Any) -> List[Tuple[Any, ...]]:
         return self._do(statement, values)[1]
 
-    def _id(self, name: str) -> int:
-        found = self._ids.get(name)
-        if found is None:
-            rows = self._ask("select id from cf_request where name = %s", name)
-            if not rows:
-                raise Gone(name)
-            found = self._ids[name] = int(rows[0][0])
-        return found
-
-    def _gone(self, name: str) -> Gone:
-        """Says that a request isn't there. Another of its name may be."""
-        self._ids.pop(name, None)
-        return Gone(name)
-
-    def _id_of(self, put: Put) -> int:
-        number = self._id(put.request)
-        if put.number not in (0, number):
-            raise Gone(put.request)
-        return number
-
     # Requests.
 
     def open(self, name: str, plan: str) -> Opened:
         found = self.find(name)
         while found is None:  # (it may be dropped meanwhile)
-            self._ask(f"insert into cf_request (name, plan, opened) values (%s, %s, {NOW}) on conflict do nothing", name, plan)
+            self._ask(f"insert into cf_request (name, plan, opened) values (%s, %s, {NOW}) on conflict do nothing",
+                      name, plan)
             found = self.find(name)
         return found
-
-    def find(self, name: str) -> Optional[Opened]:
-        rows = self._ask("select id, plan, opened from cf_request where name = %s", name)
-        if not rows:
-            return None
-        number = self._ids[name] = int(rows[0][0])
-        return Opened(name, str(rows[0][1]), float(rows[0][2]), number)
-
-    def ends(self) -> Dict[str, int]:
-        return {str(name): int(many or 0) for name, many in self._ask(
-            "select name, (select max(at) + 1 from cf_word where request = id) from cf_request where closed is null")}
 
     def news(self, mark: Any) -> Tuple[Dict[str, int], Any]:
         # All transactions below the mark had ended when it was read, so what they did was told.
@@ -181,28 +155,27 @@ class Postgres(Store):
                 told[str(name)] = max(int(many), told.get(str(name), 0))
         return told, mark
 
-    def listing(self) -> List[Listed]:
-        return [Listed(str(name), float(opened), closed, int(many or 0)) for name, opened, closed, many in self._ask(
-            "select name, opened, closed, (select max(at) + 1 from cf_word where request = id) from cf_request order by name")]
-
     def end(self, name: str, at: int, number: int = 0) -> None:
         number = number or self._id(name)
-        if not self._ask(f"with closed as (update cf_request set closed = {NOW} where id = %s and closed is null and {HAS} returning id), "
+        if not self._ask(f"with closed as (update cf_request set closed = {NOW} "
+                         f"where id = %s and closed is null and {HAS} returning id), "
                          "timers as (delete from cf_timer where request in (select id from closed)) "
                          "select 1 from cf_request where id = %s", number, at, number):
             raise self._gone(name)
 
     def reopen(self, name: str, number: int = 0) -> None:
         number = number or self._id(name)
-        if not self._ask("with opened as (update cf_request set closed = null, made_by = pg_current_xact_id() where id = %s "
-                         "and closed is not null returning id) select 1 from cf_request where id = %s", number, number):
+        if not self._ask("with opened as (update cf_request set closed = null, made_by = pg_current_xact_id() "
+                         "where id = %s and closed is not null returning id) select 1 from cf_request where id = %s",
+                         number, number):
             raise self._gone(name)
 
     def drop(self, name: str, at: Optional[int] = None) -> bool:
         is_so = "" if at is None else f" and closed is not null and {HAS}"
         dropped = bool(self._ask(f"with gone as (delete from cf_request where id = %s{is_so} returning id), "
                                  "words as (delete from cf_word where request in (select id from gone)), "
-                                 "timers as (delete from cf_timer where request in (select id from gone)) select id from gone",
+                                 "timers as (delete from cf_timer where request in (select id from gone)) "
+                                 "select id from gone",
                                  self._id(name), *(() if at is None else (at,))))
         if dropped:
             self._ids.pop(name, None)
@@ -213,7 +186,8 @@ class Postgres(Store):
     def append_groups(self, puts: Sequence[Put]) -> List[Optional[List[Entry]]]:
         puts, order = sorted(puts, key=lambda put: put.request), list(puts)
         ids = {put.request: self._id_of(put) for put in puts}
-        rows = [(ids[put.request], put.at + k, *entry, put.payloads.get(put.at + 1 + k)) for put in puts for k, entry in enumerate(put.entries)]
+        rows = [(ids[put.request], put.at + k, *entry, put.payloads.get(put.at + 1 + k)) for put in puts
+                for k, entry in enumerate(put.entries)]
         if len(rows) == 1:
             told = [self._append_one(puts[0], rows[0])]
         else:
@@ -237,7 +211,8 @@ class Postgres(Store):
             if len(rows) == 2 and len(puts) == 1:
                 many, _ = self._do("execute cf_two(%s, %s, %s, %s, %s, %s, %s, %s)", (*rows[0], *rows[1][2:]))
             else:
-                many, _ = self._do(PUT_ALL % ",".join(["(%s,%s,%s,%s,%s::bytea)"] * len(rows)), [it for row in rows for it in row])
+                many, _ = self._do(PUT_ALL % ",".join(["(%s,%s,%s,%s,%s::bytea)"] * len(rows)),
+                                   [it for row in rows for it in row])
             if many == len(rows):
                 return [None] * len(puts)
         except errors.UniqueViolation:
@@ -254,8 +229,9 @@ class Postgres(Store):
         return in_a_row(name, at, rows if rows[0][0] is not None else [])
 
     def payloads(self, name: str, places: Sequence[int], number: int = 0) -> Dict[int, bytes]:
-        rows = self._ask("select at + 1, payload from cf_request left join cf_word on request = id and at = any(%s) and payload is not null "
-                         "where id = %s", [place - 1 for place in places], number or self._id(name))
+        rows = self._ask("select at + 1, payload from cf_request left join cf_word on request = id and at = any(%s) "
+                         "and payload is not null where id = %s",
+                         [place - 1 for place in places], number or self._id(name))
         if not rows:
             raise self._gone(name)
         return {int(place): bytes(payload) for place, payload in rows if place is not None}
@@ -266,7 +242,8 @@ class Postgres(Store):
         """Wakes who waits. What was put stands, so nothing is raised here: who gets no notice looks by himself."""
         self._changes.set()
         if self._notifier is None:
-            with self._lock, contextlib.suppress(RuntimeError):  # no thread can be started now: the next put tries again
+            # no thread can be started now: the next put tries again
+            with self._lock, contextlib.suppress(RuntimeError):
                 if self._notifier is None:
                     notifier = threading.Thread(target=self._run_notifier, name="cf-notify", daemon=True)
                     notifier.start()
@@ -311,10 +288,8 @@ class Postgres(Store):
     # Sessions and timers.
 
     def beat(self, session: int) -> None:
-        self._ask("insert into cf_beat values (%s, 1) on conflict (session) do update set count = cf_beat.count + 1", session)
-
-    def beats(self) -> Dict[int, int]:
-        return {int(session): int(count) for session, count in self._ask("select session, count from cf_beat")}
+        self._ask("insert into cf_beat values (%s, 1) on conflict (session) do update set count = cf_beat.count + 1",
+                  session)
 
     def drop_beat(self, session: int) -> None:
         self._ask("delete from cf_beat where session = %s", session)
@@ -323,13 +298,16 @@ class Postgres(Store):
         return float(self._ask(f"select {NOW}")[0][0])
 
     def set_timer(self, timer: Timer) -> None:
-        if not self._do("insert into cf_timer select id, %s, %s, %s from cf_request where id = %s on conflict (request, stage) do update "
-                        "set due = excluded.due, payload = excluded.payload", (*timer[1:4], timer.number or self._id(timer.request)))[0]:
+        if not self._do("insert into cf_timer select id, %s, %s, %s from cf_request where id = %s "
+                        "on conflict (request, stage) do update set due = excluded.due, payload = excluded.payload",
+                        (*timer[1:4], timer.number or self._id(timer.request)))[0]:
             raise self._gone(timer.request)
 
     def due(self, now: float) -> List[Timer]:
-        return [Timer(str(name), int(stage), float(due), bytes(payload), int(number)) for name, stage, due, payload, number in self._ask(
-            "select name, stage, due, payload, id from cf_timer join cf_request on id = request where due <= %s order by due", now)]
+        rows = self._ask("select name, stage, due, payload, id from cf_timer join cf_request on id = request "
+                         "where due <= %s order by due", now)
+        return [Timer(str(name), int(stage), float(at), bytes(payload), int(number))
+                for name, stage, at, payload, number in rows]
 
     def drop_timer(self, request: str, stage: int, number: int = 0) -> None:
         self._ask("delete from cf_timer where request = %s and stage = %s", number or self._id(request), stage)
@@ -360,8 +338,8 @@ class Postgres(Store):
 
 
 def _is_lost(error: Any) -> bool:
-    """Whether it isn't known what became of a statement, or the server can only be read for now: a cut connection may come as a
-    `DatabaseError` without a kind."""
+    """Whether it isn't known what became of a statement, or the server can only be read for now: a cut connection
+    may come as a `DatabaseError` without a kind."""
     if isinstance(error, errors.ProgramLimitExceeded):  # a name that is too long, say: asked again it is refused again
         return False
     is_away = isinstance(error, (psycopg2.OperationalError, psycopg2.InterfaceError, errors.ReadOnlySqlTransaction))
@@ -392,7 +370,8 @@ class _Transaction(Transaction):
             raise StoreError("the function has closed its cursor")
         with self._store._telling():
             for k, entry in enumerate(put.entries):
-                self.connection.execute("insert into cf_word select id, %s, %s, %s, %s from cf_request where id = %s on conflict do nothing",
+                self.connection.execute("insert into cf_word select id, %s, %s, %s, %s from cf_request where id = %s "
+                                        "on conflict do nothing",
                                         (put.at + k, *entry, put.payloads.get(put.at + 1 + k), number))
                 if self.connection.rowcount != 1:
                     return False

@@ -1,4 +1,65 @@
-"""A request whose row stands in a store, and its stages as futures."""
+"""A request whose row stands in a store, and its stages as futures.
+
+The design of `cf.shared`, which this file leads through:
+
+A request is a row of words in a store. Each process that works on it replays the words on a ledger of its own, so all
+have the same graph. To change something is to put a word at the end of the row that one has seen. Of two that put at
+the same place, the store takes one; the other reads what stands there, and decides again. So the row is the one order
+of all that happened, and the proved ledger says what follows from it. docs/SCALE.md says what that asks of a store.
+
+What is kept where
+    - A `Store` (rows.py) has rows, payloads, timers and the beats of sessions. A payload is what a word's number stands
+      for: a value, an exception, or what an attached stage is. It is put with its word, and named by the word's place.
+    - A `RowView` (view.py) is what one session knows of one row: ledger, words, and what they say of each stage. It
+      reads (`catch_up`) and puts (`act`), and knows nothing of futures.
+    - `DurableRequest` has one view, and the futures that somebody has asked for. A `DurableStage` shows what is read of
+      the row. It is a plain `concurrent.futures.Future`, which is settled once.
+    - `DurableService` (service.py) has the requests that this process works on, a pool of threads that runs functions,
+      and the pump, a thread that looks what is new.
+
+What guards what
+    `_lock` guards the view; who reads or puts has it while the store answers. Who puts takes `_writes` before it. A
+    transactional function of a store that lets nobody else put meanwhile (SQLite) runs with `_writes`: this process's
+    other threads then wait there, and not in the store with `_lock`, which the function's finish needs. A codec,
+    a callback, `describe` and any other function run without either. `DurableService._lock` guards its table of
+    requests, and isn't held while a store is asked.
+
+What happens at a change (`_act`)
+    1. `decide` says by what is seen which words are wanted, or none. It may be asked again, and so only looks.
+    2. The view puts them with their payloads, as one step of the store: all of them or none.
+    3. If they stand, the ledger does them. If others' words stand there, it does those, and step 1 comes again. A put
+       of which no answer came is known later by its token.
+    4. Without a lock, `_show` settles the futures of the stages that are settled now: it reads their payloads, the
+       codec makes objects of them, and callbacks are called. What a callback raises keeps no other from being called.
+       A stage whose payload can't be read yet stays in `_unshown`, and is shown later.
+
+A function from ready to finished
+    `_serve` hands a request to the pool. `DurableService._work` catches up, and claims one stage whose function is
+    registered here. It calls the function without a lock. The finish and the claim of the next stage are one put. A
+    transactional function puts its finish in its own transaction (`_act_within`). A session that is silent for too long
+    is taken for gone: others fail the stages that it had claimed, with `Abandoned`, and `again` has tries behind them.
+
+Relays
+    A stage that composes has a promise beside it, which stands for what comes. Its finish links to that promise, and
+    its payload names the stage that the function gave. Whoever sees that this one is settled settles the promise alike
+    (`_relay`).
+
+Deadlines
+    `_later` keeps a timer in the store. The pump of any process that works on the request fires it (`_fire`), which is
+    a change as any other, and forgets it then. A stage has one timer.
+
+Room
+    A request has at most 4,096 stages. `RowView.make_room` has the ledger make more room as it is needed. `RequestFull`
+    is raised before anything is put.
+
+Errors
+    `Unknown`: the store didn't answer for a minute; what was asked may stand. `Broken`: the row can't be gone on with.
+    `Gone`, a `Broken`: the request was dropped. `StoreError`: all else that a store refuses.
+
+Which methods call a user's code
+    `DurableService._called`, `_composed` and `_tried` (functions), `DurableStage._invoke_callbacks`, the codec in
+    `_outcome` and `_value`, and `history` (codec and `describe`).
+"""
 import asyncio
 import concurrent.futures
 import contextlib
@@ -6,14 +67,15 @@ import json
 import logging
 import threading
 from concurrent.futures import CancelledError, InvalidStateError
-from typing import TYPE_CHECKING, Any, Callable, ContextManager, Dict, Generator, Generic, Iterable, List, Optional, Sequence, Set, Tuple, TypeVar
+from typing import (TYPE_CHECKING, Any, Callable, ContextManager, Dict, Generator, Generic, Iterable, List, Optional,
+                    Sequence, Set, Tuple, TypeVar)
 
 from ..service.flow import Again, Step, _alone
-from ..service.history import Describe, History, Told, escaped
-from ..service.words import (ANSWER, ATTACH, CANCEL, CANCELLED, COMPLETE, FAIL, FAIL_AS, FAILURES, GIVES, MOST_STAGES, NUMBER, THROWN,
-                             TIMED_OUT, VALUE, RequestFull)
+from ..service.history import Describe, History, escaped
+from ..service.words import (ANSWER, ATTACH, CANCEL, CANCELLED, COMPLETE, FAIL, FAIL_AS, FAILURES, GIVES, MOST_STAGES,
+                             NUMBER, THROWN, TIMED_OUT, VALUE, RequestFull, Told)
 from ..values import BadAnswer, Form
-from .desk import Desk, Done
+from .view import Done, RowView
 from .functions import said_of
 from .rows import Put, StoreError, Timer, Transaction, Unknown
 
@@ -37,56 +99,83 @@ else:
         """Python 3.8 has futures without a parameter."""
 
 
-class Stage(_Future[T]):
-    """A stage of a request in a store: a future that can be awaited, and that shows what this process has read of the row.
+class DurableStage(_Future[T]):
+    """A stage of a request in a store: a future that can be awaited, and that shows what this process has read of the
+    row.
 
-    Functions are registered ones. Each call that attaches or settles is one put of the engine, which has it when the call returns, and
-    raises `Unknown` where the engine is silent for a minute: it may stand or not then."""
+    Its methods are those of `cf.service.Stage`, with these differences:
 
-    def __init__(self, request: "Request", number: int) -> None:
+    - Functions are registered ones (`@service.function`), and values are what the codec takes.
+    - A stage that is attached or settled is in the store when the call returns.
+    - Other stages are of the same request.
+
+    Each method that attaches a stage returns the new stage. Each method that changes something raises
+
+        TypeError: The function isn't registered, the codec can't write the value, or a stage is another request's.
+        RequestFull: There would be more than 4,096 stages. Nothing is put.
+        Unknown: The store didn't answer for a minute. What was asked may stand or not.
+        Broken: The row can't be gone on with, or the request was dropped.
+        StoreError: The store refuses it, or a transactional function of this request runs on this thread."""
+
+    def __init__(self, request: "DurableRequest", number: int) -> None:
         super().__init__()
-        self.request: "Request" = request
+        self.request: "DurableRequest" = request
         self.number: int = number
 
     @property
     def name(self) -> str:
-        """What histories call it."""
-        return str(self.request._desk.said(self.number)["name"])
+        """What histories call the stage: the name of its function, or of the promise."""
+        return str(self.request._view.said(self.number)["name"])
 
-    def then(self, fn: Callable[[T], U]) -> "Stage[U]":
-        """What the function gives of the value."""
+    def then(self, fn: Callable[[T], U]) -> "DurableStage[U]":
+        """As `cf.service.Stage.then`, with a registered function."""
         return self.request._attach(Form.APPLY, (self,), fn)
 
-    def combine(self, other: "Stage[U]", fn: Callable[[T, U], V]) -> "Stage[V]":
-        """What the function gives of both values."""
+    def combine(self, other: "DurableStage[U]", fn: Callable[[T, U], V]) -> "DurableStage[V]":
+        """As `cf.service.Stage.combine`. The other stage is of this request."""
         return self.request._attach(Form.COMBINE, (self, other), fn)
 
-    def either(self, other: "Stage[T]", fn: Callable[[T], U]) -> "Stage[U]":
-        """What the function gives of the value that is there first."""
+    def either(self, other: "DurableStage[T]", fn: Callable[[T], U]) -> "DurableStage[U]":
+        """As `cf.service.Stage.either`. The other stage is of this request."""
         return self.request._attach(Form.APPLY_EITHER, (self, other), fn)
 
-    def handle(self, fn: Callable[[Optional[T], Optional[BaseException]], U]) -> "Stage[U]":
-        """What the function gives of the value or the exception; the other is None."""
+    def handle(self, fn: Callable[[Optional[T], Optional[BaseException]], U]) -> "DurableStage[U]":
+        """As `cf.service.Stage.handle`, with a registered function."""
         return self.request._attach(Form.HANDLE, (self,), fn)
 
-    def when_done(self, fn: Callable[[Optional[T], Optional[BaseException]], object]) -> "Stage[T]":
-        """The same value or exception, once the function was called with it."""
+    def when_done(self, fn: Callable[[Optional[T], Optional[BaseException]], object]) -> "DurableStage[T]":
+        """As `cf.service.Stage.when_done`, with a registered function."""
         return self.request._attach(Form.WHEN_COMPLETE, (self,), fn)
 
-    def recover(self, fn: Callable[[BaseException], T]) -> "Stage[T]":
-        """The value, or what the function gives of the exception."""
+    def recover(self, fn: Callable[[BaseException], T]) -> "DurableStage[T]":
+        """As `cf.service.Stage.recover`, with a registered function."""
         return self.request._attach(Form.EXCEPTIONALLY, (self,), fn)
 
-    def compose(self, fn: "Callable[[Request, T], Stage[U]]") -> "Stage[U]":
-        """What the stage comes to that the function gives. It is called with this request, as the process has it that runs the function, and
-        the value; it attaches stages and gives one of them. Two stages are attached here: a promise stands for what comes, and whoever sees
-        that the given stage is settled settles the promise alike."""
+    def compose(self, fn: "Callable[[DurableRequest, T], DurableStage[U]]") -> "DurableStage[U]":
+        """Has a function attach stages to this request, and waits for one of them without holding a thread.
+
+        Args:
+            fn: A registered function. It is called with the request, as the process has it that runs the function, and
+                with the value. It attaches stages to the request and returns one of them.
+
+        Returns:
+            A promise that ends as that stage does. Two stages are attached: the one that calls the function, and this
+            promise, which any process settles that sees the returned stage settled."""
         return self.request._compose(self, fn)
 
-    def again(self, times: int = 1) -> "Stage[T]":
-        """So many further tries, each a stage, where the process that ran this one's function is gone. What the function did before may be
-        done twice then, unless it is transactional."""
-        if "to" in self.request._desk.said(self.number):
+    def again(self, times: int = 1) -> "DurableStage[T]":
+        """Plans further tries, for the case that the process that runs this stage's function dies. A function that
+        isn't transactional may have done its work before, and does it once more with each try.
+
+        Args:
+            times: How many further tries, each of which is a stage of its own.
+
+        Returns:
+            The last try. It passes on the value of an earlier one.
+
+        Raises:
+            TypeError: The stage composes. The stages that its function attaches may have further tries."""
+        if "to" in self.request._view.said(self.number):
             raise TypeError("a stage that composes has no further tries; those that its function attaches may")
         stage, name = self, f"{self.name} again"
         for _ in range(times):
@@ -94,31 +183,40 @@ class Stage(_Future[T]):
         return stage
 
     def complete(self, value: T) -> bool:
-        """Settles it with a value, unless it is settled; whether it did."""
+        """Settles the stage with a value, unless it is settled. True if this call settled it."""
         given = self.request._service.codec.write(value) if value is not None else None
         return self.request._settle(COMPLETE, self.number, given)
 
     def fail(self, error: BaseException) -> bool:
-        """Settles it with an exception, unless it is settled; whether it did."""
+        """Settles the stage with an exception, unless it is settled. True if this call settled it."""
         return self.request._settle(FAIL, self.number, self.request._service.codec.write_error(error))
 
     def cancel(self) -> bool:
-        """Cancels it, unless it is settled or its function runs somewhere; whether it is cancelled then."""
+        """Cancels the stage, unless it is settled or its function runs in some process. True if it is cancelled
+        after the call."""
         return self.request._settle(CANCEL, self.number, None, waits=True)
 
     def abandon(self) -> bool:
-        """Cancels it also while its function runs, whose answer comes too late then; whether it is cancelled then."""
+        """Cancels the stage, unless it is settled, also while its function runs, whose answer comes too late then.
+        True if it is cancelled after the call."""
         return self.request._settle(CANCEL, self.number, None)
 
-    def or_timeout(self, seconds: float) -> "Stage[T]":
-        """Lets it time out, with a `TimeoutError`, unless it is settled by then: any process that works on the request does it. A stage has
-        one timer, and this replaces one that it had. This stage itself is given back."""
+    def or_timeout(self, seconds: float) -> "DurableStage[T]":
+        """Sets a timer in the store, by which the stage fails with a `TimeoutError` unless it is settled. Any process
+        that works on the request fires it. A stage has one timer; a second call replaces the first one's.
+
+        Args:
+            seconds: From now on, by the store's clock.
+
+        Returns:
+            This stage itself."""
         error = TimeoutError(f"{escaped(self.name)} took longer than {seconds} s")
         return self.request._later(self, seconds, b"E" + self.request._service.codec.write_error(error))
 
-    def complete_on_timeout(self, value: T, seconds: float) -> "Stage[T]":
-        """Gives it the value, unless it is settled by then, in the same way."""
-        return self.request._later(self, seconds, b"N" if value is None else b"V" + self.request._service.codec.write(value))
+    def complete_on_timeout(self, value: T, seconds: float) -> "DurableStage[T]":
+        """Sets a timer in the store, by which the stage gets a value unless it is settled, as `or_timeout`."""
+        payload = b"N" if value is None else b"V" + self.request._service.codec.write(value)
+        return self.request._later(self, seconds, payload)
 
     def set_result(self, result: T) -> None:
         """As `complete`; a settled stage raises `InvalidStateError`."""
@@ -137,7 +235,7 @@ class Stage(_Future[T]):
     @property
     def _ended(self) -> int:
         """The kind of its outcome, as far as it is read."""
-        return self.request._desk.told[self.number].kind
+        return self.request._view.told[self.number].kind
 
     def _show(self, value: Any, error: Optional[BaseException], is_cancelled: bool) -> None:
         """Tells those who wait, once."""
@@ -169,17 +267,20 @@ class Stage(_Future[T]):
             raise ended
 
 
-class Request:
-    """A request in a store. A service opens it. Any thread may use it, and processes share it."""
+class DurableRequest:
+    """A request in a store. `DurableService.request`, `start` and `open` give one. Any thread may use it, and processes
+    share it.
 
-    def __init__(self, service: "DurableService", desk: Desk) -> None:
-        self._service, self._desk = service, desk
-        self.name: str = desk.name
-        self.number: int = desk.opened.number
+    Each method that changes something raises what `DurableStage` says."""
+
+    def __init__(self, service: "DurableService", view: RowView) -> None:
+        self._service, self._view = service, view
+        self.name: str = view.name
+        self.number: int = view.opened.number
         self._lock = threading.RLock()
         self._writes = threading.RLock()  # taken before the other one by who puts
         self._transacts: Set[int] = set()  # the threads that run a transactional function of it
-        self._stages: Dict[int, Stage[Any]] = {}
+        self._stages: Dict[int, DurableStage[Any]] = {}
         self.is_queued = self.is_leaving = False
         self.is_closed = False  # in the store, as far as is known
         self.reopens: bool = False  # whether that has yet to be taken back
@@ -190,71 +291,84 @@ class Request:
     @property
     def seen(self) -> int:
         """How many words of it this process has read."""
-        return self._desk.seen
+        return self._view.seen
 
     # Stages.
 
-    def supply(self, fn: Callable[..., T], /, *args: Any, **kwargs: Any) -> "Stage[T]":
-        """What the registered function gives, called with these arguments, which the codec has to take."""
+    def supply(self, fn: Callable[..., T], /, *args: Any, **kwargs: Any) -> "DurableStage[T]":
+        """Has a registered function called by any process that works on the request.
+
+        Args:
+            fn: The function. It is called with the other arguments, which have to be what JSON has.
+
+        Returns:
+            A stage that ends with what the function returns or raises."""
         return self._attach(Form.SUPPLY, (), fn, args, kwargs)
 
-    def promise(self, name: str = "promise") -> "Stage[Any]":
-        """What somebody completes it with."""
+    def promise(self, name: str = "promise") -> "DurableStage[Any]":
+        """A stage without a function, which somebody settles, in any process."""
         return self._attach(Form.SOURCE, (), None, name=name)
 
-    def all_of(self, *of: "Stage[Any]") -> "Stage[None]":
-        """None, once all have values; else the exception of the first in this order that has one. Of n stages it takes n - 1."""
+    def all_of(self, *of: "DurableStage[Any]") -> "DurableStage[None]":
+        """A stage that ends once all are settled: with None if all have values, else with the exception of the first
+        one in this order that has one. For n stages it takes n - 1, at least one."""
         return self._tree(Form.ALL_OF, of, "all of")
 
-    def first_of(self, *of: "Stage[T]") -> "Stage[T]":
-        """What the first has that is settled, be it an exception. Of n stages it takes n - 1; of none, `ValueError`."""
+    def first_of(self, *of: "DurableStage[T]") -> "DurableStage[T]":
+        """A stage that ends as the first one that is settled, be it with an exception. For n stages it takes n - 1,
+        at least one. `ValueError` if no stage is given."""
         if not of:
             raise ValueError("of no stages none is the first")
         return self._tree(Form.ANY_OF, of, "first of")
 
-    def gather(self, *of: "Stage[T]") -> "Stage[List[T]]":
-        """The values of all, in this order. Of n stages it takes 2 n - 1; of none, `ValueError`."""
+    def gather(self, *of: "DurableStage[T]") -> "DurableStage[List[T]]":
+        """A stage that ends with the list of the values of all, in this order, or fails as `all_of` does. For n
+        stages it takes 2 n - 1. `ValueError` if no stage is given."""
         if not of:
             raise ValueError("a list of nothing needs no stage")
         add = self._service.functions.named("cf.add", 1)
         assert add is not None
-        row: List[Stage[Any]] = [self._attach(Form.APPLY, (stage,), _alone, name="gather") for stage in of]
+        row: List[DurableStage[Any]] = [self._attach(Form.APPLY, (stage,), _alone, name="gather") for stage in of]
         while len(row) > 1:
             pairs = [row[k:k + 2] for k in range(0, len(row), 2)]
-            row = [self._attach(Form.COMBINE, tuple(it), add.call, name="gather") if len(it) == 2 else it[0] for it in pairs]
+            row = [self._attach(Form.COMBINE, tuple(it), add.call, name="gather") if len(it) == 2 else it[0]
+                   for it in pairs]
         return row[0]
 
-    def __getitem__(self, which: "Step[T] | int | str") -> "Stage[T]":
-        """The stage of a flow's step, of a number, or the first of a name."""
+    def __getitem__(self, which: "Step[T] | int | str") -> "DurableStage[T]":
+        """The stage of a flow's step, the one of a number, or the first one of a name. `KeyError` if there is none."""
         self._catch_up()
-        many = len(self._desk.forms)
+        many = len(self._view.forms)
         if isinstance(which, str):
-            which = next((k for k in range(many) if self._desk.said(k)["name"] == which), many)
+            which = next((k for k in range(many) if self._view.said(k)["name"] == which), many)
         number = which.number if isinstance(which, Step) else which
         if not 0 <= number < many:
             raise KeyError(which)
         return self._stage(number)
 
     def history(self) -> History:
-        """All that happened until now, as the row tells it. It takes time by the number of words."""
+        """All that happened until now, as the row tells it. It reads all payloads, so it takes time by the number of
+        words."""
         self._catch_up()
-        return self._desk.history(self._service.codec, self._lock)._described(self._describe)
+        return self._view.history(self._service.codec, self._lock)._described(self._describe)
 
     def end(self) -> None:
-        """Closes it: nothing is left to do in it, and workers look at it no more. A flow's request does so by itself. A stage that is
-        attached opens it again."""
+        """Closes the request: nothing is left to do in it, and workers look at it no more. Its timers are forgotten.
+        A flow's request is closed by itself once all its stages are settled. A stage that is attached opens a
+        request again."""
         self._catch_up()
-        self._desk.sure(lambda: self._service.store.end(self.name, self.seen, self.number))
+        self._view.sure(lambda: self._service.store.end(self.name, self.seen, self.number))
         self.is_closed = True
 
     # Acting on the row.
 
-    def _act(self, decide: Callable[[Desk], Any]) -> Optional[List[Done]]:
+    def _act(self, decide: Callable[[RowView], Any]) -> Optional[List[Done]]:
         if threading.get_ident() in self._transacts:
-            raise StoreError(f"request {self.name!r}: its transactional function can't put to it: that takes the place of its finish")
+            raise StoreError(f"request {self.name!r}: its transactional function can't put to it: "
+                             "that takes the place of its finish")
         try:
             with self._writes, self._lock:
-                done, others = self._desk.act(decide)
+                done, others = self._view.act(decide)
         except BaseException:
             self._show_settled()
             raise
@@ -264,44 +378,46 @@ class Request:
     def _catch_up(self) -> None:
         try:
             with self._lock:
-                news = self._desk.catch_up()
+                news = self._view.catch_up()
         except BaseException:
             self._show_settled()
             raise
         self._show(news)
 
-    def _attach(self, form: Form, of: "Sequence[Stage[Any]]", call: Optional[Callable[..., Any]], args: Tuple[Any, ...] = (),
-                kwargs: Optional[Dict[str, Any]] = None, name: str = "") -> "Stage[Any]":
-        if any(stage.request._desk is not self._desk for stage in of):
+    def _attach(self, form: Form, of: "Sequence[DurableStage[Any]]", call: Optional[Callable[..., Any]],
+                args: Tuple[Any, ...] = (), kwargs: Optional[Dict[str, Any]] = None,
+                name: str = "") -> "DurableStage[Any]":
+        if any(stage.request._view is not self._view for stage in of):
             raise TypeError("no stage of this request")
         said = said_of(self._service.functions, call, args, kwargs or {})
         payload = json.dumps({"name": name or said.get("fn", form.name.lower()), **said}).encode()
         sources = tuple(stage.number for stage in of)
 
-        def decide(desk: Desk) -> Any:
-            desk.make_room(1)
-            number, (first, second) = len(desk.forms), (*sources, 0, 0)[:2]
+        def decide(view: RowView) -> Any:
+            view.make_room(1)
+            number, (first, second) = len(view.forms), (*sources, 0, 0)[:2]
             low = form << 24 | second << 12 | (0 if call is None else number)
-            return [(ATTACH << 56 | desk.who << 48 | first << 36 | len(sources) << 32 | low, payload)]
+            return [(ATTACH << 56 | view.who << 48 | first << 36 | len(sources) << 32 | low, payload)]
         return self._attached(decide)
 
-    def _compose(self, source: "Stage[Any]", call: Callable[..., Any]) -> "Stage[Any]":
-        if source.request._desk is not self._desk:
+    def _compose(self, source: "DurableStage[Any]", call: Callable[..., Any]) -> "DurableStage[Any]":
+        if source.request._view is not self._view:
             raise TypeError("no stage of this request")
         said = said_of(self._service.functions, call, (), {})
 
-        def decide(desk: Desk) -> Any:
-            desk.make_room(2)
-            number, head = len(desk.forms), ATTACH << 56 | desk.who << 48
+        def decide(view: RowView) -> Any:
+            view.make_room(2)
+            number, head = len(view.forms), ATTACH << 56 | view.who << 48
             promise = json.dumps({"name": f"what {said['fn']} gives"}).encode()
             own = json.dumps({"name": said["fn"], "to": number, **said}).encode()
-            return [(head | Form.SOURCE << 24, promise), (head | source.number << 36 | 1 << 32 | Form.COMPOSE << 24 | number + 1, own)]
+            return [(head | Form.SOURCE << 24, promise),
+                    (head | source.number << 36 | 1 << 32 | Form.COMPOSE << 24 | number + 1, own)]
         return self._attached(decide)
 
-    def _attached(self, decide: Callable[[Desk], Any]) -> "Stage[Any]":
-        """Puts words that attach stages, and gives the last of these. A request that may be closed in the store is opened again behind that,
-        by a worker where this call fails."""
-        may_be_closed = bool(self._desk.plan.rows) or self.is_closed
+    def _attached(self, decide: Callable[[RowView], Any]) -> "DurableStage[Any]":
+        """Puts words that attach stages, and gives the last of these. A request that may be closed in the store is
+        opened again after that, by a worker where this call fails."""
+        may_be_closed = bool(self._view.plan.rows) or self.is_closed
         if may_be_closed:
             self.reopens = True
             self._service._keep(self)
@@ -317,70 +433,72 @@ class Request:
     def _reopen(self) -> None:
         """Opens it again in the store, where it may be closed and stages were attached."""
         if self.reopens:
-            self._desk.sure(lambda: self._service.store.reopen(self.name, self.number))
+            self._view.sure(lambda: self._service.store.reopen(self.name, self.number))
             self.reopens = self.is_closed = False
             self._service._keep(self)  # (behind that: who thought it closed before doesn't forget it)
 
     def _relay(self) -> None:
-        """Settles the promises of stages that composed as the stages are that their functions gave, where those are settled, and cancels
-        those of stages that were settled in another way."""
-        desk = self._desk
+        """Settles the promises of stages that composed as the stages are that their functions gave, where those are
+        settled, and cancels those of stages that were settled in another way."""
+        view = self._view
 
         def given_in(said: bytes) -> int:
             given = int(json.loads(said)["stage"])
-            if not 0 <= given < len(desk.forms):
+            if not 0 <= given < len(view.forms):
                 raise ValueError(f"there is no stage {given}")
             return given
-        for stage in list(desk.unlinked):
-            promise = int(desk.said(stage).get("to", stage))
-            if promise not in desk.links and not desk.is_settled(promise):
+        for stage in list(view.unlinked):
+            promise = int(view.said(stage).get("to", stage))
+            if promise not in view.links and not view.is_settled(promise):
                 self._settle(CANCEL, promise, None)
-            desk.unlinked.discard(stage)
-        for promise, place in list(desk.links.items()):
-            given = desk.read(place, given_in) if not desk.is_settled(promise) else promise
+            view.unlinked.discard(stage)
+        for promise, place in list(view.links.items()):
+            given = view.read(place, given_in) if not view.is_settled(promise) else promise
             if given == promise:
-                desk.links.pop(promise, None)
-            elif desk.is_settled(given):
+                view.links.pop(promise, None)
+            elif view.is_settled(given):
                 kind, payload = self._alike(given)
-                self._settle(kind, promise, payload, failure=desk.told[given].kind)
+                self._settle(kind, promise, payload, failure=view.told[given].kind)
 
     def _alike(self, stage: int) -> Tuple[int, Optional[bytes]]:
         """The call that settles a promise as a stage is, and its payload."""
-        told = self._desk.told[stage]
+        told = self._view.told[stage]
         if told.kind == VALUE:
-            return COMPLETE, self._desk.payload(told.number) if told.some else None
+            return COMPLETE, self._view.payload(told.number) if told.some else None
         if told.kind == CANCELLED and not told.wrapped:
             return CANCEL, None
         if told.kind == THROWN:
-            return FAIL, self._desk.payload(told.code)
+            return FAIL, self._view.payload(told.code)
         if told.kind in FAILURES:
-            return FAIL_AS, self._desk.payload_if_any(self._desk.failed_of((stage,), told.kind))
+            return FAIL_AS, self._view.payload_if_any(self._view.failed_of((stage,), told.kind))
         return FAIL, self._service._error(CancelledError())
 
-    def _tree(self, form: Form, of: "Sequence[Stage[Any]]", name: str) -> "Stage[Any]":
+    def _tree(self, form: Form, of: "Sequence[DurableStage[Any]]", name: str) -> "DurableStage[Any]":
         """An attached stage has at most two sources; a tree of them tells what one stage of all would."""
-        if len(self._desk.forms) + max(len(of) - 1, 1) > MOST_STAGES:
+        if len(self._view.forms) + max(len(of) - 1, 1) > MOST_STAGES:
             raise RequestFull("a request has at most 4,096 stages")
         row = list(of)
         while len(row) > 2:
-            row = [self._attach(form, row[k:k + 2], None, name=name) if k + 1 < len(row) else row[k] for k in range(0, len(row), 2)]
+            row = [self._attach(form, row[k:k + 2], None, name=name) if k + 1 < len(row) else row[k]
+                   for k in range(0, len(row), 2)]
         return self._attach(form, row, None, name=name)
 
-    def _settle(self, kind: int, stage: int, payload: Optional[bytes], waits: bool = False, failure: int = TIMED_OUT) -> bool:
-        """Completes, fails or cancels a stage, and says whether that did it. `waits`: not while its function runs. `failure`: what it ends
-        in by FAIL_AS, whose word doesn't name the payload."""
-        def decide(desk: Desk) -> Any:
-            if desk.is_settled(stage) or waits and stage in desk.claims:
+    def _settle(self, kind: int, stage: int, payload: Optional[bytes], waits: bool = False,
+                failure: int = TIMED_OUT) -> bool:
+        """Completes, fails or cancels a stage, and says whether that did it. `waits`: not while its function runs.
+        `failure`: what it ends in by FAIL_AS, whose word doesn't name the payload."""
+        def decide(view: RowView) -> Any:
+            if view.is_settled(stage) or waits and stage in view.claims:
                 return None
             low = (FAILURES.index(failure) << 32 if kind == FAIL_AS else 0 if payload is None else
-                   (GIVES << 32 if kind == COMPLETE else 0) | desk.place)
-            return [(kind << 56 | desk.who << 48 | stage << 36 | low, payload)]
+                   (GIVES << 32 if kind == COMPLETE else 0) | view.place)
+            return [(kind << 56 | view.who << 48 | stage << 36 | low, payload)]
         try:
             done = self._act(decide)
         finally:
             self._service._serve(self)
         if done is None:
-            return kind == CANCEL and self._desk.told[stage].kind == CANCELLED and not self._desk.told[stage].wrapped
+            return kind == CANCEL and self._view.told[stage].kind == CANCELLED and not self._view.told[stage].wrapped
         return bool(done[0].reply[ANSWER])
 
     def _complete_all(self, given: "List[Tuple[int, Optional[bytes]]]") -> None:
@@ -388,28 +506,30 @@ class Request:
         if given[32:]:
             self._complete_all(given[32:])
 
-        def decide(desk: Desk) -> Any:
-            left = [(stage, payload) for stage, payload in given[:32] if not desk.is_settled(stage)]
-            return [(COMPLETE << 56 | desk.who << 48 | stage << 36 | (0 if payload is None else GIVES << 32 | desk.place + k), payload)
+        def decide(view: RowView) -> Any:
+            left = [(stage, payload) for stage, payload in given[:32] if not view.is_settled(stage)]
+            return [(COMPLETE << 56 | view.who << 48 | stage << 36 |
+                     (0 if payload is None else GIVES << 32 | view.place + k), payload)
                     for k, (stage, payload) in enumerate(left)]
         self._act(decide)
 
-    def _later(self, stage: "Stage[T]", seconds: float, payload: bytes) -> "Stage[T]":
+    def _later(self, stage: "DurableStage[T]", seconds: float, payload: bytes) -> "DurableStage[T]":
         if not stage.done():
             store = self._service.store
-            self._desk.sure(lambda: store.set_timer(Timer(self.name, stage.number, store.now() + seconds, payload, self.number)))
+            self._view.sure(lambda: store.set_timer(Timer(self.name, stage.number, store.now() + seconds, payload,
+                                                          self.number)))
         return stage
 
     def _fire(self, timer: Timer) -> None:
         kind, payload = timer.payload[:1], timer.payload[1:]
-        if not 0 <= timer.stage < len(self._desk.forms):
-            raise StoreError(f"place {self._desk.place}: a timer is set for stage {timer.stage}, which isn't there")
+        if not 0 <= timer.stage < len(self._view.forms):
+            raise StoreError(f"place {self._view.place}: a timer is set for stage {timer.stage}, which isn't there")
         self._settle(FAIL_AS if kind == b"E" else COMPLETE, timer.stage, None if kind == b"N" else payload)
 
     @contextlib.contextmanager
     def _transacting(self) -> Generator[None, None, None]:
-        """While a transactional function runs. Where the store lets nobody else put meanwhile, this process's threads don't wait for it with
-        the lock of the request, which the finish takes."""
+        """While a transactional function runs. Where the store lets nobody else put meanwhile, this process's
+        threads don't wait for it with the lock of the request, which the finish takes."""
         writes: ContextManager[Any] = contextlib.nullcontext()
         if self._service.store.locks_out:
             writes = self._writes
@@ -421,31 +541,32 @@ class Request:
                 self._transacts.discard(threading.get_ident())
 
     def _act_within(self, transaction: Transaction, finish: "Finish") -> bool:
-        """Puts a finish within a transaction, and says whether that stands. `Unknown` where it may. What it settled isn't shown yet."""
+        """Puts a finish within a transaction, and says whether that stands. `Unknown` where it may. What it settled
+        isn't shown yet."""
         with self._lock:
-            put: Put = self._desk.put_of([finish.word(self._desk)])
-            if self._desk.is_settled(finish.stage) or not transaction.append(put):
+            put: Put = self._view.put_of([finish.word(self._view)])
+            if self._view.is_settled(finish.stage) or not transaction.append(put):
                 return False
             try:
                 transaction.commit()
             except BaseException:
-                self._desk.doubt(put)
+                self._view.doubt(put)
                 raise
-            self._desk.landed(put)
+            self._view.landed(put)
             return True
 
     def _read(self) -> None:
         """Replays what others have put, which isn't shown yet."""
         with self._lock:
-            self._desk.catch_up()
+            self._view.catch_up()
 
     def _is_held(self, stage: int) -> bool:
         """Whether this session has a claim of a stage that isn't finished, by what is seen."""
-        return self._desk.claims.get(stage) == self._service.session
+        return self._view.claims.get(stage) == self._service.session
 
     def _is_over(self) -> bool:
         """Whether it is a flow's, and nothing is left to do."""
-        return bool(self._desk.plan.rows) and self._desk.is_done(self._service._is_gone)
+        return bool(self._view.plan.rows) and self._view.is_done(self._service._is_gone)
 
     def _end_if_done(self) -> None:
         with self._lock:  # (another thread may be reading a word)
@@ -455,7 +576,7 @@ class Request:
 
     def _cancel_all(self) -> None:
         for number, stage in list(self._stages.items()):
-            if not stage.done() and self._desk.plan.rows[number:] and number not in self._desk.claims:
+            if not stage.done() and self._view.plan.rows[number:] and number not in self._view.claims:
                 stage.cancel()
 
     def _fail_all(self, error: BaseException) -> None:
@@ -463,11 +584,11 @@ class Request:
 
     # What the row's numbers stand for.
 
-    def _stage(self, number: int) -> "Stage[Any]":
+    def _stage(self, number: int) -> "DurableStage[Any]":
         with self._lock:
             stage = self._stages.get(number)
             if stage is None:
-                stage = self._stages[number] = Stage(self, number)
+                stage = self._stages[number] = DurableStage(self, number)
         self._show_these([number])
         return stage
 
@@ -482,7 +603,7 @@ class Request:
         """Shows those of these stages that are settled."""
         self._each(numbers, self._show_one)
 
-    def _each(self, numbers: Iterable[int], show: "Callable[[Stage[Any]], None]") -> None:
+    def _each(self, numbers: Iterable[int], show: "Callable[[DurableStage[Any]], None]") -> None:
         """Shows each of these stages, whatever the callbacks of another raise."""
         raised: Optional[BaseException] = None
         for number in numbers:
@@ -497,10 +618,10 @@ class Request:
         if raised is not None:
             self._service._raise(raised)
 
-    def _show_one(self, stage: "Stage[Any]") -> None:
-        if stage.done() or not self._desk.is_settled(stage.number):
+    def _show_one(self, stage: "DurableStage[Any]") -> None:
+        if stage.done() or not self._view.is_settled(stage.number):
             return
-        told = self._desk.outcome(stage.number)
+        told = self._view.outcome(stage.number)
         is_cancelled = told.kind == CANCELLED and not told.wrapped
         try:
             value, error = (None, None) if is_cancelled else self._outcome(told, (stage.number,))
@@ -517,11 +638,11 @@ class Request:
         if told.kind == VALUE:
             return self._value(told.some, told.number), None
         if told.kind == THROWN:
-            return None, self._desk.read(told.code, self._service.codec.read_error)
+            return None, self._view.read(told.code, self._service.codec.read_error)
         if told.kind == CANCELLED:
             return None, CancelledError()
-        error = self._desk.read_if_any(self._desk.failed_of(of, told.kind), self._service.codec.read_error)
+        error = self._view.read_if_any(self._view.failed_of(of, told.kind), self._service.codec.read_error)
         return None, error if error is not None else TimeoutError() if told.kind == TIMED_OUT else BadAnswer()
 
     def _value(self, some: int, place: int) -> Any:
-        return self._desk.read(place, self._service.codec.read) if some else None
+        return self._view.read(place, self._service.codec.read) if some else None

@@ -1,13 +1,14 @@
 """Rows of words in engines: put where nothing stands yet, read, wait.
 
-An entry is a word and a token. The token names who put it, 39 bits of a session and 23 that count, so an append that is made again after a
-lost reply is known by what stands at its place. A payload is bytes; it is put with its word, in one transaction, and named by the word's
-place, counted from 1: no word names what isn't there.
+An entry is a word and a token. The token names who put it, 39 bits of a session and 23 that count, so an append that is
+made again after a lost reply is known by what stands at its place. A payload is bytes; it is put with its word, in one
+transaction, and named by the word's place, counted from 1: no word names what isn't there.
 """
 import abc
 import threading
 import time
-from typing import Any, Callable, ContextManager, Dict, Iterable, List, Mapping, NamedTuple, Optional, Sequence, Tuple, TypeVar
+from typing import (Any, Callable, ContextManager, Dict, Iterable, List, Mapping, NamedTuple, Optional, Sequence,
+                    Tuple, TypeVar)
 
 T = TypeVar("T")
 Entry = Tuple[int, int]  # a word and its token
@@ -15,15 +16,21 @@ COUNT_BITS = 23  # of a token
 
 
 class Unknown(ConnectionError):
-    """The engine didn't answer, or can't write now: what was asked may have been done. The same may be asked again."""
+    """The engine didn't answer, or can't write now. What was asked may have been done or not. The same may be asked
+    again."""
 
 
 class StoreError(RuntimeError):
-    """A store, or a row of it, isn't as it has to be."""
+    """A store refuses what was asked, or isn't as it has to be."""
 
 
 class Broken(StoreError):
-    """A row that can't be gone on with. `request` is its name, `place` the word that is at fault, counted from 1, or 0 for its plan."""
+    """A row that can't be gone on with.
+
+    Attributes:
+        request: The request's name.
+        place: The word that is at fault, counted from 1, or 0 for its plan.
+        why: What is wrong."""
 
     def __init__(self, request: str, place: int, why: str) -> None:
         super().__init__(f"request {request!r}, place {place}: {why}")
@@ -33,7 +40,8 @@ class Broken(StoreError):
 
 
 def in_a_row(name: str, at: int, rows: Iterable[Tuple[Any, ...]]) -> List[Entry]:
-    """The entries of rows of a place, a word and a token, which stand behind so many words without a gap; `Broken` else."""
+    """The entries of rows of a place, a word and a token, which stand behind so many words without a gap; `Broken`
+    else."""
     told: List[Entry] = []
     for place, word, token in rows:
         if place != at + len(told):
@@ -56,7 +64,8 @@ class Gone(Broken):
 
 
 def sure(call: Callable[[], T], name: str, place: int, patience: float, note: Callable[[], None] = lambda: None) -> T:
-    """What a call is answered that may be made again, whatever became of it before. `note` is told of each time without an answer."""
+    """What a call is answered that may be made again, whatever became of it before. `note` is told of each time
+    without an answer."""
     until, pause = time.monotonic() + patience, 0.01
     while True:
         try:
@@ -70,8 +79,14 @@ def sure(call: Callable[[], T], name: str, place: int, patience: float, note: Ca
 
 
 class Put(NamedTuple):
-    """Entries for the places behind `at` words of a request, and the payloads of those that have one, by their places. `number` is the
-    request's own, or 0 for whichever has the name."""
+    """Entries that are to stand behind the first `at` words of a request.
+
+    Attributes:
+        request: The request's name.
+        at: After how many words they are to stand.
+        entries: Each a word and its token.
+        payloads: Of the words that have one, by their places.
+        number: The request's own number, or 0 for whichever has the name."""
 
     request: str
     at: int
@@ -81,7 +96,8 @@ class Put(NamedTuple):
 
 
 class Opened(NamedTuple):
-    """A request as it was opened: when, in seconds of the engine's clock since 1970. Another one of its name has another number."""
+    """A request as it was opened, `opened` being seconds of the engine's clock since 1970. If it is dropped and
+    another one of its name is opened, that has another `number`."""
 
     name: str
     plan: str
@@ -99,7 +115,8 @@ class Listed(NamedTuple):
 
 
 class Timer(NamedTuple):
-    """What is to become of a stage at a moment, unless it is settled then. `number` is the request's own, or 0 for whichever has the name."""
+    """What is to become of a stage at a moment, unless it is settled by then. `number` is the request's own, or 0 for
+    whichever has the name."""
 
     request: str
     stage: int
@@ -114,7 +131,8 @@ class Transaction(abc.ABC):
     connection: Any  # what the function is called with
 
     def is_away(self) -> bool:
-        """Whether the connection is gone, or the engine can't write now, once what the function raised may be due to that. All is undone."""
+        """Whether the connection is gone, or the engine can't write now, once what the function raised may be due to
+        that. All is undone."""
         return False
 
     @abc.abstractmethod
@@ -127,10 +145,12 @@ class Transaction(abc.ABC):
 
 
 class Store(abc.ABC):
-    """Rows in an engine. Any thread may use it. Each call but `close` may raise `Unknown`.
+    """Rows in an engine: what `connect` gives, and what another engine has to be. Any thread may use it. Each call but
+    `close` may raise `Unknown`.
 
-    Where a call takes the number of a request beside its name, it is for that request alone, and `Gone`, which is a `Broken`, is raised
-    once that was dropped, also where another has its name. 0 is for whichever has the name."""
+    Where a call takes the number of a request beside its name, it is for that request alone. Once that was dropped,
+    `Gone`, which is a `Broken`, is raised, also where another request has its name. The number 0 is for whichever
+    has the name."""
 
     is_transactional = False  # whether `transaction` is there
     locks_out = False  # whether nobody else can put while a transaction is open
@@ -145,8 +165,9 @@ class Store(abc.ABC):
 
     @abc.abstractmethod
     def append_groups(self, puts: Sequence[Put]) -> List[Optional[List[Entry]]]:
-        """Puts a group for each of some requests, each all or none, in one commit if none is in another's way. For each None where it
-        stands now, else the entries that stand from its first place on. `Broken` where a request isn't there; the others' may stand then."""
+        """Puts a group for each of some requests, each all or none, in one commit if none is in another's way. For
+        each None where it stands now, else the entries that stand from its first place on. `Broken` where a request
+        isn't there; the others' may stand then."""
 
     @abc.abstractmethod
     def read(self, name: str, at: int = 0, number: int = 0) -> List[Entry]:
@@ -161,8 +182,9 @@ class Store(abc.ABC):
         """How many words each open request has."""
 
     def news(self, mark: Any) -> Tuple[Dict[str, int], Any]:
-        """How many words those open requests have that may have changed since a mark, and the next mark; since None, all of them, and none
-        is missing then. A request that was opened again is only told since None. A store that can't tell them apart gives all."""
+        """How many words those open requests have that may have changed since a mark, and the next mark; since None,
+        all of them, and none is missing then. A request that was opened again is only told since None. A store that
+        can't tell them apart gives all."""
         return self.ends(), None
 
     @abc.abstractmethod
@@ -175,7 +197,8 @@ class Store(abc.ABC):
 
     @abc.abstractmethod
     def end(self, name: str, at: int, number: int = 0) -> None:
-        """Marks a request as closed, where it has just so many words: nothing is left to do in it. Its timers are forgotten."""
+        """Marks a request as closed, where it has just so many words: nothing is left to do in it. Its timers are
+        forgotten."""
 
     @abc.abstractmethod
     def reopen(self, name: str, number: int = 0) -> None:
@@ -183,7 +206,8 @@ class Store(abc.ABC):
 
     @abc.abstractmethod
     def drop(self, name: str, at: Optional[int] = None) -> bool:
-        """Forgets a request with all its words, at once, and says whether it did. With `at` only where it is closed and has so many."""
+        """Forgets a request with all its words, at once, and says whether it did. With `at` only where it is closed
+        and has so many."""
 
     @abc.abstractmethod
     def beat(self, session: int) -> None:
@@ -231,7 +255,8 @@ class Store(abc.ABC):
         """`StoreError` in a thread whose own open transaction a put would wait for."""
 
     def transaction(self) -> ContextManager[Transaction]:
-        """A transaction of the engine, in which a function's effect and the word of its finish stand or fall together."""
+        """A transaction of the engine, in which a function's effect and the word of its finish stand or fall
+        together."""
         raise StoreError(f"{type(self).__name__} has no transactions that a function can take part in")
 
     def close(self) -> None:
@@ -302,7 +327,8 @@ class Memory(Store):
 
     def news(self, mark: Any) -> Tuple[Dict[str, int], Any]:
         puts, ends = self._puts, self.ends()  # (the mark first: what comes between is told once more)
-        return ends if mark is None else {name: many for name, many in ends.items() if self._last.get(name, 0) > mark}, puts
+        return ends if mark is None else {name: many for name, many in ends.items()
+                                          if self._last.get(name, 0) > mark}, puts
 
     def changed(self, seconds: float) -> None:
         with self._change:
@@ -312,7 +338,8 @@ class Memory(Store):
 
     def listing(self) -> List[Listed]:
         with self._change:
-            return [Listed(name, it.opened, self._closed.get(name), len(self._rows.get(name, []))) for name, it in sorted(self._opened.items())]
+            return [Listed(name, it.opened, self._closed.get(name), len(self._rows.get(name, [])))
+                    for name, it in sorted(self._opened.items())]
 
     def end(self, name: str, at: int, number: int = 0) -> None:
         with self._change:
@@ -328,7 +355,8 @@ class Memory(Store):
 
     def drop(self, name: str, at: Optional[int] = None) -> bool:
         with self._change:
-            if name not in self._opened or at is not None and (name not in self._closed or len(self._rows.get(name, [])) != at):
+            if name not in self._opened or at is not None and (name not in self._closed
+                                                               or len(self._rows.get(name, [])) != at):
                 return False
             for kept in (self._opened, self._closed, self._rows):
                 kept.pop(name, None)  # type: ignore[attr-defined]
@@ -367,7 +395,8 @@ class Memory(Store):
 
 
 class Grouped(Store):
-    """A store whose puts one thread makes: what other threads put at the same time is one commit. For a process with many requests."""
+    """A store whose puts one thread makes: what other threads put at the same time is one commit. For a process with
+    many requests."""
 
     def __init__(self, store: Store, most: int = 64) -> None:
         self._store, self._most = store, most

@@ -11,15 +11,15 @@ import weakref
 from typing import Any, Callable, Dict, List, NamedTuple, Optional, Sequence, Set, Tuple, TypeVar
 
 from ..service.flow import Flow
-from ..service.history import Describe, Told, describe_all
-from ..service.words import (ANSWER, ARGS, CLAIM, COMPOSE_FORMS, FAIL, FINISH, FIRST, FIRST_SOME, GIVES, GOT, LINKS, ONE, OUTCOME, SECOND,
-                             SECOND_SOME, THROWS, TWO, VALUE)
+from ..service.history import Describe, describe_all
+from ..service.words import (ANSWER, ARGS, CLAIM, COMPOSE_FORMS, FAIL, FINISH, FIRST, FIRST_SOME, GIVES, GOT, LINKS,
+                             ONE, OUTCOME, SECOND, SECOND_SOME, THROWS, TWO, VALUE, Told)
 from ..values import Form
 from .codec import Abandoned, Json, RemoteError
-from .desk import Desk, Done, Watcher, new_session
+from .view import Done, RowView, Watcher, new_session
 from .functions import F, Functions, Known
 from .plans import text_of, tried_again
-from .request import Request, Stage
+from .request import DurableRequest, DurableStage
 from .rows import Broken, Gone, Grouped, Store, StoreError, Timer, Transaction, Unknown, sure
 
 T = TypeVar("T")
@@ -49,19 +49,21 @@ class Finish(NamedTuple):
     kind: int
     payload: Optional[bytes]
 
-    def word(self, desk: Desk) -> Tuple[int, Optional[bytes]]:
+    def word(self, view: RowView) -> Tuple[int, Optional[bytes]]:
         """Its word at the end of what is seen."""
         if self.kind == LINKS:
-            return FINISH << 56 | desk.who << 48 | self.stage << 36 | LINKS << 32 | int(desk.said(self.stage)["to"]), self.payload
-        tag, low = (self.kind, desk.place) if self.payload is not None else (0, 0)
-        return FINISH << 56 | desk.who << 48 | self.stage << 36 | tag << 32 | low, self.payload
+            tag, low = LINKS, int(view.said(self.stage)["to"])
+        else:
+            tag, low = (self.kind, view.place) if self.payload is not None else (0, 0)
+        return FINISH << 56 | view.who << 48 | self.stage << 36 | tag << 32 | low, self.payload
 
 
 LOST = Finish(-1, GIVES, None)  # that of a transaction whose place was taken
 
 
 class DurableService(concurrent.futures.Executor):
-    """A service whose requests stand in a store, so that other processes go on with them: `Service(store=connect(..))` gives one.
+    """A service whose requests stand in a store, so that other processes go on with them: `Service(store=connect(..))`
+    gives one.
 
         service = DurableService(connect("sqlite:///orders.db"))
 
@@ -71,17 +73,29 @@ class DurableService(concurrent.futures.Executor):
         request = service.request("order 17")
         print(request.supply(load, 17).then(charge).or_timeout(30).result())
 
-    It works on the requests that were begun or resumed here, by `max_workers` threads; with `takes_all` on all that are open, as a worker
-    does. Functions are those that `function` named here, and values what the codec takes. `lease` is after how many seconds without a
-    sign of life another process thinks that this one is gone, and the stages whose functions it runs are abandoned. Puts that come at
-    the same time are grouped into one commit where `groups` is set. `describe` is what histories tell of values, as of `Service`. A child
-    of `fork` may not use it."""
+    It works on the requests that were begun, opened or resumed here. A child of `fork` may not use it.
+
+    Args:
+        store: What `connect` gave. `shutdown` closes it.
+        max_workers: How many threads run functions. By default 4 more than there are processors, and at most 32. With 0
+            this process runs none.
+        functions: Registered functions, beside those that `function` registers here.
+        codec: Makes bytes of values and exceptions. By default `Json()`.
+        lease: After how many seconds without a sign of life another process takes this one for gone, and abandons the
+            stages whose functions it runs.
+        takes_all: Whether it works on all requests that are open in the store, as a `Worker` does.
+        groups: Whether puts that come at the same time become one commit.
+        note: Told of each answer of the store; for tests.
+        describe: What histories tell of values and exceptions, as of `cf.service.Service`.
+
+    Raises:
+        ValueError: `max_workers` is below 0, or `lease` isn't above 0 and finite."""
 
     _numbers = itertools.count()
 
-    def __init__(self, store: Store, max_workers: Optional[int] = None, *, functions: Optional[Functions] = None, codec: Optional[Json] = None,
-                 lease: float = 10, takes_all: bool = False, groups: bool = False, note: Optional[Callable[..., None]] = None,
-                 describe: Describe = describe_all) -> None:
+    def __init__(self, store: Store, max_workers: Optional[int] = None, *, functions: Optional[Functions] = None,
+                 codec: Optional[Json] = None, lease: float = 10, takes_all: bool = False, groups: bool = False,
+                 note: Optional[Callable[..., None]] = None, describe: Describe = describe_all) -> None:
         workers = min(32, (os.cpu_count() or 1) + 4) if max_workers is None else max_workers
         if workers < 0:
             raise ValueError("max_workers must not be below 0")
@@ -93,10 +107,12 @@ class DurableService(concurrent.futures.Executor):
         self.functions: Functions = Functions()
         if functions is not None:
             self.functions.add(functions)
-        self._workers, self._takes_all, self._lease, self._note, self._describe = workers, takes_all, lease, note, describe
+        self._workers, self._takes_all, self._lease = workers, takes_all, lease
+        self._note, self._describe = note, describe
         self._pool = concurrent.futures.ThreadPoolExecutor(max(workers, 1), f"cf-shared-{next(self._numbers)}")
-        self._requests: Dict[str, Request] = {}
-        self._left: "weakref.WeakValueDictionary[str, Request]" = weakref.WeakValueDictionary()  # those that were closed
+        self._requests: Dict[str, DurableRequest] = {}
+        # those that were closed
+        self._left: "weakref.WeakValueDictionary[str, DurableRequest]" = weakref.WeakValueDictionary()
         self._works = threading.local()  # whether this thread is one of the pool's
         self._unknown: Dict[str, Tuple[str, int]] = {}
         self.broken: Dict[str, BaseException] = {}  # requests that can't be gone on with here, and why
@@ -110,21 +126,47 @@ class DurableService(concurrent.futures.Executor):
     # What users call.
 
     def function(self, name: str = "", version: int = 1, transactional: bool = False) -> Callable[[F], F]:
-        """Names the function behind it, as `Functions.function`."""
+        """Registers a function, as `Functions.function`.
+
+        Raises:
+            StoreError: It is to be transactional, and the store has no transactions that a function can take part
+                in."""
         if transactional and not self.store.is_transactional:
             raise StoreError(f"{type(self.store).__name__} has no transactions that a function can take part in")
         return self.functions.function(name, version, transactional)
 
-    def request(self, name: str = "", *, describe: Optional[Describe] = None) -> Request:
-        """A request without stages, or the one of this name as it stands in the store. Without a name it gets one by chance. `describe` is
-        what its histories tell of values here, in place of what the service chose."""
+    def request(self, name: str = "", *, describe: Optional[Describe] = None) -> DurableRequest:
+        """Opens a request without stages, or gives the one of this name as it stands in the store.
+
+        Args:
+            name: The request's name, by which other processes find it. By default one by chance.
+            describe: What its histories tell of values and exceptions here, in place of what the service chose.
+
+        Raises:
+            RuntimeError: The service is shut down, or this process is a child of `fork`.
+            Unknown: The store didn't answer for a minute.
+            Broken: The row can't be gone on with."""
         request = self._opened(name or f"request {new_session():x}", text_of(None, self.functions), False)
         request._describe = describe or request._describe
         return request
 
-    def start(self, flow: Flow, *given: Any, name: str = "", describe: Optional[Describe] = None) -> Request:
-        """A request of a flow's stages, whose promises are completed with what is given. Where one of this name stands in the store, it is
-        gone on with, and `Broken` is raised if it was begun with another plan. `ValueError` where more is given than there are promises."""
+    def start(self, flow: Flow, *given: Any, name: str = "", describe: Optional[Describe] = None) -> DurableRequest:
+        """Begins a request of a flow's stages. If one of this name stands in the store, goes on with that.
+
+        Args:
+            flow: The plan, whose functions are registered ones.
+            given: The values of its promises, in their order. Those that are settled in the store stay as they are.
+            name: The request's name. By default the flow's name and a number by chance.
+            describe: As in `request`.
+
+        Returns:
+            The request; `request[step]` is the stage of a step.
+
+        Raises:
+            ValueError: More values are given than there are promises.
+            TypeError: A function isn't registered, a step composes, or the codec can't write a value.
+            Broken: The request of this name was begun with another plan, or its row can't be gone on with.
+            RuntimeError, Unknown: As in `request`."""
         if len(given) > len(flow._promises):
             raise ValueError(f"{flow.name} has {len(flow._promises)} promises")
         payloads = [None if it is None else self.codec.write(it) for it in given]
@@ -134,21 +176,35 @@ class DurableService(concurrent.futures.Executor):
         self._serve(request)
         return request
 
-    def open(self, name: str) -> Request:
-        """A request that stands in the store. `KeyError` where there is none."""
+    def open(self, name: str) -> DurableRequest:
+        """A request that stands in the store.
+
+        Raises:
+            KeyError: There is none of this name.
+            Unknown, Broken: As in `request`."""
         found = sure(lambda: self.store.find(name), name, 0, PATIENCE)
         if found is None:
             raise KeyError(name)
-        return self._kept(Request(self, Desk(self.store, found, self.session, PATIENCE, self._note)))
+        return self._kept(DurableRequest(self, RowView(self.store, found, self.session, PATIENCE, self._note)))
 
-    def submit(self, fn: Callable[..., T], /, *args: Any, **kwargs: Any) -> "Stage[T]":
-        """Calls a registered function: a request of one stage, which is closed once that is settled."""
+    def submit(self, fn: Callable[..., T], /, *args: Any, **kwargs: Any) -> "DurableStage[T]":
+        """Has a registered function called. It is a request of one stage, which is closed once that is settled.
+
+        Args:
+            fn: The function. It is called with the other arguments, which have to be what JSON has.
+
+        Returns:
+            A stage that ends with what the function returns or raises."""
         flow = Flow("submit")
         step = flow.supply(fn, *args, **kwargs)
         return self.start(flow)[step]
 
-    def resume(self) -> List[Request]:
-        """Goes on with all requests that are open in the store, and gives them."""
+    def resume(self) -> List[DurableRequest]:
+        """Goes on with all requests that are open in the store, as after a crash. Those that are broken are left out
+        and logged; `broken` names them.
+
+        Returns:
+            The requests."""
         resumed = [self._taken(name) for name in sure(self.store.ends, "", 0, PATIENCE)]
         for request in resumed:
             if request is not None:
@@ -156,8 +212,13 @@ class DurableService(concurrent.futures.Executor):
         return [request for request in resumed if request is not None]
 
     def shutdown(self, wait: bool = True, *, cancel_futures: bool = False) -> None:
-        """Begins no more functions. Those that run are finished; what is open stays in the store, and others go on with it. With
-        `cancel_futures` stages of flows, as by `submit`, that were asked for here and that nobody has claimed are cancelled."""
+        """Begins no more functions. Those that run are finished. What is open stays in the store, and others go on with
+        it.
+
+        Args:
+            wait: Whether to wait for the functions that run, and then to close the store.
+            cancel_futures: Whether to cancel stages of flows, as of `submit`, that were asked for here and that
+                nobody has claimed."""
         for request in list(self._requests.values()) if cancel_futures else ():
             try:
                 request._cancel_all()
@@ -173,7 +234,7 @@ class DurableService(concurrent.futures.Executor):
 
     # Requests that are worked on.
 
-    def _opened(self, name: str, plan: str, same: bool) -> Request:
+    def _opened(self, name: str, plan: str, same: bool) -> DurableRequest:
         if self._process != os.getpid():
             raise RuntimeError("a child of fork can't use its parent's service")
         if self._stops.is_set():
@@ -181,12 +242,12 @@ class DurableService(concurrent.futures.Executor):
         found = sure(lambda: self.store.open(name, plan), name, 0, PATIENCE)
         if same and found.plan != plan:
             raise Broken(name, 0, "it was begun with another plan")
-        kept = self._kept(Request(self, Desk(self.store, found, self.session, PATIENCE, self._note)))
+        kept = self._kept(DurableRequest(self, RowView(self.store, found, self.session, PATIENCE, self._note)))
         if kept.number != found.number:  # it was dropped meanwhile, and another of its name begun
             return self._opened(name, plan, same)
         return kept
 
-    def _kept(self, request: Request) -> Request:
+    def _kept(self, request: DurableRequest) -> DurableRequest:
         """The one object of a request that this service has: this one, or the one that was there before."""
         with self._lock:
             known = self._requests.get(request.name) or self._left.get(request.name)
@@ -198,18 +259,18 @@ class DurableService(concurrent.futures.Executor):
         kept._catch_up()
         return kept
 
-    def _keep(self, request: Request) -> None:
+    def _keep(self, request: DurableRequest) -> None:
         """Goes on with a request, unless there is another of its name by now."""
         with self._lock:
             if self._requests.get(request.name, request) is request:
                 self._put_back(request)
 
-    def _put_back(self, request: Request) -> None:
+    def _put_back(self, request: DurableRequest) -> None:
         request.kept += 1
         self._requests[request.name] = request
         self._left.pop(request.name, None)
 
-    def _known_again(self, name: str) -> Optional[Request]:
+    def _known_again(self, name: str) -> Optional[DurableRequest]:
         """A request that is known here: also one that was closed, and that others have opened again."""
         known = self._requests.get(name)
         if known is None:
@@ -218,7 +279,7 @@ class DurableService(concurrent.futures.Executor):
                 self._keep(known)
         return known
 
-    def _taken(self, name: str) -> Optional[Request]:
+    def _taken(self, name: str) -> Optional[DurableRequest]:
         """A request of the store, or None where it is broken or gone."""
         known = self._known_again(name)
         if known is not None or name in self.broken:
@@ -231,7 +292,7 @@ class DurableService(concurrent.futures.Executor):
             self._break(name, error)
             return None
 
-    def _break(self, name: str, error: BaseException, request: Optional[Request] = None) -> None:
+    def _break(self, name: str, error: BaseException, request: Optional[DurableRequest] = None) -> None:
         """Leaves a request alone. Others go on."""
         LOGGER.error("%s", error)
         if not isinstance(error, Gone):  # (another of its name may be begun)
@@ -271,8 +332,9 @@ class DurableService(concurrent.futures.Executor):
                     self._firing.add(timer[:3])
                     if not self._submit(timer.request, self._fire, timer):
                         self._firing.remove(timer[:3])
-        known = [(request, request.kept) for request in list(self._requests.values())]  # (before the store is asked: what is opened
-        ends, mark = self.store.news(None if looks else self._mark)                     # meanwhile, or again, isn't in its answer)
+        # (before the store is asked: what is opened meanwhile, or again, isn't in its answer)
+        known = [(request, request.kept) for request in list(self._requests.values())]
+        ends, mark = self.store.news(None if looks else self._mark)
         for request, kept in known if looks else ():
             if request.name not in ends and not request.is_leaving:
                 request.is_leaving = True
@@ -280,7 +342,8 @@ class DurableService(concurrent.futures.Executor):
                     request.is_leaving = False
         for name, end in ends.items():
             taken = self._taken(name) if self._takes_all else self._known_again(name)
-            if taken is not None and (end > taken.seen or (looks or not end) and (end < taken.seen or self._needs(taken))):
+            if taken is not None and (end > taken.seen or (looks or not end)
+                                      and (end < taken.seen or self._needs(taken))):
                 self._serve(taken)  # (a row gets no shorter: where it has, it is another's of the name)
             self._beat()  # (rows that are read for the first time may be many and long)
         self._mark = mark
@@ -296,18 +359,19 @@ class DurableService(concurrent.futures.Executor):
         self._watcher.forget()
         return True
 
-    def _needs(self, request: Request) -> bool:
+    def _needs(self, request: DurableRequest) -> bool:
         """Whether something is to do in a request without a new word."""
-        desk = request._desk
-        gone = [self._is_gone(session) for session in desk.open_claims().values()]
-        is_due = desk.ready or desk.links or desk.unlinked or desk.found or request._unshown or request.reopens
+        view = request._view
+        gone = [self._is_gone(session) for session in view.open_claims().values()]
+        is_due = view.ready or view.links or view.unlinked or view.found or request._unshown or request.reopens
         return bool(is_due) or any(gone) or request._is_over()
 
     def _is_gone(self, session: int) -> bool:
         return session != self.session and self._watcher.is_gone(session)
 
-    def _let_go(self, request: Request, kept: int) -> None:
-        """Forgets a request that is closed, once all is told, unless it was asked for again since the store was asked."""
+    def _let_go(self, request: DurableRequest, kept: int) -> None:
+        """Forgets a request that is closed, once all is told, unless it was asked for again since the store was
+        asked."""
         try:
             request._catch_up()
             request._reopen()
@@ -335,7 +399,7 @@ class DurableService(concurrent.futures.Executor):
         finally:
             self._firing.discard(timer[:3])
 
-    def _serve(self, request: Request) -> None:
+    def _serve(self, request: DurableRequest) -> None:
         """Lets a thread look what is to do in a request."""
         if request.is_queued or self._stops.is_set():
             return
@@ -344,8 +408,8 @@ class DurableService(concurrent.futures.Executor):
             request.is_queued = False
 
     def _submit(self, name: str, call: Callable[..., None], *given: Any) -> bool:
-        """Hands it to a thread, and says whether one takes it: none does while none can be started, and after the end. It is asked again
-        later, then; if a thread comes after all, that is done twice, which does no harm."""
+        """Hands it to a thread, and says whether one takes it: none does while none can be started, and after the
+        end. It is asked again later, then; if a thread comes after all, that is done twice, which does no harm."""
         try:
             self._pool.submit(self._guarded, name, call, *given)
             return True
@@ -355,7 +419,8 @@ class DurableService(concurrent.futures.Executor):
             return False
 
     def _raise(self, error: BaseException) -> None:
-        """Tells what a callback raised: who called, or the log where that is a thread of the pool, which has more to do."""
+        """Tells what a callback raised: who called, or the log where that is a thread of the pool, which has more to
+        do."""
         if not getattr(self._works, "is_here", False):
             raise error
         LOGGER.critical("a callback has raised", exc_info=error)
@@ -365,7 +430,7 @@ class DurableService(concurrent.futures.Executor):
         try:
             call(*given)
         except Broken as error:
-            self._break(name, error, next((it for it in given if isinstance(it, Request)), None))
+            self._break(name, error, next((it for it in given if isinstance(it, DurableRequest)), None))
         except (Unknown, StoreError) as error:
             LOGGER.warning("request %r: %s", name, error)
         except BaseException:
@@ -373,7 +438,7 @@ class DurableService(concurrent.futures.Executor):
 
     # Work.
 
-    def _work(self, request: Request) -> None:
+    def _work(self, request: DurableRequest) -> None:
         request.is_queued = False
         request._catch_up()
         request._reopen()
@@ -385,29 +450,30 @@ class DurableService(concurrent.futures.Executor):
         request._relay()
         request._end_if_done()
 
-    def _abandon(self, request: Request) -> None:
+    def _abandon(self, request: DurableRequest) -> None:
         """Fails the stages whose session is gone. If it isn't, the row says who was first."""
-        for stage, session in list(request._desk.open_claims().items()):
+        for stage, session in list(request._view.open_claims().items()):
             if self._is_gone(session):
-                said = f"the worker that ran {request._desk.said(stage)['name']} is gone, and it may have run"
+                said = f"the worker that ran {request._view.said(stage)['name']} is gone, and it may have run"
                 payload = self._error(Abandoned(said))
 
-                def decide(desk: Desk, stage: int = stage, session: int = session, payload: bytes = payload) -> Any:
-                    if desk.open_claims().get(stage) != session:
+                def decide(view: RowView, stage: int = stage, session: int = session, payload: bytes = payload) -> Any:
+                    if view.open_claims().get(stage) != session:
                         return None
-                    return [(FAIL << 56 | desk.who << 48 | stage << 36 | desk.place, payload)]
+                    return [(FAIL << 56 | view.who << 48 | stage << 36 | view.place, payload)]
                 request._act(decide)
 
-    def _next(self, request: Request, finish: Optional[Finish]) -> Optional[Claimed]:
-        """Puts a finish, and with it the claim of the next stage, if there is one; what was claimed. While the store is away a finish is put
-        again and again: its function has run. A value that it refuses fails its stage, if the store takes that."""
+    def _next(self, request: DurableRequest, finish: Optional[Finish]) -> Optional[Claimed]:
+        """Puts a finish, and with it the claim of the next stage, if there is one; what was claimed. While the store
+        is away a finish is put again and again: its function has run. A value that it refuses fails its stage, if
+        the store takes that."""
         chosen: List[int] = []
         told = finish
 
-        def decide(desk: Desk) -> Any:
-            made = [told.word(desk)] if told is not None and request._is_held(told.stage) else []
-            chosen[:] = self._choice(request, desk, told)
-            return made + [(CLAIM << 56 | desk.who << 48 | stage << 36, None) for stage in chosen[:1]]
+        def decide(view: RowView) -> Any:
+            made = [told.word(view)] if told is not None and request._is_held(told.stage) else []
+            chosen[:] = self._choice(request, view, told)
+            return made + [(CLAIM << 56 | view.who << 48 | stage << 36, None) for stage in chosen[:1]]
         while True:
             try:
                 done = request._act(decide)
@@ -422,7 +488,8 @@ class DurableService(concurrent.futures.Executor):
                 if finish is None or told is not finish and self._stops.is_set():
                     raise
                 if told is finish:  # it is too large, say
-                    told = Finish(finish.stage, THROWS, self._error(RemoteError(type(error).__name__, str(error)[:LONGEST_WHY])))
+                    told = Finish(finish.stage, THROWS,
+                                  self._error(RemoteError(type(error).__name__, str(error)[:LONGEST_WHY])))
                 else:  # nothing is taken now, so that it wasn't the value
                     told = finish
                     LOGGER.warning("request %r, stage %d: nothing can be put: %s", request.name, finish.stage, error)
@@ -433,100 +500,105 @@ class DurableService(concurrent.futures.Executor):
             return self._claimed(request, chosen[0], done[-1])
         return None
 
-    def _found(self, request: Request) -> Optional[Claimed]:
-        """A claim of this session's that was granted without its being told, or one that was put with the end of such."""
-        found = request._desk.found
+    def _found(self, request: DurableRequest) -> Optional[Claimed]:
+        """A claim of this session's that was granted without its being told, or one that was put with the end of
+        such."""
+        found = request._view.found
         while found and not self._stops.is_set():
             try:
                 stage, done = found.popitem()
             except KeyError:  # another thread has taken it
                 return None
-            if request._is_held(stage) and not request._desk.is_settled(stage):
+            if request._is_held(stage) and not request._view.is_settled(stage):
                 return self._claimed(request, stage, done)
             claimed = self._next(request, Finish(stage, GIVES, None))  # late: it does nothing
             if claimed is not None:
                 return claimed
         return None
 
-    def _choice(self, request: Request, desk: Desk, finish: Optional[Finish]) -> List[int]:
+    def _choice(self, request: DurableRequest, view: RowView, finish: Optional[Finish]) -> List[int]:
         """Up to two stages that this session could claim: those that are ready, or that the finish makes ready."""
         if self._stops.is_set() or not self._workers:
             return []
-        ready = sorted(desk.ready)
-        if finish is not None and not desk.is_settled(finish.stage):
+        ready = sorted(view.ready)
+        if finish is not None and not view.is_settled(finish.stage):
             kind = THROWS if finish.kind == THROWS else GIVES
-            ready += [it for it in desk.behind(finish.stage)
-                      if not desk.is_settled(it) and desk.forms[it][0] in GOES_ON[kind] and len(desk.forms[it][1]) == 1]
+            ready += [it for it in view.behind(finish.stage)
+                      if not view.is_settled(it) and view.forms[it][0] in GOES_ON[kind] and len(view.forms[it][1]) == 1]
         return list(itertools.islice((stage for stage in ready if self._known(request, stage) is not None), 2))
 
-    def _known(self, request: Request, stage: int) -> Optional[Known]:
+    def _known(self, request: DurableRequest, stage: int) -> Optional[Known]:
         """The function of a stage, or None where it isn't registered here: others may have it."""
-        said = request._desk.said(stage)
+        said = request._view.said(stage)
         again = tried_again(said)
         if again is not None:
-            said = request._desk.said(again)
+            said = request._view.said(again)
         known = self.functions.named(str(said.get("fn")), int(said.get("version", 0)))
-        if known is not None and request._desk.forms[stage][0] in COMPOSE_FORMS and "to" not in said:
-            raise Broken(request.name, request._desk.attached.get(stage, 0), f"stage {stage} composes, and no promise is named for what comes")
+        if known is not None and request._view.forms[stage][0] in COMPOSE_FORMS and "to" not in said:
+            raise Broken(request.name, request._view.attached.get(stage, 0),
+                         f"stage {stage} composes, and no promise is named for what comes")
         if known is None and request.name not in self._unknown:
             self._unknown[request.name] = (str(said.get("fn")), stage)
-            LOGGER.warning("request %r, stage %d: function %s, version %s isn't known here", request.name, stage, said.get("fn"), said.get("version"))
+            LOGGER.warning("request %r, stage %d: function %s, version %s isn't known here", request.name, stage,
+                           said.get("fn"), said.get("version"))
         return known
 
-    def _claimed(self, request: Request, stage: int, done: Done) -> Claimed:
+    def _claimed(self, request: DurableRequest, stage: int, done: Done) -> Claimed:
         try:
             return self._with_args(request, stage, done)
         except BaseException:  # it is tried again later
-            request._desk.found[stage] = done
+            request._view.found[stage] = done
             raise
 
-    def _with_args(self, request: Request, stage: int, done: Done) -> Claimed:
-        desk, known = request._desk, self._known(request, stage)
+    def _with_args(self, request: DurableRequest, stage: int, done: Done) -> Claimed:
+        view, known = request._view, self._known(request, stage)
         assert known is not None
-        said, args = desk.said(stage), self._args(request, stage, done.reply)
+        said, args = view.said(stage), self._args(request, stage, done.reply)
         again = tried_again(said)
         if again is not None:
             error = args[0]
-            if not isinstance(error, Abandoned):  # (the sources of what is tried again may be open: it was settled by hand)
+            # the sources of what is tried again may be open: it was settled by hand
+            if not isinstance(error, Abandoned):
                 return Claimed(stage, known, (), {}, error)
-            said, args = desk.said(again), self._args_again(request, again)
+            said, args = view.said(again), self._args_again(request, again)
         return Claimed(stage, known, tuple(said.get("args", ())) or args, said.get("kwargs", {}), None)
 
-    def _args(self, request: Request, stage: int, reply: Sequence[int]) -> Tuple[Any, ...]:
+    def _args(self, request: DurableRequest, stage: int, reply: Sequence[int]) -> Tuple[Any, ...]:
         """What a claim says that the function is called with."""
         kind = reply[ARGS]
         if kind == GOT:
-            value, error = request._outcome(Told(*reply[OUTCOME]), request._desk.forms[stage][1])
-            return (error,) if request._desk.forms[stage][0] in ONLY_FAULT else (value, error)
+            value, error = request._outcome(Told(*reply[OUTCOME]), request._view.forms[stage][1])
+            return (error,) if request._view.forms[stage][0] in ONLY_FAULT else (value, error)
         first = request._value(reply[FIRST_SOME], reply[FIRST]) if kind in (ONE, TWO) else None
         second = request._value(reply[SECOND_SOME], reply[SECOND]) if kind == TWO else None
         return (first, second)[:kind]
 
-    def _args_again(self, request: Request, stage: int) -> Tuple[Any, ...]:
+    def _args_again(self, request: DurableRequest, stage: int) -> Tuple[Any, ...]:
         """What a stage's function was called with before, by what its sources hold."""
-        form, of = request._desk.forms[stage]
-        told = [request._desk.told[source] for source in of]
+        form, of = request._view.forms[stage]
+        told = [request._view.told[source] for source in of]
         if form in (Form.HANDLE, Form.WHEN_COMPLETE):
             return request._outcome(told[0], of)
         if form == Form.EXCEPTIONALLY:
             return (request._outcome(told[0], of)[1],)
         if form == Form.APPLY_EITHER:
-            first = min((source for source in of if request._desk.is_settled(source)), key=lambda source: request._desk.places[source])
-            told = [request._desk.told[first]]
+            first = min((source for source in of if request._view.is_settled(source)),
+                        key=lambda source: request._view.places[source])
+            told = [request._view.told[first]]
         return tuple(request._value(it.some, it.number) if it.kind == VALUE else None for it in told)
 
-    def _run(self, request: Request, claimed: Claimed) -> Optional[Claimed]:
+    def _run(self, request: DurableRequest, claimed: Claimed) -> Optional[Claimed]:
         """Calls a function and puts its finish; what was claimed with it."""
-        if request._desk.forms[claimed.stage][0] == Form.COMPOSE:
+        if request._view.forms[claimed.stage][0] == Form.COMPOSE:
             return self._next(request, self._composed(request, claimed))
         if claimed.error is None and claimed.known.is_transactional:
             return self._in_transaction(request, claimed)
         return self._next(request, self._called(claimed))
 
-    def _composed(self, request: Request, claimed: Claimed) -> Finish:
+    def _composed(self, request: DurableRequest, claimed: Claimed) -> Finish:
         try:
             given = claimed.known.call(request, *claimed.args, **claimed.kwargs)
-            if not isinstance(given, Stage) or given.request._desk is not request._desk:
+            if not isinstance(given, DurableStage) or given.request._view is not request._view:
                 raise TypeError(f"{claimed.known.name} has to give a stage of the request")
             return Finish(claimed.stage, LINKS, self.codec.write({"stage": given.number}))
         except BaseException as error:
@@ -546,11 +618,13 @@ class DurableService(concurrent.futures.Executor):
         try:
             return self.codec.write_error(error)
         except BaseException as fault:
-            return Json().write_error(RemoteError(type(error).__name__, f"(it can't be written: {type(fault).__name__})"))
+            return Json().write_error(RemoteError(type(error).__name__,
+                                                  f"(it can't be written: {type(fault).__name__})"))
 
-    def _in_transaction(self, request: Request, claimed: Claimed) -> Optional[Claimed]:
-        """The function's effect and the word of its finish stand or fall together. Where the finish's place was taken meanwhile, or the
-        connection is lost, all of it is done again, unless it stands. What comes next is put once the transaction has ended."""
+    def _in_transaction(self, request: DurableRequest, claimed: Claimed) -> Optional[Claimed]:
+        """The function's effect and the word of its finish stand or fall together. Where the finish's place was
+        taken meanwhile, or the connection is lost, all of it is done again, unless it stands. What comes next is put
+        once the transaction has ended."""
         while True:
             is_open = False
             try:
@@ -577,13 +651,14 @@ class DurableService(concurrent.futures.Executor):
             if finish is not LOST:
                 return self._next(request, finish)
 
-    def _tried(self, request: Request, claimed: Claimed, transaction: Transaction) -> Optional[Finish]:
-        """Calls a function in a transaction and puts its finish there; what has to be put behind that, `LOST` where it has to be done again.
-        What others have put is read first: where the stage isn't this session's any more, no effect is for nothing."""
+    def _tried(self, request: DurableRequest, claimed: Claimed, transaction: Transaction) -> Optional[Finish]:
+        """Calls a function in a transaction and puts its finish there; what has to be put behind that, `LOST` where
+        it has to be done again. What others have put is read first: where the stage isn't this session's any more,
+        no effect is for nothing."""
         request._read()
         if not request._is_held(claimed.stage):
             return None  # it stands
-        if request._desk.is_settled(claimed.stage):
+        if request._view.is_settled(claimed.stage):
             return Finish(claimed.stage, GIVES, None)  # late: it does nothing
         finish = self._called(claimed, transaction.connection)
         if finish.kind == THROWS:

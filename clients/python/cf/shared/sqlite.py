@@ -7,23 +7,27 @@ import threading
 import time
 from typing import Any, Callable, Dict, Generator, List, Optional, Sequence, Tuple, TypeVar
 
-from .rows import Broken, Entry, Gone, Listed, Opened, Put, Store, StoreError, Timer, Transaction, Unknown, in_a_row
+from .rows import Broken, Entry, Opened, Put, StoreError, Timer, Transaction, Unknown, in_a_row
+from .tables import TableStore
 
 T = TypeVar("T")
 SCHEMA = """
-    create table if not exists cf_request (id integer primary key autoincrement, name text not null unique, plan text not null,
-        opened real not null, closed real);
-    create table if not exists cf_word (n integer primary key, request integer, at integer, word integer not null, token integer not null,
-        payload blob, unique (request, at));
-    create table if not exists cf_large (request integer, place integer, payload blob not null, primary key (request, place));
+    create table if not exists cf_request (id integer primary key autoincrement, name text not null unique,
+        plan text not null, opened real not null, closed real);
+    create table if not exists cf_word (n integer primary key, request integer, at integer, word integer not null,
+        token integer not null, payload blob, unique (request, at));
+    create table if not exists cf_large (request integer, place integer, payload blob not null,
+        primary key (request, place));
     create table if not exists cf_beat (session integer primary key, count integer not null);
     create table if not exists cf_timer (request integer, stage integer, due real not null, payload blob not null,
         primary key (request, stage)) without rowid;
     create index if not exists cf_timer_due on cf_timer (due);
     create index if not exists cf_request_open on cf_request (id) where closed is null
 """
-PUT = "insert or ignore into cf_word (request, at, word, token, payload) select id, ?, ?, ?, ? from cf_request where id = ?"
-PUT_GROUP = "insert into cf_word (request, at, word, token, payload) select id, v.* from cf_request, (values %s) v where id = ?"
+PUT = ("insert or ignore into cf_word (request, at, word, token, payload) "
+       "select id, ?, ?, ?, ? from cf_request where id = ?")
+PUT_GROUP = ("insert into cf_word (request, at, word, token, payload) "
+             "select id, v.* from cf_request, (values %s) v where id = ?")
 READ = "select at, word, token from cf_request left join cf_word on request = id and at >= ? where id = ? order by at"
 HAS = "(select coalesce(max(at) + 1, 0) from cf_word where request = id) = ?"  # so many words
 MOST_AT_ONCE = 64  # words in one statement
@@ -32,19 +36,21 @@ BETWEEN_LOOKS = 0.001  # seconds between two looks at the file's version
 LONGEST_WAIT = 20.0  # seconds in the line: who has it may have been stopped
 
 
-class SQLite(Store):
-    """A file. `synchronous` is FULL and the journal a write-ahead log, so what is answered is on disk; a file that can't have that is
-    refused. With `is_unsafe` it answers before it has written, which tests of tests need.
+class SQLite(TableStore):
+    """A file. `synchronous` is FULL and the journal a write-ahead log, so what is answered is on disk; a file that
+    can't have that is refused. With `is_unsafe` it answers before it has written, which tests of tests need.
 
-    SQLite's own wait for a lock sleeps longer and longer, and is unfair: writers stand in line at a lock of the system's on `PATH-line`,
-    which a killed process leaves. A stopped one keeps it: who waits for long is told `Unknown`."""
+    SQLite's own wait for a lock sleeps longer and longer, and is unfair: writers stand in line at a lock of the
+    system's on `PATH-line`, which a killed process leaves. A stopped one keeps it: who waits for long is told
+    `Unknown`."""
 
     is_transactional = locks_out = True
+    VALUE = "?"
 
     def __init__(self, path: str, is_unsafe: bool = False) -> None:
+        super().__init__()
         self._path, self._synchronous = path, "off" if is_unsafe else "full"
         self._local = threading.local()
-        self._ids: Dict[str, int] = {}
         self._line = _Line(path)
         self._in_line, self._telling = _InLine(self), _Telling(self)
         try:
@@ -111,67 +117,35 @@ class SQLite(Store):
         if self._path in _within.paths:
             raise StoreError(f"{self._path}: a transactional function can't put: its own transaction has the file")
 
-    def _id(self, name: str) -> int:
-        found = self._ids.get(name)
-        if found is None:
-            rows = self._ask("select id from cf_request where name = ?", name)
-            if not rows:
-                raise Gone(name)
-            found = self._ids[name] = int(rows[0][0])
-        return found
-
-    def _gone(self, name: str) -> Gone:
-        """Says that a request isn't there. Another of its name may be."""
-        self._ids.pop(name, None)
-        return Gone(name)
-
-    def _id_of(self, put: Put) -> int:
-        number = self._id(put.request)
-        if put.number not in (0, number):
-            raise Gone(put.request)
-        return number
-
     # Requests.
 
     def open(self, name: str, plan: str) -> Opened:
         found = self.find(name)
         while found is None:  # (it may be dropped meanwhile)
             now = time.time()
-            self._in_turn(lambda db: db.execute("insert or ignore into cf_request (name, plan, opened) values (?, ?, ?)", (name, plan, now)))
+            self._in_turn(lambda db: db.execute("insert or ignore into cf_request (name, plan, opened) "
+                                                "values (?, ?, ?)", (name, plan, now)))
             found = self.find(name)
         return found
 
-    def find(self, name: str) -> Optional[Opened]:
-        rows = self._ask("select id, plan, opened from cf_request where name = ?", name)
-        if not rows:
-            return None
-        number = self._ids[name] = int(rows[0][0])
-        return Opened(name, str(rows[0][1]), float(rows[0][2]), number)
-
-    def ends(self) -> Dict[str, int]:
-        return {str(name): int(many or 0) for name, many in self._ask(
-            "select name, (select max(at) + 1 from cf_word where request = id) from cf_request where closed is null")}
-
     def news(self, mark: Any) -> Tuple[Dict[str, int], Any]:
-        # Rows are numbered in the order of their commits, since SQLite has one writer. Where the last ones were dropped numbers come again,
-        # and what was put by then is told since None.
-        at = self._ask("select (select coalesce(max(n), 0) from cf_word), (select coalesce(max(id), 0) from cf_request)")[0]
+        # Rows are numbered in the order of their commits, since SQLite has one writer. Where the last ones were dropped
+        # numbers come again, and what was put by then is told since None.
+        at = self._ask("select (select coalesce(max(n), 0) from cf_word), "
+                       "(select coalesce(max(id), 0) from cf_request)")[0]
         if mark is None or at[0] < mark[0]:
             return self.ends(), at
-        told = {str(name): 0 for name, in self._ask("select name from cf_request where id > ? and closed is null", mark[1])}
-        told.update((str(name), int(many)) for name, many in self._ask(
-            "select name, max(at) + 1 from cf_word join cf_request on id = request where n > ? and closed is null group by request", mark[0]))
-        return told, at
-
-    def listing(self) -> List[Listed]:
-        return [Listed(str(name), float(opened), closed, int(many or 0)) for name, opened, closed, many in self._ask(
-            "select name, opened, closed, (select max(at) + 1 from cf_word where request = id) from cf_request order by name")]
+        opened = self._ask("select name from cf_request where id > ? and closed is null", mark[1])
+        longer = self._ask("select name, max(at) + 1 from cf_word join cf_request on id = request "
+                           "where n > ? and closed is null group by request", mark[0])
+        return {**{str(name): 0 for name, in opened}, **{str(name): int(many) for name, many in longer}}, at
 
     def end(self, name: str, at: int, number: int = 0) -> None:
         number = number or self._id(name)
 
         def act(db: sqlite3.Connection) -> bool:
-            if db.execute(f"update cf_request set closed = ? where id = ? and closed is null and {HAS}", (time.time(), number, at)).rowcount:
+            if db.execute(f"update cf_request set closed = ? where id = ? and closed is null and {HAS}",
+                          (time.time(), number, at)).rowcount:
                 db.execute("delete from cf_timer where request = ?", (number,))
             return _is_there(db, number)
         if not self._in_turn(act):
@@ -205,7 +179,8 @@ class SQLite(Store):
 
     def append_groups(self, puts: Sequence[Put]) -> List[Optional[List[Entry]]]:
         ids = [self._id_of(put) for put in puts]
-        if len(puts) == 1 and len(puts[0].entries) <= MOST_AT_ONCE and all(len(it) <= SMALL for it in puts[0].payloads.values()):
+        if len(puts) == 1 and len(puts[0].entries) <= MOST_AT_ONCE and all(len(it) <= SMALL
+                                                                           for it in puts[0].payloads.values()):
             landed = [self._put_at_once(ids[0], puts[0])]
         else:
             landed = self._in_turn(lambda db: [_put(db, number, put) for number, put in zip(ids, puts)])
@@ -217,7 +192,8 @@ class SQLite(Store):
         if many == 1:
             with self._in_line:
                 return db.execute(PUT, (at, *put.entries[0], payloads.get(at + 1), number)).rowcount == 1
-        values = [it for k, (word, token) in enumerate(put.entries) for it in (at + k, word, token, payloads.get(at + 1 + k))]
+        values = [it for k, (word, token) in enumerate(put.entries)
+                  for it in (at + k, word, token, payloads.get(at + 1 + k))]
         statement = PUT_GROUP % ",".join(["(?,?,?,?)"] * many)
         with self._in_line:
             try:
@@ -264,10 +240,8 @@ class SQLite(Store):
     # Sessions and timers.
 
     def beat(self, session: int) -> None:
-        self._in_turn(lambda db: db.execute("insert into cf_beat values (?, 1) on conflict do update set count = count + 1", (session,)))
-
-    def beats(self) -> Dict[int, int]:
-        return {int(session): int(count) for session, count in self._ask("select session, count from cf_beat")}
+        self._in_turn(lambda db: db.execute("insert into cf_beat values (?, 1) "
+                                            "on conflict do update set count = count + 1", (session,)))
 
     def drop_beat(self, session: int) -> None:
         self._in_turn(lambda db: db.execute("delete from cf_beat where session = ?", (session,)))
@@ -277,12 +251,15 @@ class SQLite(Store):
 
     def set_timer(self, timer: Timer) -> None:
         values = (timer.stage, timer.due, timer.payload, timer.number or self._id(timer.request))
-        if not self._in_turn(lambda db: db.execute("insert or replace into cf_timer select id, ?, ?, ? from cf_request where id = ?", values).rowcount):
+        if not self._in_turn(lambda db: db.execute("insert or replace into cf_timer "
+                                                   "select id, ?, ?, ? from cf_request where id = ?", values).rowcount):
             raise self._gone(timer.request)
 
     def due(self, now: float) -> List[Timer]:
-        return [Timer(str(name), int(stage), float(due), _bytes(payload), int(number)) for name, stage, due, payload, number in self._ask(
-            "select name, stage, due, payload, id from cf_timer join cf_request on id = request where due <= ? order by due", now)]
+        rows = self._ask("select name, stage, due, payload, id from cf_timer join cf_request on id = request "
+                         "where due <= ? order by due", now)
+        return [Timer(str(name), int(stage), float(at), _bytes(payload), int(number))
+                for name, stage, at, payload, number in rows]
 
     def drop_timer(self, request: str, stage: int, number: int = 0) -> None:
         number = number or self._id(request)
@@ -331,8 +308,9 @@ _within = _Within()
 class _Line:
     """One's turn in this process, and then the system's lock on `PATH-line`.
 
-    A wait for that lock can't be given up, and who has it may have been stopped. Where it isn't free, a thread of the line's own waits for
-    it in this one's place, so that this one can give up; whoever comes next finds the thread there."""
+    A wait for that lock can't be given up, and who has it may have been stopped. Where it isn't free, a thread of
+    the line's own waits for it in this one's place, so that this one can give up; whoever comes next finds the
+    thread there."""
 
     def __init__(self, path: str) -> None:
         self._path, self._turn, self._change = path, threading.Lock(), threading.Condition()
@@ -379,7 +357,8 @@ class _Line:
                 try:
                     waiter.start()
                 except RuntimeError as error:
-                    raise Unknown(f"{self._path}: another process has the file, and no thread can wait for it: {error}") from None
+                    raise Unknown(f"{self._path}: another process has the file, "
+                                  f"and no thread can wait for it: {error}") from None
                 self._waiter = waiter
             self._waits = self._is_wanted = True
             self._change.notify_all()

@@ -13,8 +13,12 @@ def connect(address: str) -> Store:
         postgresql://user@host:5432/database        a database, by psycopg2
         etcd://host:2379,host:2379                  a cluster, by its JSON gateway
 
-    `?unsafe=1` lets an engine answer before it has written, for tests that want losses. `ValueError` of another address, `StoreError` where
-    the engine isn't one that keeps words, `Unknown` where it doesn't answer."""
+    `?unsafe=1` lets an engine answer before it has written, for tests that want losses.
+
+    Raises:
+        ValueError: The address is none of these.
+        StoreError: The engine isn't one that keeps words, or psycopg2 isn't there.
+        Unknown: The engine doesn't answer."""
     parts = urlsplit(address)
     options = parse_qs(parts.query)
     is_unsafe = options.pop("unsafe", ["0"]) == ["1"]
@@ -35,4 +39,5 @@ def connect(address: str) -> Store:
         from .etcd import Etcd
 
         return Etcd(parts.netloc)
-    raise ValueError(f"{address!r} is no address of a store: memory://, sqlite:///FILE, postgresql://.., etcd://HOST:PORT,..")
+    raise ValueError(f"{address!r} is no address of a store: "
+                     "memory://, sqlite:///FILE, postgresql://.., etcd://HOST:PORT,..")

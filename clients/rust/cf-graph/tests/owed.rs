@@ -1,5 +1,5 @@
 //! What who calls the library owes it (src/handle.rs names each), and safe code that tries to break it. Sanitizers and valgrind run these, too:
-//! conformance/rust-sanitized.
+//! conformance/clients/rust-sanitized.
 use cf_graph::*;
 use std::fmt::Debug;
 use std::mem::{replace, swap};

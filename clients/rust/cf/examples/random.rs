@@ -1,4 +1,4 @@
-//! Lets eight threads race random requests, and prints what became of each: conformance/rust-requests judges it.
+//! Lets eight threads race random requests, and prints what became of each: conformance/clients/rust-requests judges it.
 //!
 //!     random FIRST COUNT [CF_LOOK]
 //!

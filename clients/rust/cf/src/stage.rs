@@ -1,4 +1,79 @@
 //! A stage of a request: a value that will be there, and a future of it.
+//!
+//! # The design
+//!
+//! A request is one ledger of the proved library and the Rust values that the ledger knows by numbers. Who may settle a
+//! stage, which stage is ready, and what follows from a settled stage is decided by the ledger alone. The code of this crate
+//! hands words in, reads the reply and the news, and does to Rust values what they say.
+//!
+//! **What is kept where.**
+//!
+//! - `Stage` is a handle: the request's `Core`, the stage's number or why there is none, and the place of this handle's
+//!   waker. Clones share the stage and have wakers of their own.
+//! - `Core` (core.rs) is the request: its executor, its clock, and one mutex.
+//! - `Inner` (inner.rs) stands under that mutex. It has the `Ledger` (the library's ledger, and the `Record` of what callers
+//!   were told), a `Slot` for each stage, and `Extra`s for the few stages that have more: a future that is polled, relays,
+//!   timers, values for alarms.
+//! - A `Slot` (slot.rs) holds the stage's function until that is claimed, and then what the function gave: a value or an
+//!   error. It also holds what the ledger told. A value's number in words is that of the stage that gave it, and so is an
+//!   error's; stages behind it hold the number alone.
+//! - `Wakers` (wakers.rs) has the wakers of all handles that wait, in a row for each stage.
+//! - `After` is what one hold of the lock has changed and has yet to tell.
+//!
+//! **Locks.** The mutex of `Core` guards all of `Inner`. It is held for some hundred nanoseconds, so whoever finds it taken
+//! looks a few times before it sleeps. No thread holds the mutexes of two requests, and no code of a user runs under one:
+//! what is to be dropped, woken or called goes into `After`. A future that a stage's function gave has a mutex of its own
+//! (task.rs), which is held while it is polled. The request's mutex may be taken under that one, never the other way round.
+//! Executors and clocks have locks of theirs, and are called without the request's.
+//!
+//! **A change** (`Core::change`: `attach`, `settle`, an alarm, the end of a future) goes like this:
+//!
+//! 1. The clock is asked what time it is. Then the lock is taken.
+//! 2. The ledger does one word. `Inner::show` reads its news: a stage that is ready is counted; of one that is settled the
+//!    slot is written, its function is kept for dropping, and its wakers are taken. Polls read slots under the same lock, so
+//!    whoever is told an outcome can also see the outcomes of all earlier words.
+//! 3. `Inner::relay` settles the relays of this request that stand for stages settled now, and cancels those that nobody
+//!    needs any more. Both are words, which may settle more.
+//! 4. `Inner::hire` asks for one job, if more stages are ready than jobs are coming, and fewer jobs run than may.
+//! 5. The lock is given back. `Core::tell` tells what came of it, in this order: jobs go to the executor, wakers are called,
+//!    futures of settled stages are dropped, relays of other requests are settled, relays are hung on other requests'
+//!    stages or taken off, and at last values and functions are dropped. A relay of another request is a change there; what
+//!    it has yet to tell of further requests is added to this list, so a row of requests takes no stack.
+//! 6. A panic of any of these keeps no other from being told. The first goes on to the caller at the end.
+//!
+//! **A function from ready to finished.** A stage is told to be ready, and a `Job` is asked for. The executor runs the job on
+//! a thread, which is `Core::work`. Under the lock it claims the lowest ready stage, and takes its function and its arguments;
+//! without the lock it calls the function, and catches a panic. Under the lock again, one step of the ledger finishes that
+//! stage and claims the next one, until none is ready or the job has run 64 functions. A job that begins asks for the next
+//! one, so nobody has to start many. An executor that gives a job back, or drops it, lets the ready stages fail with
+//! `Refusal::Closed`, if no other job of the request is there that doesn't rest. A function that answers too late changes nothing; its value is
+//! dropped.
+//!
+//! **Futures.** Where a function gives a future (`then_async`, `Request::spawn`), its stage stays claimed, and the future is a
+//! `Task`, which is polled by jobs, each after a wake. The finish comes with its end. A stage that is settled otherwise drops
+//! the future.
+//!
+//! **Waiting.** `poll` keeps the handle's waker under the lock, or reads the slot. `wait` parks its thread behind such a
+//! waker. Where the thread is a worker, a `Helper` (help.rs) first lets it run what the stage needs; while it parks, its job
+//! isn't counted (`Resting`), and a pool may start a spare thread.
+//!
+//! **Relays.** A stage of another request can't be a source. A *relay* takes its place: a source of this request that is
+//! settled as that stage is. `Core::feed` hangs it there. That stage then keeps this request alive until either is settled; so
+//! a relay that was made for one stage alone is cancelled once that is settled (`let_go`). A composing stage has a relay right
+//! below it. Its finish links to the stage that its function gave, where that is a lower one of the request, and else to the
+//! relay.
+//!
+//! **Deadlines.** `Core::after` hands an `Alarm` to the request's clock. The alarm doesn't keep the request alive, and the
+//! value that it gives stays with the request, which drops it once the stage is settled. `Core::ring` settles the stage by the
+//! caller `CLOCK`: with that value, or as timed out. An alarm that is dropped lets the stage fail with `Refusal::NoClock`.
+//!
+//! **Room.** A request has at most 4,096 stages. The ledger has room for some of them at first, and makes more by doing its
+//! words again. Where there is none, the call gives a handle of a stage that has failed with `Refusal::Full`: its `at` is an
+//! error, and nothing was attached.
+//!
+//! **Which code calls a user's.** `Core::called` (a stage's function), `Polling::poll` (a future), `Core::tell` (wakers, and the
+//! `Drop` of values, functions, errors and futures), `Core::spawn` (`Spawn::spawn`), `Core::now` and `Core::after` (`Clock`),
+//! `Core::poll` (cloning and dropping a waker), and histories and `Debug` (`Describe`, `Display` of errors).
 use crate::core::Core;
 use crate::describe::escaped;
 use crate::error::{BoxError, Error, Refusal};

@@ -46,7 +46,7 @@ final class Faults {
 
         Fault told(boolean isWrapped) {
             if (isWrapped && wrapped == null) {
-                wrapped = new Fault(new CompletionException(raw.error), -1, raw.isTimeout);
+                wrapped = new Fault(wrapping(raw.error), -1, raw.isTimeout);
             }
             return isWrapped ? wrapped : raw;
         }
@@ -84,9 +84,21 @@ final class Faults {
     /** An exception that is one of completing isn't wrapped once more. */
     Fault thrown(boolean isWrapped, int code) {
         if (isWrapped && !(errors[code] instanceof CompletionException)) {
-            return wrapped[code] != null ? wrapped[code] : (wrapped[code] = new Fault(new CompletionException(errors[code]), code));
+            return wrapped[code] != null ? wrapped[code] : (wrapped[code] = new Fault(wrapping(errors[code]), code));
         }
         return raw[code] != null ? raw[code] : (raw[code] = new Fault(errors[code], code));
+    }
+
+    /**
+     * A completion exception, which asks its cause for a text. If the cause throws then, it has no text, and the stages that it ends are told
+     * all the same.
+     */
+    private static CompletionException wrapping(Throwable error) {
+        try {
+            return new CompletionException(error);
+        } catch (Throwable unspeakable) {
+            return new CompletionException(null, error);
+        }
     }
 
     Throwable[] errors() {

@@ -21,6 +21,88 @@ import java.util.function.Supplier;
  * {@link #goesOn() goes on} it goes to a further one, by relays.
  */
 public final class Request implements AutoCloseable {
+    /*
+     * Overview.
+     *
+     * A request is one ledger of the proved library and the Java objects that the ledger knows by numbers. Who may settle
+     * a stage, which stage is ready, what follows from a settled stage: the ledger alone decides that. The code here hands
+     * words in, reads the reply and the news, and does to Java objects what they say.
+     *
+     * What is kept where.
+     * - Ledger: the graph, the claims and the words, in a core outside the heap (native/cf_java.c). A core takes the words
+     *   that wait, does one more, and brings back the reply and the news: the stages that became ready or settled.
+     * - Request: the stages that aren't settled (of a flow, those that were asked for), their names, the values, the
+     *   exceptions (Faults) and the threads. A value is the index in `values`, an exception the index in `faults`, and a
+     *   thread the number of a caller; the words hold these numbers.
+     * - Stage: its number, form and executor, which never change. `told` is what it is settled with: null before, then
+     *   NIL, a value or a Fault. `function` is there until it is claimed, or not needed. The part that Stage inherits of
+     *   CompletableFuture decides nothing. It is told last, and wakes who waits.
+     * - News: what one operation of one thread has changed and has yet to tell. Each operation has its own.
+     * - Link: what a relay hangs by on the future that settles it.
+     *
+     * Locks. The monitor of `ledger` is the request's lock. It guards the ledger and its core, all fields of this class that
+     * aren't final but `goesOn`, and of each stage `function`, `dependents`, `waitsHere`, `more` and the rows of links in
+     * that. `told`, `more` and `next` are volatile, so they can be read without it. No thread holds the locks of two
+     * requests. Under the lock no function, callback or executor is called, and nobody is woken. A flight recording takes
+     * words there. The one method of a user's that is called there is `toString` of an exception that is wrapped for the
+     * first time: the constructor of CompletionException asks for its text (Faults.wrapping). Below the lock there is one
+     * more, that of the list of Freed, around a few assignments.
+     *
+     * An operation (complete, fail, timeOut, cancel, attach, work, relayed) goes like this:
+     * 1. checkDepth throws where the stack is nearly full. Nothing was done then.
+     * 2. Under the lock, `change` has the ledger do one word. `publish` reads the news: it writes `told` of each stage that
+     *    is settled, and notes the stage in News; it notes each stage that is ready. So whoever sees an outcome also sees
+     *    all outcomes of earlier words.
+     * 3. Still under the lock, `feed` settles the relays of this request whose stages were settled, and `claimNext` claims
+     *    the next stage whose function this thread is to call, if it has none yet.
+     * 4. The lock is free. `tell` takes one thing after another out of News, in this order: relays of other requests, which
+     *    are settled under their request's lock; settled stages, which are shown; stages for executors; the claimed
+     *    function; stages that wait here. Each of these may add to News. The loop is the only way from a stage to the next
+     *    one, so a chain of any length, also through many requests, takes no more stack.
+     * 5. What was thrown meanwhile, as an Error by an executor or by an action that Java's classes have attached, keeps
+     *    nothing else from being told. The first of it is thrown at the end.
+     *
+     * A function from ready to finished. A stage has an executor or it hasn't.
+     * - Without one, the thread that made it ready calls its function, as in CompletableFuture. Such a stage waits in
+     *   News (`waitsHere`; `pending` counts those of the request). The core claims the first of them in the same crossing
+     *   in which it became ready, where this thread has nothing else to call. `granted` takes the function and its arguments
+     *   under the lock, `call` calls it without, and `finish` does the word of its answer. Where all that is ready in the
+     *   request is this thread's, that crossing claims the lowest ready stage, too.
+     * - With one, the executor is given a Task. Its thread claims the stage in `work`, and goes on as above. An executor that
+     *   throws has its stage claimed and finished with what it threw (`refused`).
+     * A claim may be refused, since somebody has settled the stage meanwhile: then nothing is called. A finish may come too
+     * late: then the ledger says so, and the value or exception is kept for the history alone.
+     *
+     * Attaching. The word of a stage that can't have anything to do yet, since a source isn't settled, waits in the core's
+     * memory for the next word that can change something (Ledger.attachLater); one crossing does them all. Any other stage
+     * is attached at once, and what it takes of its sources it takes in that word. A composing stage has a source right
+     * below it, its relay. Where its function gives a lower stage of this request, the finish links to that; where it gives
+     * anything else, the finish links to the relay, and the relay ends as that does.
+     *
+     * Relays. Of a future that isn't a stage of this request, a source of this request takes the place. Link.hang hangs it on
+     * any CompletionStage, `feeds` on a stage of another request, and `more.feeds` on one of this request. Whoever takes the
+     * relay out of its link (Link.take) settles it. Once the stage is settled for which the relay was made, the link is let
+     * go, so a future that lives long keeps nothing of requests that are over.
+     *
+     * Deadlines. Stage.orTimeout and completeOnTimeout hand an act to Clock, and cancel it at the end of the stage. Clock
+     * has one thread that knows when. The acts run in threads of their own, where they are operations as all others, by the
+     * caller CLOCK. What was attached without an executor is called there.
+     *
+     * Room. A request has at most 4,096 stages, and of a flow's, two edges are set aside for each stage that is attached.
+     * `hasPlace` is asked under the lock, before anything is attached. Where there is none, the request throws, or hands the
+     * call on to `next`, if it goes on. The core makes more room itself, by doing its words again.
+     *
+     * Memory. Where the system refuses memory, an OutOfMemoryError is thrown, and the words that were done by then stand
+     * (Ledger.refused). `close` keeps the words in the heap and gives the core to the next request; a word that comes later
+     * has another core do all words again. Cores of requests that nobody can reach are freed by whoever opens the next ones
+     * (Freed).
+     *
+     * Which methods call user code, all without a lock: those that `tell` calls, which are `show` (what Java's own methods
+     * have attached; Describe, for a recording), `hand` (Executor.execute) and `call` (a stage's function); handStarted and
+     * `execute`, which call an executor; `history`, which calls Describe; and Link.hang, which calls whenComplete of
+     * somebody's CompletionStage.
+     */
+
     /** Callers: the clock, what settles relays, the threads in the order in which they came, and those for which there is no number. */
     static final int CLOCK = 0, RELAY = 1, FIRST_THREAD = 2, OTHER_THREADS = 63;
 

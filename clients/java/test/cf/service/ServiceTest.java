@@ -99,6 +99,7 @@ public final class ServiceTest {
         test("what is told of values", TellingTest::described);
         test("what describes values", TellingTest::describers);
         test("values that can't be shown", TellingTest::unspeakable);
+        test("exceptions that can't be shown", TellingTest::unspeakableWrapped);
         test("cores used again", LedgerTest::usedAgain);
         test("requests of one plan each have a core", LedgerTest::oneCoreEach);
         test("attaches that fail", LedgerTest::failedAttach);

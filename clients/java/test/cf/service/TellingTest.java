@@ -11,6 +11,7 @@ import java.util.Arrays;
 import java.util.Collections;
 import java.util.List;
 import java.util.concurrent.CompletableFuture;
+import java.util.concurrent.CompletionException;
 import java.util.concurrent.TimeUnit;
 import java.util.concurrent.atomic.AtomicInteger;
 
@@ -278,6 +279,29 @@ final class TellingTest {
                 is(request.history().account().contains("\"name\":\"mute\""), true);
                 is(first.toString().contains("mute: 0 source: Completed"), true);
             }
+        }
+    }
+
+    /** So does an exception whose text can't be had, and stages behind it have it wrapped. */
+    static void unspeakableWrapped() throws Exception {
+        class Mute extends RuntimeException {
+            private static final long serialVersionUID = 1;
+
+            @Override
+            public String toString() {
+                throw new IllegalStateException();
+            }
+        }
+        Request request = SERVICE.request("mute");
+        Stage<Integer> first = request.promise();
+        Stage<Integer> behind = first.thenApply(x -> x + 1), last = behind.thenApply(x -> x + 1), beside = first.exceptionally(e -> 7);
+        Mute mute = new Mute();
+        is(first.completeExceptionally(mute), true);
+        is(beside.getNow(0), 7);
+        for (Stage<Integer> each : Arrays.asList(behind, last)) {
+            is(each.isCompletedExceptionally(), true);
+            is(each.exceptionNow() == mute, true);
+            is(each.handle((x, e) -> e instanceof CompletionException && e.getCause() == mute).join(), true);
         }
     }
 

@@ -1,5 +1,5 @@
-"""A session's view of one request's row: it replays the words that it lacks, decides, puts at the end that it saw, and where it loses
-replays and decides again."""
+"""A session's view of one request's row: it replays the words that it lacks, decides, puts at the end that it saw,
+and where it loses replays and decides again."""
 import contextlib
 import json
 import os
@@ -8,12 +8,13 @@ from array import array
 from typing import Any, Callable, ContextManager, Dict, List, NamedTuple, Optional, Sequence, Set, Tuple, TypeVar
 
 from .. import values
-from .._library import CNews
+from .._library import NOT_YOURS, CNews
 from ..events import _known
 from ..service._plain import PlanCore, _grow, _Ledger, _told
-from ..service.history import History, Told
-from ..service.words import (ANSWER, ATTACH, CLAIM, COMPOSE_FORMS, FAIL_AS, FAILURES, FINISH, IS_CLAIMED, IS_READY, IS_SETTLED, LINKS,
-                             MOST_STAGES, NUMBER, PENDING, TICK, RequestFull)
+from ..service.history import History
+from ..service.words import (ANSWER, ATTACH, CLAIM, COMPLETE, COMPOSE_FORMS, FAIL, FAIL_AS, FAILURES, FINISH, GIVES,
+                             IS_CLAIMED, IS_PENDING, IS_READY, IS_SETTLED, LINKS, MOST_STAGES, NOT_YET, NUMBER, THROWS,
+                             TICK, RequestFull, Told)
 from .codec import Json
 from .plans import SharedPlan, said_in
 from .rows import COUNT_BITS, Broken, Entry, Gone, Opened, Put, Store, Unknown, sure
@@ -22,7 +23,6 @@ CALLERS = int(os.environ.get("CF_CALLERS", "64"))  # fewer, for tests of session
 COUNTS = 1 << COUNT_BITS
 ROOM = 8  # stages that may be attached at first
 LONG_GONE = 100  # leases
-NOT_YET = Told(PENDING, 0, 0, 0, 0)
 T = TypeVar("T")
 Wanted = Sequence[Tuple[int, Optional[bytes]]]  # words, each with its payload
 
@@ -43,7 +43,8 @@ class Done(NamedTuple):
 
 
 class RowHistory(History):
-    """A row's history: places in place of times, and numbers that sessions had as callers. `sessions` are those of its words."""
+    """A row's history: places in place of times, and numbers that sessions had as callers. `sessions` are those of
+    its words."""
 
     _unit, _width = "words", 5
 
@@ -56,8 +57,8 @@ class RowHistory(History):
         return f"session {who}"
 
     def account(self) -> str:
-        """What `cf_look check` judges, with the replies as this process has read them off the row. Where several sessions had one number,
-        each of them has its own records there."""
+        """What `cf_look check` judges, with the replies as this process has read them off the row. Where several
+        sessions had one number, each of them has its own records there."""
         account = json.loads(super().account())
         account["callers"] = [self._by_session(records) for records in account["callers"]]
         return json.dumps(account)
@@ -75,14 +76,22 @@ class RowHistory(History):
         return f"{place:5}"
 
 
-class Desk:
-    """One session's desk of one request; one thread at a time has it.
+class RowView:
+    """What one session knows of one request's row, and how it puts words there. One thread at a time has it.
 
-    A caller's number is taken by its first word, the lowest that no word of the row has, and is kept: only the number that claimed may
-    finish. Where all 64 are taken sessions share them, and the token tells whose an entry is. `note` is told what this desk was answered.
-    `patience` is for how many seconds an engine may be silent."""
+    A session is a process at work, or a part of one, with a number of its own (`new_session`). Its first word takes a
+    caller's number, the lowest that no word of the row has, and it keeps that: only the number that claimed a stage may
+    finish it. Where all 64 are taken, sessions share them; the token of an entry tells whose it is.
 
-    def __init__(self, store: Store, opened: Opened, session: int, patience: float = 60, note: Optional[Callable[..., None]] = None) -> None:
+    Args:
+        store: Where the row stands.
+        opened: The request, as the store gave it.
+        session: The session whose view it is.
+        patience: For how many seconds the store may be silent, before `Unknown` is raised.
+        note: Told of each answer that this view got; for tests."""
+
+    def __init__(self, store: Store, opened: Opened, session: int, patience: float = 60,
+                 note: Optional[Callable[..., None]] = None) -> None:
         self.store: Store = store
         self.name: str = opened.name
         self.session: int = session
@@ -94,10 +103,13 @@ class Desk:
         self.kinds: List[int] = [kind for kind, _ in self.plan.core.start]
         self.told: List[Told] = [Told(*told) for _, told in self.plan.core.start]
         self.places: List[int] = [0] * len(self.forms)  # where each was settled
-        self.failed: Dict[int, int] = {}  # the places of the words by which stages, or sources of theirs, timed out or had a bad answer
+        # the places of the words by which stages, or sources of theirs, timed out or had a bad answer
+        self.failed: Dict[int, int] = {}
         self.attached: Dict[int, int] = {}  # the place of the word that attached a stage
-        self.links: Dict[int, int] = {}  # the promises that composing stages were linked to, with the places of those words
-        self.unlinked: Set[int] = set()  # composing stages that were settled, and whose promises may be waited for by nobody
+        # the promises that composing stages were linked to, with the places of those words
+        self.links: Dict[int, int] = {}
+        # composing stages that were settled, and whose promises may be waited for by nobody
+        self.unlinked: Set[int] = set()
         self.claims: Dict[int, int] = {}  # the session whose claim of a stage is open
         self.ready: Set[int] = {number for number, kind in enumerate(self.kinds) if kind == IS_READY}
         self.words: "array[int]" = array("Q")
@@ -106,12 +118,14 @@ class Desk:
         self.lost = self.unknown = 0
         self._numbers: Dict[int, int] = {}
         self._landed, self._patience = False, patience
-        self._count = int.from_bytes(os.urandom(3), "big") % COUNTS  # by chance: where two have one session, their tokens differ all the same
+        # by chance: where two have one session, their tokens differ all the same
+        self._count = int.from_bytes(os.urandom(3), "big") % COUNTS
         self._note = note or (lambda *_: None)
         self._behind: Dict[int, List[int]] = {}
-        self._own: Dict[int, bytes] = {}  # the payloads that this desk put
+        self._own: Dict[int, bytes] = {}  # the payloads that this view put
         self._said: Dict[int, Dict[str, Any]] = {}
-        self._doubt: Dict[int, int] = {}  # the tokens of words of which it isn't known whether they stand, and the places where they would
+        # the tokens of words of which it isn't known whether they stand, and the places where they would
+        self._doubt: Dict[int, int] = {}
         self.found: Dict[int, Done] = {}  # claims of this session's that were granted, as it found when it read them
         for number, (_, of) in enumerate(self.forms):
             self._follow(number, of)
@@ -132,7 +146,8 @@ class Desk:
 
     def is_done(self, is_gone: Callable[[int], bool] = lambda session: False) -> bool:
         """Whether all stages are settled, and no claim is open, but for those of sessions that are gone."""
-        return all(kind == IS_SETTLED for kind in self.kinds) and all(is_gone(session) for session in list(self.claims.values()))
+        is_settled = all(kind == IS_SETTLED for kind in self.kinds)
+        return is_settled and all(is_gone(session) for session in list(self.claims.values()))
 
     def behind(self, stage: int) -> List[int]:
         """The stages that have it as a source."""
@@ -141,12 +156,24 @@ class Desk:
     # Reading and putting.
 
     def catch_up(self) -> List[Done]:
-        """Replays what others have put."""
-        return [self._take(*entry) for entry in self.sure(lambda: self.store.read(self.name, self.seen, self.opened.number))]
+        """Replays what others have put, and returns what it did."""
+        return [self._take(*entry)
+                for entry in self.sure(lambda: self.store.read(self.name, self.seen, self.opened.number))]
 
-    def act(self, decide: "Callable[[Desk], Optional[Wanted]]") -> Tuple[Optional[List[Done]], List[Done]]:
-        """Puts the words that `decide` wants, or none where it gives None; it is asked again after each loss. What was done by them, and
-        what others had done before. `Unknown` where the engine is silent for too long: the words may stand or not."""
+    def act(self, decide: "Callable[[RowView], Optional[Wanted]]") -> Tuple[Optional[List[Done]], List[Done]]:
+        """Puts words at the end of what is seen, and does them.
+
+        Args:
+            decide: Says by this view which words are wanted, each with its payload, or None if none is. It is asked
+                again each time another session's words came first.
+
+        Returns:
+            What the words did, or None if none was wanted; and what other sessions' words had done before.
+
+        Raises:
+            Unknown: The store is silent for too long. The words may stand or not.
+            Broken: A word of the row can't be done, or the request isn't there any more.
+            ValueError: A wanted word fits no graph here. Nothing is put."""
         others: List[Done] = []
         while True:
             if not self._landed:
@@ -158,7 +185,8 @@ class Desk:
             stands = self._append(put)
             if stands == []:
                 raise Gone(self.name)
-            if stands is None or stands[0][1] == put.entries[0][1] and _has_words_of(stands, put):  # the second: it had landed
+            # the second: it had landed
+            if stands is None or stands[0][1] == put.entries[0][1] and _has_words_of(stands, put):
                 done = self.landed(put, stands)
                 others += [self._take(*entry) for entry in (stands or [])[len(put.entries):]]
                 return done, others
@@ -178,10 +206,11 @@ class Desk:
         self._doubt.update((token, put.at + k) for k, (_, token) in enumerate(put.entries, 1))
 
     def put_of(self, wanted: Wanted) -> Put:
-        """A put of these words behind what is seen, with new tokens. `ValueError` where one of them fits no graph here: it would break the
-        row for everybody."""
+        """A put of these words behind what is seen, with new tokens. `ValueError` where one of them fits no graph
+        here: it would break the row for everybody."""
         self._check([word for word, _ in wanted])
-        entries = [(word, self.session << COUNT_BITS | (self._count + k) % COUNTS) for k, (word, _) in enumerate(wanted)]
+        entries = [(word, self.session << COUNT_BITS | (self._count + k) % COUNTS)
+                   for k, (word, _) in enumerate(wanted)]
         self._count += len(wanted)
         payloads = {self.place + k: it for k, (_, it) in enumerate(wanted) if it is not None}
         return Put(self.name, self.seen, entries, payloads, self.opened.number)
@@ -205,7 +234,8 @@ class Desk:
             kind, stage = word >> 56, word >> 36 & 0xFFF
             named = (event.first, event.second)[:event.sources] if kind == ATTACH else () if kind == TICK else (stage,)
             if event.who != self.who or any(it >= many for it in named):
-                raise ValueError(f"request {self.name!r}, place {self.place}: the word {word} is another caller's, or names a stage that isn't there")
+                raise ValueError(f"request {self.name!r}, place {self.place}: the word {word} is another caller's, "
+                                 "or names a stage that isn't there")
             many += kind == ATTACH
         if many > len(self.forms):
             self.make_room(many - len(self.forms))
@@ -236,19 +266,20 @@ class Desk:
         session = token >> COUNT_BITS
         self._sessions.append(session)
         self._numbers.setdefault(who, session)
-        if session == self.session and not self._landed:  # by an earlier desk of this session's
+        if session == self.session and not self._landed:  # by an earlier view of this session's
             self._landed, self.who = True, who
         if kind == ATTACH and not reply[ANSWER]:
             self._add(reply[NUMBER], word, place)
         elif kind == CLAIM and not reply[ANSWER]:
             self.claims[stage] = session
-        elif kind == FINISH and reply[ANSWER] != 2:
+        elif kind == FINISH and reply[ANSWER] != NOT_YOURS:
             self.claims.pop(stage, None)
             if word >> 32 & 0xF == LINKS and not reply[ANSWER]:
                 self.links[word & 0xFFF] = place
         links = kind == FINISH and word >> 32 & 0xF == LINKS
         failed = place if kind == FAIL_AS else self.failed.get(word & 0xFFF, 0) if links else 0
-        done = Done(place, word, token, reply, self._changed(self._ledger.news[:self._ledger.changed.value], place, failed))
+        done = Done(place, word, token, reply,
+                    self._changed(self._ledger.news[:self._ledger.changed.value], place, failed))
         if token in self._doubt:
             self._find(done, who)
         if self._doubt:  # what was to stand here and doesn't never will
@@ -256,7 +287,8 @@ class Desk:
         return done
 
     def _find(self, done: Done, who: int) -> None:
-        """A word of this desk's stands, of which it wasn't told: its number is this desk's, and what it claimed is for this desk to run."""
+        """A word of this view's stands, of which it wasn't told: its number is this view's, and what it claimed is
+        for this view to run."""
         self._landed, self.who = True, who
         self._note("did", self.name, done.place, done.word, done.reply)
         if done.word >> 56 == CLAIM and not done.reply[ANSWER]:
@@ -265,7 +297,7 @@ class Desk:
     def _add(self, number: int, word: int, place: int) -> None:
         low = word & 0xFFFFFFFF
         of = (word >> 36 & 0xFFF, low >> 12 & 0xFFF)[:word >> 32 & 0xF]
-        self.kinds.append(0)
+        self.kinds.append(IS_PENDING)
         self.told.append(NOT_YET)
         self.places.append(0)
         self.attached[number] = place
@@ -277,8 +309,8 @@ class Desk:
             self._behind.setdefault(source, []).append(number)
 
     def _changed(self, news: "Sequence[CNews]", place: int, failed: int) -> List[int]:
-        """Takes over what a word changed, and gives the stages that it settled. `failed` is the place for `self.failed` of those that time
-        out by it or have a bad answer, or 0 where that is their sources'."""
+        """Takes over what a word changed, and gives the stages that it settled. `failed` is the place for
+        `self.failed` of those that time out by it or have a bad answer, or 0 where that is their sources'."""
         settled = []
         for it in news:
             number, kind = it.stage, it.now.kind
@@ -286,7 +318,8 @@ class Desk:
                 told = Told(*_told(it.now))
                 if told.kind in FAILURES:
                     self.failed[number] = failed or self.failed_of(self.forms[number][1], told.kind)
-                self.told[number], self.places[number] = told, place  # (first: other threads look whether it is settled)
+                # first: other threads look whether it is settled
+                self.told[number], self.places[number] = told, place
                 settled.append(number)
                 if self.forms[number][0] in COMPOSE_FORMS:
                     self.unlinked.add(number)
@@ -335,11 +368,13 @@ class Desk:
     # What a stage is.
 
     def said(self, stage: int) -> Dict[str, Any]:
-        """What the plan, or the payload of the word that attached it, says of a stage: its name, and its function's name and version."""
+        """What the plan, or the payload of the word that attached it, says of a stage: its name, and its function's
+        name and version."""
         if stage < len(self.plan.said):
             return self.plan.said[stage]
         if stage not in self._said:
-            self._said[stage] = self.read(self.attached[stage], lambda given: said_in(json.loads(given.decode()), stage))
+            self._said[stage] = self.read(self.attached[stage],
+                                          lambda given: said_in(json.loads(given.decode()), stage))
         return self._said[stage]
 
     def read(self, place: int, reader: Callable[[bytes], T]) -> T:
@@ -355,7 +390,8 @@ class Desk:
             raise Broken(self.name, place, f"its payload can't be read: {error!r}") from None
 
     def _payloads(self, places: Sequence[int]) -> Dict[int, bytes]:
-        return self.sure(lambda: self.store.payloads(self.name, places, self.opened.number))  # type: ignore[no-any-return]
+        found: Dict[int, bytes] = self.sure(lambda: self.store.payloads(self.name, places, self.opened.number))
+        return found
 
     def read_if_any(self, place: int, reader: Callable[[bytes], T]) -> Optional[T]:
         """What the payload of a word says that may have none."""
@@ -380,7 +416,8 @@ class Desk:
         return told
 
     def history(self, codec: Json, lock: ContextManager[Any] = contextlib.nullcontext()) -> History:
-        """All that is seen, as it was done. What others may change is read under the lock, and the codec is called without it."""
+        """All that is seen, as it was done. What others may change is read under the lock, and the codec is called
+        without it."""
         with lock:
             words, replies, sessions, told = self.words[:], bytes(self._replies), self._sessions[:], array("I")
             for number, it in enumerate(self.told):
@@ -390,12 +427,12 @@ class Desk:
         values_: List[Any] = [None] * (len(words) + 1)
         errors: List[BaseException] = [RuntimeError("no payload")] * (len(words) + 1)
         for place, given in found.items():
-            is_error = words[place - 1] >> 56 == 2 or words[place - 1] >> 32 & 0xF == 2
-            if is_error:
+            if _names_error(words[place - 1]):
                 errors[place] = self._reading(place, given, codec.read_error)
             else:
                 values_[place] = self._reading(place, given, codec.read)
-        facts = (words, array("q", [0] * len(words)), replies, told, [str(self.said(k)["name"]) for k in range(many)], values_, errors)
+        facts = (words, array("q", [0] * len(words)), replies, told, [str(self.said(k)["name"]) for k in range(many)],
+                 values_, errors)
         return RowHistory(self.name, self.plan.core, facts, sessions)
 
     def open_claims(self) -> Dict[int, int]:
@@ -411,12 +448,18 @@ def _has_words_of(stands: Sequence[Entry], put: Put) -> bool:
 def _names(word: int) -> bool:
     """Whether a word names a payload by its own place: one that gives a value, or an exception."""
     kind, tag = word >> 56, word >> 32 & 0xF
-    return kind == 2 or kind in (1, 5) and tag == 1 or kind == 5 and tag == 2
+    return kind == FAIL or kind in (COMPLETE, FINISH) and tag == GIVES or kind == FINISH and tag == THROWS
+
+
+def _names_error(word: int) -> bool:
+    """Whether the payload that a word names is an exception's."""
+    return word >> 56 == FAIL or word >> 32 & 0xF == THROWS
 
 
 class Watcher:
-    """Which sessions are gone, by this process's own clock: those whose beat stood still for some seconds in which the engine answered. A
-    pause between two looks counts for half of these seconds at most: this process stood still then, or the machine, and others did, too."""
+    """Which sessions are gone, by this process's own clock: those whose beat stood still for some seconds in which
+    the engine answered. A pause between two looks counts for half of these seconds at most, since this process, or
+    the machine, stood still then, and others may have, too."""
 
     def __init__(self, store: Store, seconds: float) -> None:
         self._store, self._seconds = store, seconds
