@@ -12,7 +12,7 @@ use std::alloc::Global;
 use std::process::Abort;
 use std::sync::Wait;
 use std::sync::atomic::{AtomicBool, AtomicU32, Ordering};
-use std::thread::Threads;
+use std::thread::{Threads, yield_now};
 
 fn counters(rt: &impl Abort, alloc: Global, count: usize) -> Vec<AtomicU32> {
     let mut found = Vec::new(alloc);
@@ -32,7 +32,8 @@ struct Told {
 }
 
 impl Told {
-    /// Waits until so many were told, for at most 100,000,000 looks of whoever looks first.
+    /// Waits until so many were told, for at most 100,000,000 looks of whoever looks first. Each look lets another thread
+    /// run, since a worker that hasn't started yet may stand behind all that wait for it.
     fn wait(&self) {
         for _ in 0..100_000_000u32 {
             if self.count.load(Ordering::SeqCst) >= self.together
@@ -40,6 +41,7 @@ impl Told {
             {
                 return;
             }
+            yield_now();
         }
         self.is_late.store(true, Ordering::SeqCst);
     }
