@@ -1,0 +1,334 @@
+/* What the calls of the library for C cost in instructions: bench/library/counts builds this and runs it under callgrind.
+ *
+ *     counts chain|fan-out|sources
+ *
+ * Each row has a function of its own here, with the row's name, that makes the calls and nothing else that is counted: what callgrind finds
+ * in the exported calls that this function makes is the row's figure. So opening, checking and this program's own code aren't in it. A line
+ * for each row says of how many parts it is: claims, finishes, words, stages or completions. Before a ledger's calls are counted, all its
+ * words were done once, so that it has its memory.
+ *
+ * Over a chain and a fan-out of 512, whose source is completed before:
+ *
+ *   ledger_claim, ledger_finish   a word by cf_ledger_apply, with its reply and its news: of a stage, its claim and then its finish
+ *   ledger_words                  the same words in one row by cf_ledger_apply_all; a word
+ *   ledger_row                    these words behind that of the source's completion, in one row; a word
+ *   ledger_step                   cf_ledger_step; a stage
+ *   graph_claim, graph_finish     cf_claim and cf_finish_with
+ *   apply_claim, apply_finish       the same as words by cf_apply
+ *   graph_ready, graph_get        the lowest ready stage asked for before each claim; the outcome of each stage
+ *   graph_next, graph_sweep       cf_next; cf_sweep_next, with the sweep's beginning and end; a stage
+ *   graph_work                    cf_work, with the function in C that it calls; a stage
+ *   graph_round                   cf_round of 16 tasks; a stage
+ *   desk_claim, desk_finish       cf_desk_claim and cf_desk_finish_with of a desk's one caller
+ *   desk_next                     cf_desk_next of one; a stage
+ *   desk_replay                   a look of a second caller that finds all these claims and finishes; a word
+ *
+ * Over sources alone:
+ *
+ *   handle                        cf_stages, which looks behind its handle and does little else
+ *   graph_complete                cf_complete; a completion
+ *   graph_restart_with            cf_restart_with, which completes them all; a completion
+ *   desk_complete, desk_many      cf_desk_complete and cf_desk_complete_many; a completion */
+#define _POSIX_C_SOURCE 200809L
+#include "times.h"
+#include <string.h>
+
+#define COUNTED static __attribute__((noinline)) void
+
+enum { STAGES = 512, APPLIES = STAGES - 1, TASKS = 16, WORDS = 2 * STAGES - 1, RECORDS = 3 * STAGES };
+
+static void say(const char *row, int parts) { printf("%s %d\n", row, parts); }
+
+/* ---- Ledgers ---- */
+
+static uint64_t words[WORDS]; /* the completion of the source, and then of each other stage its claim and its finish */
+
+static uint64_t word_of(cf_event event) {
+  uint64_t word = 0;
+  event.who = ME;
+  MUST(cf_word_of_event(&event, &word));
+  return word;
+}
+
+static void make_words(void) {
+  words[0] = word_of((cf_event){.call = CF_CALL_COMPLETE, .value = number(1)});
+  for (uint16_t i = 1; i < STAGES; i++) {
+    words[2 * i - 1] = word_of((cf_event){.call = CF_CALL_CLAIM, .stage = i});
+    words[2 * i] = word_of((cf_event){.call = CF_CALL_FINISH, .stage = i, .answer = {.kind = CF_GIVE, .value = number(i + 1)}});
+  }
+}
+
+static cf_reply reply;
+static cf_news news[4];
+static size_t n;
+
+COUNTED ledger_claim(cf_handle *ledger, uint64_t word) {
+  MUST(cf_ledger_apply(ledger, word, &reply, news, 4, &n));
+  must_be(reply.answer == CF_GRANTED && n == 1, "a ledger's claim");
+}
+
+COUNTED ledger_finish(cf_handle *ledger, uint64_t word) {
+  MUST(cf_ledger_apply(ledger, word, &reply, news, 4, &n));
+  must_be(reply.answer == CF_WON && n >= 1, "a ledger's finish");
+}
+
+COUNTED ledger_words(cf_handle *ledger) {
+  size_t done;
+  MUST(cf_ledger_apply_all(ledger, words + 1, WORDS - 1, &done));
+}
+
+COUNTED ledger_step(cf_handle *ledger) {
+  cf_step step = {.who = ME};
+  cf_task task = {0};
+  while (cf_ledger_step(ledger, &step, &task, news, 4, &n) == CF_OK) {
+    step.from = task.stage;
+    task.answer = answer(&task.args);
+  }
+  must_be(!task.held && task.finished == CF_WON, "a ledger's last step");
+}
+
+COUNTED ledger_row(cf_handle *ledger) {
+  size_t done;
+  MUST(cf_ledger_apply_all(ledger, words, WORDS, &done));
+}
+
+static void start_ledger(cf_handle *ledger) {
+  MUST(cf_ledger_restart(ledger));
+  MUST(cf_ledger_apply(ledger, words[0], &reply, news, 4, &n));
+}
+
+static void count_ledger(cf_handle *plan) {
+  cf_handle ledger = {0};
+  size_t done;
+  make_words();
+  MUST(cf_ledger_new(plan, 0, &ledger));
+  MUST(cf_ledger_apply_all(&ledger, words, WORDS, &done));
+  MUST(cf_ledger_apply_all(&ledger, words, 2, &done)); /* a step makes room for two words at once */
+  start_ledger(&ledger);
+  for (int i = 1; i < WORDS; i += 2) {
+    ledger_claim(&ledger, words[i]);
+    ledger_finish(&ledger, words[i + 1]);
+  }
+  start_ledger(&ledger);
+  ledger_words(&ledger);
+  MUST(cf_ledger_restart(&ledger));
+  ledger_row(&ledger);
+  start_ledger(&ledger);
+  ledger_step(&ledger);
+  cf_free(&ledger);
+  say("ledger_claim", APPLIES), say("ledger_finish", APPLIES), say("ledger_words", WORDS - 1), say("ledger_row", WORDS);
+  say("ledger_step", APPLIES);
+}
+
+/* ---- Graphs ---- */
+
+COUNTED graph_ready(cf_handle *graph) {
+  uint16_t stage;
+  MUST(cf_lowest_ready(graph, &stage));
+}
+
+COUNTED graph_claim(cf_handle *graph, uint16_t stage) {
+  MUST(cf_claim(graph, ME, stage, &reply));
+  must_be(reply.answer == CF_GRANTED, "a claim");
+}
+
+COUNTED graph_finish(cf_handle *graph, uint16_t stage, const cf_answer *given) {
+  MUST(cf_finish_with(graph, ME, stage, given, &reply));
+  must_be(reply.answer == CF_WON, "a finish");
+}
+
+COUNTED graph_get(cf_handle *graph, uint16_t stage) {
+  cf_outcome outcome;
+  MUST(cf_get(graph, stage, &outcome));
+  must_be(outcome.kind == CF_VALUE, "an outcome");
+}
+
+COUNTED apply_claim(cf_handle *graph, uint64_t word) {
+  MUST(cf_apply(graph, word, &reply));
+  must_be(reply.answer == CF_GRANTED, "a graph's word of a claim");
+}
+
+COUNTED apply_finish(cf_handle *graph, uint64_t word) {
+  MUST(cf_apply(graph, word, &reply));
+  must_be(reply.answer == CF_WON, "a graph's word of a finish");
+}
+
+COUNTED graph_next(cf_handle *graph) {
+  cf_task task = {0};
+  while (cf_next(graph, ME, &task) == CF_OK) task.answer = answer(&task.args);
+  must_be(!task.held && task.finished == CF_WON, "a finish by cf_next");
+}
+
+COUNTED graph_sweep(cf_handle *graph) {
+  cf_task task = {0};
+  MUST(cf_sweep_begin(graph));
+  while (cf_sweep_next(graph, &task) == CF_OK) task.answer = answer(&task.args);
+  MUST(cf_sweep_end(graph));
+  must_be(!task.held && task.finished == CF_WON, "a finish in a sweep");
+}
+
+static void one_more(void *context, const cf_task *task, cf_answer *given) {
+  (void)context;
+  *given = answer(&task->args);
+}
+
+COUNTED graph_work(cf_handle *graph) {
+  static const cf_stage_function functions[] = {one_more};
+  uint32_t calls;
+  MUST(cf_work(graph, ME, functions, 1, NULL, &calls));
+  must_be(calls == APPLIES, "the calls of cf_work");
+}
+
+COUNTED graph_round(cf_handle *graph) {
+  cf_task tasks[TASKS] = {{0}};
+  while (cf_round(graph, ME, tasks, TASKS) == CF_OK)
+    for (int at = 0; at < TASKS && tasks[at].held; at++) tasks[at].answer = answer(&tasks[at].args);
+  must_be(!tasks[0].held && tasks[0].finished == CF_WON, "a finish by cf_round");
+}
+
+static void start_graph(cf_handle *graph) {
+  MUST(cf_restart(graph));
+  MUST(cf_complete(graph, 0, number(1), &reply));
+}
+
+static void count_calls(cf_handle *graph) {
+  start_graph(graph);
+  for (uint16_t i = 1; i < STAGES; i++) {
+    graph_ready(graph);
+    graph_claim(graph, i);
+    const cf_answer given = answer(&reply.args);
+    graph_finish(graph, i, &given);
+    graph_get(graph, i);
+  }
+  start_graph(graph);
+  for (int i = 1; i < WORDS; i += 2) {
+    apply_claim(graph, words[i]);
+    apply_finish(graph, words[i + 1]);
+  }
+  say("graph_ready", APPLIES), say("graph_claim", APPLIES), say("graph_finish", APPLIES), say("graph_get", APPLIES);
+  say("apply_claim", APPLIES), say("apply_finish", APPLIES);
+}
+
+static void count_graph(cf_handle *plan) {
+  static void (*const ways[])(cf_handle *graph) = {graph_next, graph_sweep, graph_work, graph_round};
+  cf_handle graph = {0};
+  MUST(cf_graph_new(plan, 0, &graph));
+  count_calls(&graph);
+  for (int i = 0; i < 4; i++) {
+    start_graph(&graph);
+    ways[i](&graph);
+  }
+  cf_free(&graph);
+  say("graph_next", APPLIES), say("graph_sweep", APPLIES), say("graph_work", APPLIES), say("graph_round", APPLIES);
+}
+
+/* ---- Desks ---- */
+
+COUNTED desk_claim(cf_handle *caller, uint16_t stage) {
+  MUST(cf_desk_claim(caller, stage, &reply));
+  must_be(reply.answer == CF_GRANTED, "a desk's claim");
+}
+
+COUNTED desk_finish(cf_handle *caller, uint16_t stage, const cf_answer *given) {
+  MUST(cf_desk_finish_with(caller, stage, given, &reply));
+  must_be(reply.answer == CF_WON, "a desk's finish");
+}
+
+COUNTED desk_next(cf_handle *caller) {
+  cf_task task = {0};
+  while (cf_desk_next(caller, &task) == CF_OK) task.answer = answer(&task.args);
+  must_be(!task.held && task.finished == CF_WON, "a finish by cf_desk_next");
+}
+
+COUNTED desk_replay(cf_handle *caller) {
+  uint16_t stage;
+  must_be(cf_desk_ready(caller, &stage) == CF_NOTHING, "a look at the end");
+}
+
+static void open_desk(cf_handle *plan, cf_handle callers[2], size_t count) {
+  uint16_t stage;
+  MUST(cf_desk_open(plan, callers, count, RECORDS, RECORDS));
+  MUST(cf_desk_complete(&callers[0], 0, number(1), &reply));
+  for (size_t i = 0; i < count; i++) MUST(cf_desk_ready(&callers[i], &stage));
+}
+
+static void count_desk(cf_handle *plan) {
+  cf_handle callers[2] = {{0}, {0}};
+  uint16_t seen;
+  open_desk(plan, callers, 1);
+  for (uint16_t i = 1; i < STAGES; i++) {
+    desk_claim(&callers[0], i);
+    const cf_answer given = answer(&reply.args);
+    desk_finish(&callers[0], i, &given);
+  }
+  cf_free(&callers[0]);
+  open_desk(plan, callers, 2);
+  desk_next(&callers[0]);
+  desk_replay(&callers[1]);
+  MUST(cf_desk_seen(&callers[1], &seen));
+  must_be(seen == WORDS, "the events of a desk");
+  cf_free(&callers[0]), cf_free(&callers[1]);
+  say("desk_claim", APPLIES), say("desk_finish", APPLIES), say("desk_next", APPLIES), say("desk_replay", WORDS - 1);
+}
+
+/* ---- Completions ---- */
+
+static cf_given given[STAGES];
+
+COUNTED handle(cf_handle *graph) {
+  uint16_t stages;
+  MUST(cf_stages(graph, &stages));
+}
+
+COUNTED graph_complete(cf_handle *graph, uint16_t stage) {
+  MUST(cf_complete(graph, stage, number(stage), &reply));
+  must_be(reply.answer == 1, "a completion");
+}
+
+COUNTED graph_restart_with(cf_handle *graph) { MUST(cf_restart_with(graph, given, STAGES)); }
+
+COUNTED desk_complete(cf_handle *caller, uint16_t stage) {
+  MUST(cf_desk_complete(caller, stage, number(stage), &reply));
+  must_be(reply.answer == 1, "a desk's completion");
+}
+
+COUNTED desk_many(cf_handle *caller) {
+  size_t done;
+  MUST(cf_desk_complete_many(caller, given, STAGES, &done));
+}
+
+static void count_completions(cf_handle *plan) {
+  cf_handle graph = {0}, caller = {0};
+  for (uint16_t i = 0; i < STAGES; i++) given[i] = (cf_given){.stage = i, .value = number(i)};
+  MUST(cf_graph_new(plan, 0, &graph));
+  for (uint16_t i = 0; i < STAGES; i++) handle(&graph), graph_complete(&graph, i);
+  graph_restart_with(&graph);
+  cf_free(&graph);
+  MUST(cf_desk_open(plan, &caller, 1, STAGES, STAGES));
+  for (uint16_t i = 0; i < STAGES; i++) desk_complete(&caller, i);
+  cf_free(&caller);
+  MUST(cf_desk_open(plan, &caller, 1, STAGES, STAGES));
+  desk_many(&caller);
+  cf_free(&caller);
+  say("handle", STAGES), say("graph_complete", STAGES), say("graph_restart_with", STAGES);
+  say("desk_complete", STAGES), say("desk_many", STAGES);
+}
+
+int main(int count, char **given_words) {
+  static const struct { const char *name; enum shape shape; } shapes[] = {{"chain", CHAIN}, {"fan-out", FAN_OUT}, {"sources", SOURCES}};
+  for (size_t i = 0; i < sizeof shapes / sizeof shapes[0]; i++) {
+    if (count != 2 || strcmp(given_words[1], shapes[i].name) != 0) continue;
+    cf_handle plan = plan_of(shapes[i].shape, STAGES);
+    if (shapes[i].shape == SOURCES) {
+      count_completions(&plan);
+    } else {
+      count_ledger(&plan);
+      count_graph(&plan);
+      count_desk(&plan);
+    }
+    cf_free(&plan);
+    return 0;
+  }
+  fprintf(stderr, "usage: counts chain|fan-out|sources\n");
+  return 2;
+}
