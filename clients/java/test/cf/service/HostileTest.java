@@ -1,6 +1,6 @@
 package cf.service;
 
-import static cf.service.ServiceTest.is;
+import static cf.service.Checks.is;
 
 import java.lang.reflect.InvocationTargetException;
 import java.lang.reflect.Method;
@@ -64,7 +64,7 @@ public final class HostileTest {
                 stops();
                 break;
             default:
-                LedgerTest.unclosed();
+                FreeingTest.unclosed();
         }
         System.out.println("survived");
         System.exit(0);

@@ -1,7 +1,8 @@
 package cf.service;
 
-import static cf.service.ServiceTest.is;
-import static cf.service.ServiceTest.thrown;
+import static cf.service.Checks.INLINE;
+import static cf.service.Checks.is;
+import static cf.service.Checks.thrown;
 
 import java.lang.ref.WeakReference;
 import java.nio.file.Files;
@@ -15,71 +16,9 @@ import java.util.concurrent.CompletionException;
 import java.util.concurrent.TimeUnit;
 import java.util.concurrent.atomic.AtomicInteger;
 
-/** What leaves the process as text: histories, texts of stages, messages and recordings. */
-final class TellingTest {
-    private static final Service SERVICE = new Service(Runnable::run);
-    private static final String EVIL = "a\n9 b ends: 1\r\t\u2028\u2029\u0085\u202e\ufeff\ud800 \udb40\udc01;\\ \ud83d\ude00";
-    private static final String ESCAPED = "a\\n9 b ends: 1\\r\\t\\u2028\\u2029\\u0085\\u202e\\ufeff\\ud800 \\udb40\\udc01;\\ \ud83d\ude00";
-
-    private TellingTest() {}
-
-    private static void plain(String text) {
-        text.codePoints().forEach(c -> {
-            int type = Character.getType(c);
-            is(type == Character.CONTROL || type == Character.FORMAT || type == Character.LINE_SEPARATOR || type == Character.PARAGRAPH_SEPARATOR
-                    || type == Character.SURROGATE, false);
-        });
-    }
-
-    /** Names of requests, stages and threads, values and exceptions stay in their line; a backslash and an emoji are told as they are. */
-    static void forged() throws Exception {
-        is(EVIL.length() < 60, true);
-        Request request = SERVICE.request(EVIL);
-        Stage<String> value = request.<String>promise().named(EVIL);
-        Stage<String> failed = value.<String>thenApply(x -> {
-            throw new IllegalStateException(EVIL);
-        }).named(EVIL);
-        Stage<String> open = request.<String>promise().named(EVIL), behind = open.thenApply(x -> x);
-        Thread thread = new Thread(() -> value.complete(EVIL), EVIL);
-        thread.start();
-        thread.join();
-        History history = request.history();
-        String said = history.toString();
-        String[] lines = said.split("\n", -1);
-        is(lines.length, 1 + history.events() + 2 + 1);
-        for (String line : lines) {
-            plain(line);
-        }
-        is(said.startsWith(ESCAPED + ": 7 events, 4 stages\n"), true);
-        is(said.contains(ESCAPED + " completes 0 " + ESCAPED + " with " + ESCAPED + "\n"), true);
-        is(said.contains("0 " + ESCAPED + " ends: " + ESCAPED + "\n"), true);
-        is(said.contains("which threw java.lang.IllegalStateException: a\\n9 b"), true);
-        String line = history.line();
-        plain(line);
-        is(line.split(";", -1).length, 3);
-        is(line.startsWith(ESCAPED.replace(";", "\\u003b") + ": 7 events"), true);
-        is(line.endsWith("; 2 open: 2 " + ESCAPED.replace(";", "\\u003b")), true);
-        for (Stage<?> each : Arrays.asList(value, failed, open, behind)) {
-            plain(each.toString());
-        }
-        is(behind.toString().contains("[" + ESCAPED + ": 3 apply: Not completed, waits for 2 " + ESCAPED + "]"), true);
-        is(failed.toString().contains("Completed exceptionally: "), true);
-        String account = history.account();
-        plain(account);
-        plain(history.script());
-        is(account.contains("\"name\":\"a\\u000a9 b ends: 1\\u000d\\u0009\\u2028\\u2029\\u0085\\u202e\\ufeff\ufffd \\udb40\\udc01;\\u005c \ud83d\ude00\""), true);
-        Flow flow = new Flow(EVIL);
-        while (true) {
-            try {
-                flow.promise();
-            } catch (RequestFullException full) {
-                is(full.getMessage().startsWith("\"" + ESCAPED + "\" has no place"), true);
-                break;
-            }
-        }
-        SERVICE.start(flow).close();
-        is(thrown(IllegalStateException.class, flow::promise).getMessage().contains(ESCAPED), true);
-    }
+/** How much is told of a value or an exception, as Describe says: types, nothing, by a function; values whose text can't be had. */
+final class DescribeTest {
+    private DescribeTest() {}
 
     /** A cut text isn't cut within a character. */
     private static void cut() {
@@ -128,7 +67,7 @@ final class TellingTest {
 
     static void described() throws Exception {
         cut();
-        Service types = SERVICE.describing(Describe.TYPES), nothing = SERVICE.describing(Describe.NOTHING);
+        Service types = INLINE.describing(Describe.TYPES), nothing = INLINE.describing(Describe.NOTHING);
         Path file = Files.createTempFile("cf", ".jfr");
         try (jdk.jfr.Recording recording = new jdk.jfr.Recording()) {
             recording.enable("cf.Word");
@@ -152,9 +91,9 @@ final class TellingTest {
             }
         }
         Files.delete(file);
-        is(ends.contains("-") && ends.contains("java.lang.String of 10") && ends.contains("cf.service.TellingTest$Secret"), true);
-        is(told(SERVICE, SERVICE.request("all")).get(0).contains("bearer 123"), true);
-        is(told(SERVICE, SERVICE.request("one", Describe.NOTHING)).get(0).contains("bearer 123"), false);
+        is(ends.contains("-") && ends.contains("java.lang.String of 10") && ends.contains("cf.service.DescribeTest$Secret"), true);
+        is(told(INLINE, INLINE.request("all")).get(0).contains("bearer 123"), true);
+        is(told(INLINE, INLINE.request("one", Describe.NOTHING)).get(0).contains("bearer 123"), false);
         Request goesOn = types.request("goes on").goesOn();
         Stage<String> last = goesOn.completedFuture("bearer 123");
         while (goesOn.next() == null) {
@@ -163,12 +102,12 @@ final class TellingTest {
         is(last.request() == goesOn.next(), true);
         is(last.request().history().toString().contains("bearer"), false);
         is(types.request().name().equals(nothing.request().name()), false);
-        thrown(NullPointerException.class, () -> SERVICE.describing(null));
-        thrown(NullPointerException.class, () -> SERVICE.request("null", null));
+        thrown(NullPointerException.class, () -> INLINE.describing(null));
+        thrown(NullPointerException.class, () -> INLINE.request("null", null));
     }
 
     private static History held(List<WeakReference<Object>> held) {
-        Request request = SERVICE.request("held", Describe.TYPES);
+        Request request = INLINE.request("held", Describe.TYPES);
         Object value = new Object();
         Throwable error = new Secret();
         request.completedFuture(value);
@@ -185,16 +124,16 @@ final class TellingTest {
         is(Text.of(Describe.TYPES, Arrays.asList(1, 2)), "java.util.Arrays$ArrayList of 2");
         is(Text.of(Describe.TYPES, Collections.singletonMap(1, 2)), "java.util.Collections$SingletonMap of 1");
         is(Text.of(Describe.TYPES, 5), "java.lang.Integer");
-        is(Text.of(Describe.TYPES, new Secret()), "cf.service.TellingTest$Secret");
+        is(Text.of(Describe.TYPES, new Secret()), "cf.service.DescribeTest$Secret");
         is(Text.of(Describe.NOTHING, 5), "-");
         // One's own is told as it is, and where it throws, a question mark is.
-        Request own = SERVICE.request("own", value -> value instanceof String ? long_ + "\n" : null);
+        Request own = INLINE.request("own", value -> value instanceof String ? long_ + "\n" : null);
         own.completedFuture("a");
         own.completedFuture(1);
         String said = own.history().toString();
         is(said.contains("with " + long_ + "\\n\n") && said.contains("with null"), true);
         for (Throwable each : Arrays.asList(new IllegalStateException(), new StackOverflowError(), new LinkageError(), new OutOfMemoryError())) {
-            Request request = SERVICE.request("throws", value -> TellingTest.<RuntimeException>thrower(each));
+            Request request = INLINE.request("throws", value -> DescribeTest.<RuntimeException>thrower(each));
             Stage<Integer> one = request.completedFuture(1);
             Stage<Integer> failed = request.failedFuture(new Secret());
             is(one.join(), 1);
@@ -206,7 +145,7 @@ final class TellingTest {
         // It is called under no lock of the request: another thread uses that meanwhile.
         Request[] locked = new Request[1];
         AtomicInteger asked = new AtomicInteger();
-        locked[0] = SERVICE.request("unlocked", value -> {
+        locked[0] = INLINE.request("unlocked", value -> {
             CompletableFuture<Integer> meanwhile = new CompletableFuture<>();
             Thread other = new Thread(() -> meanwhile.complete(locked[0].completedFuture(2).join()));
             other.start();
@@ -237,6 +176,17 @@ final class TellingTest {
         throw thrown;
     }
 
+    private static AutoCloseable recording() {
+        try {
+            jdk.jfr.Recording recording = new jdk.jfr.Recording();
+            recording.enable("cf.Stage");
+            recording.start();
+            return recording;
+        } catch (NoClassDefFoundError none) {
+            return () -> { };
+        }
+    }
+
     /** A value whose text can't be had ends its stage all the same, and what is behind it goes on, with a recording, too. */
     static void unspeakable() throws Exception {
         List<Object> mute = new ArrayList<>();
@@ -244,7 +194,7 @@ final class TellingTest {
             mute.add(new Object() {
                 @Override
                 public String toString() {
-                    return TellingTest.<RuntimeException>thrower(each);
+                    return DescribeTest.<RuntimeException>thrower(each);
                 }
             });
         }
@@ -269,7 +219,7 @@ final class TellingTest {
         });
         try (AutoCloseable recording = recording()) {
             for (Object each : mute) {
-                Request request = SERVICE.request("mute");
+                Request request = INLINE.request("mute");
                 Stage<Object> first = request.promise();
                 Stage<String> behind = first.handle((x, e) -> "told");
                 is(each instanceof Throwable ? first.completeExceptionally((Throwable) each) : first.complete(each), true);
@@ -292,7 +242,7 @@ final class TellingTest {
                 throw new IllegalStateException();
             }
         }
-        Request request = SERVICE.request("mute");
+        Request request = INLINE.request("mute");
         Stage<Integer> first = request.promise();
         Stage<Integer> behind = first.thenApply(x -> x + 1), last = behind.thenApply(x -> x + 1), beside = first.exceptionally(e -> 7);
         Mute mute = new Mute();
@@ -303,35 +253,5 @@ final class TellingTest {
             is(each.exceptionNow() == mute, true);
             is(each.handle((x, e) -> e instanceof CompletionException && e.getCause() == mute).join(), true);
         }
-    }
-
-    private static AutoCloseable recording() {
-        try {
-            jdk.jfr.Recording recording = new jdk.jfr.Recording();
-            recording.enable("cf.Stage");
-            recording.start();
-            return recording;
-        } catch (NoClassDefFoundError none) {
-            return () -> { };
-        }
-    }
-
-    /** A recording has events of requests only where it asks for them. */
-    static void unasked() throws Exception {
-        Path file = Files.createTempFile("cf", ".jfr");
-        try (jdk.jfr.Recording recording = new jdk.jfr.Recording(jdk.jfr.Configuration.getConfiguration("profile"))) {
-            recording.start();
-            SERVICE.request("unasked").completedFuture(1).thenApply(x -> x);
-            is(Recorder.now() != null, true);
-            is(Recorder.hasStages() || Recorder.now().takesWords(), false);
-            recording.stop();
-            recording.dump(file);
-        } catch (NoClassDefFoundError none) {
-            return;
-        }
-        for (jdk.jfr.consumer.RecordedEvent event : jdk.jfr.consumer.RecordingFile.readAllEvents(file)) {
-            is(event.getEventType().getName().startsWith("cf."), false);
-        }
-        Files.delete(file);
     }
 }
