@@ -1,46 +1,16 @@
-//! What who calls the library owes it (src/handle.rs names each), and safe code that tries to break it. Sanitizers and valgrind run these, too:
-//! conformance/clients/rust-sanitized.
+//! What who calls the library owes it (src/handle.rs names each), and safe code that tries to break it: owners that go to threads, whose
+//! functions panic or use others, that are forgotten, swapped and freed in any order. Sanitizers and valgrind run these, too: conformance/clients/rust-sanitized.
+mod common;
+
 use cf_graph::*;
+use common::{completes, given, one_more, row, sizes};
 use std::fmt::Debug;
 use std::mem::{replace, swap};
 use std::panic::{catch_unwind, AssertUnwindSafe};
 use std::path::Path;
-use std::sync::atomic::{AtomicBool, Ordering};
 use std::sync::mpsc::channel;
 use std::sync::Mutex;
 use std::thread;
-use std::time::{Duration, Instant};
-
-const fn sizes(callers: u8, log: u16, calls: u16) -> Sizes {
-    Sizes { callers, log, calls, growth: None }
-}
-
-/// 0 a source, and a row of so many applies behind it.
-fn row(applies: u16) -> Plan {
-    let mut builder = PlanBuilder::new().unwrap();
-    let mut last = builder.stage(Form::Source, &[], None).unwrap();
-    for function in 0..applies {
-        last = builder.stage(Form::Apply, &[last], Some(function)).unwrap();
-    }
-    builder.build().unwrap()
-}
-
-fn one_more(args: Args) -> Answer {
-    match args {
-        Args::One(Value::Int(number)) => Answer::Give(Value::Int(number + 1)),
-        _ => Answer::Throw(0),
-    }
-}
-
-fn given(number: i32) -> Result<Option<Outcome>, Refused> {
-    Ok(Some(Outcome::Value(Value::Int(number))))
-}
-
-fn completes(stage: u16, number: i32) -> u64 {
-    Event { who: 0, call: Call::Complete(stage, Value::Int(number)) }.word().unwrap()
-}
-
-// Alone: one call at a time has a handle, in one thread, and none is used twice.
 
 /// Compiles for each type that isn't `Clone`: of one that is, two of these would fit.
 trait IsNoClone<Which> {
@@ -245,168 +215,6 @@ fn a_graph_goes_from_thread_to_thread() {
     threads.into_iter().for_each(|thread| thread.join().unwrap());
 }
 
-/// Callers are dropped, and their desk with the last, while others are in the midst of their calls.
-#[test]
-fn callers_are_dropped_while_others_call() {
-    for round in 0..20 {
-        let (desk, callers) = row(50).desk(sizes(6, 2_000, 2_000)).unwrap();
-        let threads: Vec<_> = callers
-            .into_iter()
-            .enumerate()
-            .map(|(k, mut caller)| {
-                thread::spawn(move || {
-                    for call in 0..(20 * k + round) {
-                        caller.complete((call % 50) as u16, Value::Int(1)).unwrap();
-                        caller.read((call % 50) as u16).unwrap();
-                    }
-                    drop(caller);
-                })
-            })
-            .collect();
-        drop(desk);
-        threads.into_iter().for_each(|thread| thread.join().unwrap());
-    }
-}
-
-// One desk: callers that meet, and those that close a desk, are of one.
-
-/// While callers of a large desk meet one another, one of a small desk asks to meet one of theirs.
-#[test]
-fn callers_of_two_desks_never_meet() {
-    let opened = |stages: u16, events: u16, log: u16| {
-        let mut builder = PlanBuilder::new().unwrap();
-        for _ in 0..stages {
-            builder.stage(Form::Source, &[], None).unwrap();
-        }
-        let (desk, mut callers) = builder.build().unwrap().desk(sizes(3, log, 3_000)).unwrap();
-        for k in 0..events {
-            callers[0].complete(k % stages, Value::Int(i32::from(k))).unwrap();
-        }
-        (desk, callers)
-    };
-    let ((small, mut few), (large, mut many)) = (opened(2, 4, 8), opened(3_000, 2_500, 60_000));
-    let (mut one, mut other) = (few.pop().unwrap(), many.pop().unwrap());
-    let ends = AtomicBool::new(false);
-    thread::scope(|scope| {
-        scope.spawn(|| {
-            let (first, second) = many.split_at_mut(1);
-            while !ends.load(Ordering::Relaxed) {
-                first[0].meet(&mut second[0]).unwrap();
-            }
-        });
-        let since = Instant::now();
-        let mut told = one.meet(&mut other);
-        while told == Err(Refused::OTHER_DESK) && since.elapsed() < Duration::from_secs(1) {
-            told = one.meet(&mut other);
-        }
-        ends.store(true, Ordering::Relaxed);
-        assert_eq!(told, Err(Refused::OTHER_DESK));
-    });
-    assert_eq!((one.seen(), other.seen()), (Ok(0), Ok(0)));
-    few.push(one);
-    many.push(other);
-    assert_eq!(small.close(few).unwrap().words().unwrap().len(), 4);
-    assert_eq!(large.close(many).unwrap().words().unwrap().len(), 2_500);
-}
-
-/// The caller of one desk takes the place of another's, which as many callers are to close.
-#[test]
-fn callers_that_change_places_close_no_desk() {
-    let mut plan = row(1);
-    let (mut desk, mut callers) = plan.desk(sizes(2, 9, 9)).unwrap();
-    let (other, mut others) = plan.desk(sizes(2, 9, 9)).unwrap();
-    for k in 0..2 {
-        swap(&mut callers[k], &mut others[1]);
-        let refused = desk.close(callers).unwrap_err();
-        assert_eq!(refused.why, Refused::OTHER_DESK);
-        (desk, callers) = (refused.desk, refused.callers);
-        swap(&mut callers[k], &mut others[1]);
-    }
-    let refused = desk.close(others).unwrap_err();
-    assert_eq!(refused.why, Refused::OTHER_DESK);
-    assert_eq!(refused.desk.close(callers).unwrap().callers(), 2);
-    assert_eq!(other.close(refused.callers).unwrap().callers(), 2);
-}
-
-// Apart and pointers: numbers and lengths of all sizes.
-
-#[test]
-fn numbers_and_lengths_are_never_cut() {
-    let mut builder = PlanBuilder::new().unwrap();
-    assert_eq!(builder.stage(Form::Source, &[], None), Ok(0));
-    // As many more than fit into 16 bits as there have to be.
-    assert_eq!(builder.stage(Form::Combine, &vec![0; (1 << 16) + 2], Some(0)), Err(Refused::WRONG_SOURCE_COUNT));
-    assert_eq!(builder.stage(Form::Apply, &vec![0; (1 << 16) + 1], Some(0)), Err(Refused::WRONG_SOURCE_COUNT));
-    assert_eq!(builder.stage(Form::AllOf, &vec![0; 1 << 16], None), Err(Refused::TOO_MANY_EDGES));
-    assert_eq!(builder.stage(Form::Apply, &[u16::MAX], Some(0)), Err(Refused::SOURCE_NOT_LOWER));
-    assert_eq!(builder.stage(Form::Apply, &[0], Some(u16::MAX)), Ok(1));
-    assert_eq!(builder.limit(u16::MAX, u32::MAX, Limit::Timeout), Err(Refused::NO_SUCH_STAGE));
-    assert_eq!(builder.limit(0, u32::MAX, Limit::Timeout), Ok(()));
-    let mut plan = builder.build().unwrap();
-    assert_eq!(plan.graph(u16::MAX).err(), Some(Refused::ROOM));
-    assert_eq!(Ledger::new(&mut plan, u16::MAX).err(), Some(Refused::ROOM));
-    assert_eq!(Ledger::of_words(&mut plan, u16::MAX, &[]).err().map(|misfit| misfit.place), Some(None));
-
-    let mut graph = plan.graph(0).unwrap();
-    for stage in [2, 4_095, 4_096, u16::MAX] {
-        assert_eq!(graph.complete(stage, Value::Nil), Err(Refused::NO_STAGE));
-        assert_eq!(graph.outcome(stage), Err(Refused::NO_STAGE));
-        assert_eq!(graph.restart_with(&[(stage, Value::Nil)]), Err(Refused::NO_STAGE));
-    }
-    assert_eq!(graph.attach(Form::AllOf, &vec![0; (1 << 16) + 2], None), Err(Refused::WRONG_SOURCE_COUNT));
-    assert_eq!(graph.restart_with(&[(0, Value::Int(i32::MIN)); 70_000]), Ok(()));
-    assert_eq!(graph.tick(u32::MAX), Ok(Ticked::Fired(0)));
-    let steps = graph.round(u8::MAX, &vec![None; 70_000]).unwrap();
-    assert_eq!(steps.len(), 70_000);
-    assert_eq!(steps[0].taken, Some(Taken { stage: 1, function: u16::MAX, args: Args::One(Value::Int(i32::MIN)) }));
-    assert!(steps[1..].iter().all(|step| step.taken.is_none()));
-
-    for (sizes, why) in
-        [(Sizes { growth: Some((u16::MAX, u32::MAX)), ..sizes(1, 1, 1) }, Refused::ROOM), (sizes(u8::MAX, u16::MAX, u16::MAX), Refused::CALLERS)]
-    {
-        assert_eq!(plan.desk(sizes).err(), Some(why), "{sizes:?}");
-    }
-    let (_desk, mut callers) = plan.desk(sizes(1, 10, 10)).unwrap();
-    assert_eq!(callers[0].complete_many(&[(0, Value::Nil); 70_000]), (10, Err(Refused::PASS_FULL)));
-    let (_desk, mut callers) = plan.desk(sizes(1, 10, 10)).unwrap();
-    callers[0].complete(0, Value::Nil).unwrap();
-    assert_eq!(callers[0].join(0, u32::MAX), Ok(Now::Value(Value::Nil)));
-
-    let late = vec![completes(0, 1); 70_000];
-    let mut ledger = Ledger::of_words(&mut plan, 0, &late).unwrap();
-    assert_eq!(ledger.count(), Ok(70_000));
-    assert_eq!(ledger.words().unwrap(), late);
-    assert_eq!(ledger.apply_all(&late), (70_000, Ok(())));
-    assert_eq!(ledger.grow(u16::MAX), Err(Refused::ROOM));
-    assert_eq!((ledger.ready(u16::MAX), ledger.stage(u16::MAX).err()), (Ok(None), Some(Refused::NO_STAGE)));
-    assert_eq!(Event::of_word(u64::MAX), Err(Refused::NO_WORD));
-}
-
-/// More changes than there was room for, also for rows of changes that another ledger has used.
-#[test]
-fn changes_of_all_sizes_are_told() {
-    let mut changes = Changes::default();
-    for applies in [0, 14, 15, 16, 17, 1_000, 3, 4_000] {
-        let mut ledger = Ledger::new(&mut all_behind_one(applies), 0).unwrap();
-        ledger.apply_telling(completes(0, 1), &mut changes).unwrap();
-        let told: Vec<u16> = changes.iter().map(|news| news.stage).collect();
-        assert_eq!(told, (0..=applies).collect::<Vec<u16>>());
-        assert!(catch_unwind(AssertUnwindSafe(|| changes.at(usize::from(applies) + 1))).is_err());
-        assert_eq!(ledger.apply_telling(0, &mut changes), Err(Refused::NO_WORD));
-        assert!(changes.is_empty());
-    }
-}
-
-/// So many stages that are settled, or become ready, by the first.
-fn all_behind_one(count: u16) -> Plan {
-    let mut builder = PlanBuilder::new().unwrap();
-    builder.stage(Form::Source, &[], None).unwrap();
-    for _ in 0..count {
-        builder.stage(Form::Apply, &[0], Some(0)).unwrap();
-    }
-    builder.build().unwrap()
-}
-
 /// After a call was refused, what it had is as it was.
 #[test]
 fn owners_are_whole_after_refusals() {
@@ -451,30 +259,6 @@ fn owners_are_whole_after_refusals() {
     assert_eq!(callers[1].complete(0, Value::Nil), Err(Refused::LOG_FULL));
     assert_eq!(desk.close(callers).unwrap().graph().unwrap().outcome(0), given(5));
 }
-
-/// A stack that is small for a thread is enough for any call.
-#[test]
-fn calls_take_little_stack() {
-    let does = || {
-        let mut plan = all_behind_one(4_000);
-        let mut graph = plan.graph(90).unwrap();
-        graph.complete(0, Value::Int(1)).unwrap();
-        assert_eq!(graph.work(1, |_, args| one_more(args)), Ok(4_000));
-        let mut row = row(4_000);
-        let mut graph = row.graph(0).unwrap();
-        graph.fail(0, 1).unwrap();
-        let (desk, mut callers) = row.desk(sizes(2, 9, 9)).unwrap();
-        callers[0].cancel(0).unwrap();
-        callers[1].read(4_000).unwrap();
-        assert_eq!(desk.close(callers).unwrap().words().unwrap().len(), 1);
-        let mut ledger = Ledger::new(&mut row, 0).unwrap();
-        ledger.act(Event { who: 0, call: Call::Cancel(0) }).unwrap();
-        assert_eq!(ledger.news().len(), 4_001);
-    };
-    thread::Builder::new().stack_size(1 << 18).spawn(does).unwrap().join().unwrap();
-}
-
-// This library: cf-sys compares it (tests/other_library.rs).
 
 /// Each `unsafe` says what it meets.
 #[test]
