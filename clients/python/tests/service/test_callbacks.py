@@ -13,19 +13,19 @@ from cf.service import Flow, Service
 
 class Callbacks(Case):
     def test_exceptions_of_callbacks_are_logged(self):
-        told = []
+        called_back = []
         calling_back = self.request.promise()
         calling_back.add_done_callback(fails)
-        calling_back.add_done_callback(told.append)
+        calling_back.add_done_callback(called_back.append)
         with self.assertLogs("concurrent.futures", "ERROR") as logs:
             calling_back.complete(1)
             calling_back.add_done_callback(fails)
-        self.assertEqual((told, len(logs.output)), ([calling_back], 2))
+        self.assertEqual((called_back, len(logs.output)), ([calling_back], 2))
         self.assertIn("Oops", logs.output[0])
 
     def test_base_exceptions_of_callbacks_lose_nobody(self):
         """They come up in whoever settled the stage, and the service goes on."""
-        calling_back, told = self.request.promise(), []
+        calling_back, called_back = self.request.promise(), []
 
         def raises(_):
             raise Wild
@@ -37,25 +37,25 @@ class Callbacks(Case):
         begun = threading.Event()
         calling_back = self.request.supply(begun.wait, 5)
         calling_back.add_done_callback(raises)
-        behind = calling_back.then(told.append)
+        behind = calling_back.then(called_back.append)
         with self.assertLogs("concurrent.futures", "CRITICAL"):
             begun.set()
             behind.result(5)
             self.service.shutdown()
-        self.assertEqual(told, [True])
+        self.assertEqual(called_back, [True])
 
     def test_exits_of_callbacks_lose_no_other(self):
         """One event settles two stages, and the first callback of the first leaves."""
-        r, told = self.request, []
-        calling_back = r.promise()
-        both = r.all_of(calling_back)
+        calling, called_back = self.request, []
+        calling_back = calling.promise()
+        both = calling.all_of(calling_back)
         elsewhere = self.service.request("other").adopt(both)
         calling_back.add_done_callback(leaves)
-        calling_back.add_done_callback(lambda _: told.append("second"))
-        both.add_done_callback(lambda _: told.append("other stage"))
+        calling_back.add_done_callback(lambda _: called_back.append("second"))
+        both.add_done_callback(lambda _: called_back.append("other stage"))
         with self.assertRaises(SystemExit):
             calling_back.complete(1)
-        self.assertEqual((told, elsewhere.done()), (["second", "other stage"], True))
+        self.assertEqual((called_back, elsewhere.done()), (["second", "other stage"], True))
 
     def test_exits_of_callbacks_lose_no_relay(self):
         """Relays wait in a row for their turn, and a callback of the first leaves."""
@@ -83,26 +83,26 @@ class Callbacks(Case):
                 self.assertEqual(behind.result(20), 2)
 
     def test_callbacks_may_call_their_request(self):
-        r, told = self.request, []
-        calling_back = r.promise()
-        calling_back.add_done_callback(lambda done: told.append((r.promise().complete(1), len(r.history().entries()),
-                                                                 done.then(inc).result(5))))
+        calling, called_back = self.request, []
+        calling_back = calling.promise()
+        calling_back.add_done_callback(lambda done: called_back.append(
+            (calling.promise().complete(1), len(calling.history().entries()), done.then(inc).result(5))))
         calling_back.complete(3)
-        self.assertEqual(told[0][2], 4)
+        self.assertEqual(called_back[0][2], 4)
 
 
 class CallbacksOfCores(CoreCase):
     def test_a_callback_loses_no_other(self):
         for error in (SystemExit, KeyboardInterrupt, Wild, GeneratorExit, ValueError):
-            r, called_back = self.service.request(), []
+            calling, called_back = self.service.request(), []
 
             def raises(_):
                 raise error
 
             def appends(stage):
                 called_back.append(stage.number)
-            calling_back = r.promise()
-            ends = [calling_back, r.all_of(calling_back), r.all_of(calling_back)]
+            calling_back = calling.promise()
+            ends = [calling_back, calling.all_of(calling_back), calling.all_of(calling_back)]
             for end in ends:
                 end.add_done_callback(raises)
                 end.add_done_callback(appends)
@@ -133,20 +133,20 @@ class CallbacksOfCores(CoreCase):
 
     def test_callbacks_that_change_what_is_told(self):
         """Each of many stages that one event settles has a callback that attaches, completes and adds callbacks."""
-        r, called_back = self.request, []
-        calling_back = r.promise()
-        ends = [r.all_of(calling_back) for _ in range(30)]
+        calling, called_back = self.request, []
+        calling_back = calling.promise()
+        ends = [calling.all_of(calling_back) for _ in range(30)]
 
         def more(stage):
-            behind = r.promise()
+            behind = calling.promise()
             behind.add_done_callback(lambda _: called_back.append(stage.number))
-            stage.add_done_callback(lambda _: behind.complete(len(r._facts()[4])))
-            r.history()
+            stage.add_done_callback(lambda _: behind.complete(len(calling._facts()[4])))
+            calling.history()
         for end in ends:
             end.add_done_callback(more)
         calling_back.complete(1)
         self.assertEqual(sorted(called_back), [end.number for end in ends])
-        self.fits(r)
+        self.fits(calling)
 
 
 if __name__ == "__main__":

@@ -28,30 +28,31 @@ class CoreArguments(CoreCase):
     def test_a_request_that_isnt_opened(self):
         for made in (_core.RequestCore.__new__(_core.RequestCore), Request.__new__(Request),
                      type("Own", (Request,), {"__init__": lambda self: None})()):
-            stage = self.request.promise()
+            core_stage = self.request.promise()
             self.refused(lambda: made._attach(0, None, None, None, None, None, "x"),
-                         lambda: made._change(COMPLETE, 0, 0, 1), lambda: made._run(stage, 3), lambda: made._work(3),
-                         lambda: made._begin(stage, 3), lambda: made._end(stage, 3, 1, 1), lambda: made._stage(0),
-                         lambda: made._set_running(stage), lambda: made._name_of(0), lambda: made._rename(0, "x"),
-                         lambda: made._attach(3, stage, None, str, None, None, None))
+                         lambda: made._change(COMPLETE, 0, 0, 1), lambda: made._run(core_stage, 3),
+                         lambda: made._work(3), lambda: made._begin(core_stage, 3),
+                         lambda: made._end(core_stage, 3, 1, 1), lambda: made._stage(0),
+                         lambda: made._set_running(core_stage), lambda: made._name_of(0), lambda: made._rename(0, "x"),
+                         lambda: made._attach(3, core_stage, None, str, None, None, None))
             self.assertIsNone(made._open())
             self.assertEqual(made._facts()[4], [])
 
     def test_an_opening_that_fails(self):
-        request = _core.RequestCore.__new__(_core.RequestCore)
+        opened = _core.RequestCore.__new__(_core.RequestCore)
         plan = _core.PlanCore.__new__(_core.PlanCore)
-        self.refused(lambda: request.__init__(None, "", 1, None, plan), lambda: request.__init__(None, "", 1, None, 7),
-                     lambda: request._attach(0, None, None, None, None, None, "x"), lambda: request._work(3),
-                     lambda: request._open() or request._stage(0))
+        self.refused(lambda: opened.__init__(None, "", 1, None, plan), lambda: opened.__init__(None, "", 1, None, 7),
+                     lambda: opened._attach(0, None, None, None, None, None, "x"), lambda: opened._work(3),
+                     lambda: opened._open() or opened._stage(0))
 
     def test_opened_and_planned_once(self):
         flow = Flow()
         end = flow.promise().then(str)
-        request = flow.run(1)
-        facts = request._facts()[:3]
-        self.refused(lambda: request.__init__(None, "", 1), lambda: flow._plan.__init__([]),
+        opened = flow.run(1)
+        facts = opened._facts()[:3]
+        self.refused(lambda: opened.__init__(None, "", 1), lambda: flow._plan.__init__([]),
                      lambda: flow._plan.__init__([(0, (), None, "x")] * 3))
-        self.assertEqual((request._facts()[:3], request[end].result(0), flow.run(2)[end].result(0)), (facts, "1", "2"))
+        self.assertEqual((opened._facts()[:3], opened[end].result(0), flow.run(2)[end].result(0)), (facts, "1", "2"))
         self.assertEqual(flow.run()._stage(1).name, "str")
 
     def test_a_plan_whose_rows_change_as_they_are_read(self):
@@ -77,32 +78,32 @@ class CoreArguments(CoreCase):
         """An event of another kind, caller or form than is meant would let the ledger and what stands beside it
         part."""
         core = self.request
-        stage = core.promise()
+        core_stage = core.promise()
         for bad in (-2, -1, 7, 64, 255, 256, 1 << 16, 1 << 32, 7 << 8, -(1 << 40), 1 << 70):
-            self.refused(lambda: core._change(bad, 0, stage, None) if bad != 7 else core._change(7, 0, 0, None),
-                         lambda: core._run(stage, bad) if bad != 7 else 1 / 0,
-                         lambda: core._end(stage, bad, 1, None) if bad != 7 else 1 / 0,
-                         lambda: core._end(stage, 3, bad, None), lambda: core._stage(bad),
+            self.refused(lambda: core._change(bad, 0, core_stage, None) if bad != 7 else core._change(7, 0, 0, None),
+                         lambda: core._run(core_stage, bad) if bad != 7 else 1 / 0,
+                         lambda: core._end(core_stage, bad, 1, None) if bad != 7 else 1 / 0,
+                         lambda: core._end(core_stage, 3, bad, None), lambda: core._stage(bad),
                          lambda: _core.be(bad) if bad != 7 else 1 / 0,
-                         lambda: core._change(COMPLETE, bad if bad not in (-1, 7) else 99, stage, 1),
-                         lambda: core._attach(bad if bad != 7 else 19, stage, None, str, None, None, None),
+                         lambda: core._change(COMPLETE, bad if bad not in (-1, 7) else 99, core_stage, 1),
+                         lambda: core._attach(bad if bad != 7 else 19, core_stage, None, str, None, None, None),
                          lambda: core._name_of(bad), lambda: core._rename(bad, "x"),
                          kinds=(TypeError, ValueError, IndexError, RuntimeError, OverflowError, ZeroDivisionError))
         for kind in (4, 5, 6, 9):
-            self.refused(lambda: core._change(kind, 0, stage, None))
+            self.refused(lambda: core._change(kind, 0, core_stage, None))
         self.fits(core)
-        self.assertEqual((len(core._facts()[4]), stage.complete(1), stage.then(str).result(9)), (1, True, "1"))
+        self.assertEqual((len(core._facts()[4]), core_stage.complete(1), core_stage.then(str).result(9)), (1, True, "1"))
 
     def test_arguments_of_other_types(self):
         core, other = self.request, self.service.request().promise()
-        stage = core.promise()
+        core_stage = core.promise()
         self.refused(lambda: core._attach(1, None, None, str, 5, None, None),
                      lambda: core._attach(1, None, None, str, None, 5, None),
                      lambda: core._attach(1, None, None, str, [], {}, None),
-                     lambda: core._attach("3", stage, None, str, None, None, None), lambda: core._attach(),
+                     lambda: core._attach("3", core_stage, None, str, None, None, None), lambda: core._attach(),
                      lambda: core._attach(3, other, None, str, None, None, None),
                      lambda: core._attach(3, 7, None, str, None, None, None), lambda: core._run(other, 3),
-                     lambda: core._begin(None, 3), lambda: core._end(stage, 3, 3, other),
+                     lambda: core._begin(None, 3), lambda: core._end(core_stage, 3, 3, other),
                      lambda: core._change(COMPLETE, 0, "x", 1), lambda: core._set_running(other),
                      lambda: core._work(None),
                      lambda: _core.RequestCore(), lambda: _core.RequestCore(1, 2, 3, 4, 5, 6))
@@ -137,34 +138,36 @@ class CoreArguments(CoreCase):
         self.assertEqual((out, status), ("refused\n" * 5, 0), err)
 
     def test_copies_and_classes(self):
-        stage, flow = self.request.promise(), Flow()
+        core_stage, flow = self.request.promise(), Flow()
         flow.promise()
         flow.run()
-        for each in (stage, self.request, flow._plan):
+        for each in (core_stage, self.request, flow._plan):
             for call in (copy.copy, copy.deepcopy, pickle.dumps, lambda it: it.__reduce_ex__(2)):
                 self.refused(lambda: call(each))
         self.refused(lambda: object.__new__(Stage), lambda: Stage.__new__(Stage), lambda: Stage(),
-                     lambda: Stage(self.request, 0), lambda: setattr(stage, "__class__", concurrent.futures.Future),
+                     lambda: Stage(self.request, 0),
+                     lambda: setattr(core_stage, "__class__", concurrent.futures.Future),
                      lambda: setattr(self.request, "__class__", Flow))
-        stage.__class__ = type("Own", (Stage,), {})
+        core_stage.__class__ = type("Own", (Stage,), {})
         self.request.__class__ = type("Own", (Request,), {"__slots__": ()})
-        self.assertEqual((stage.complete(2), stage.then(str).result(9), self.request.promise().complete(1)),
+        self.assertEqual((core_stage.complete(2), core_stage.then(str).result(9), self.request.promise().complete(1)),
                          (True, "2", True))
-        self.refused(lambda: Stage.__init__(stage), kinds=AttributeError)
-        self.assertEqual((stage.result(0), stage.done()), (2, True))
+        self.refused(lambda: Stage.__init__(core_stage), kinds=AttributeError)
+        self.assertEqual((core_stage.result(0), core_stage.done()), (2, True))
 
     def test_what_a_stage_lets_be_set(self):
-        stage = self.request.promise()
-        self.refused(*[functools.partial(setattr, stage, name, None)
-                       for name in ("request", "number", "_state", "_condition", "_waiters", "_done_callbacks",
-                                    "_result", "_exception", "_form")], functools.partial(delattr, stage, "_shown"),
-                     functools.partial(delattr, stage, "request"), kinds=(AttributeError, TypeError, SystemError))
-        stage._shown = True
-        self.assertFalse(stage.done())
+        core_stage = self.request.promise()
+        names = ("request", "number", "_state", "_condition", "_waiters", "_done_callbacks", "_result", "_exception",
+                 "_form")
+        self.refused(*[functools.partial(setattr, core_stage, name, None) for name in names],
+                     functools.partial(delattr, core_stage, "_shown"),
+                     functools.partial(delattr, core_stage, "request"), kinds=(AttributeError, TypeError, SystemError))
+        core_stage._shown = True
+        self.assertFalse(core_stage.done())
         with self.assertRaises(concurrent.futures.TimeoutError):
-            stage.result(0)
-        self.assertTrue(stage.complete(1))
-        self.assertEqual(stage.result(0), 1)
+            core_stage.result(0)
+        self.assertTrue(core_stage.complete(1))
+        self.assertEqual(core_stage.result(0), 1)
 
 
 class PublicArguments(Case):
@@ -174,7 +177,7 @@ class PublicArguments(Case):
                      lambda: pickle.dumps(self.request)):
             with self.assertRaises(TypeError):
                 call()
-        self.assertIs(self.request.adopt(stage := self.request.promise()), stage)
+        self.assertIs(self.request.adopt(core_stage := self.request.promise()), core_stage)
 
 
 if __name__ == "__main__":

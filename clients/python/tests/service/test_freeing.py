@@ -27,10 +27,10 @@ class Kept(Case):
         """A stage that is attached with things alone; and whether they are still there."""
         things = [Thing() for _ in range(5)]
         call, first, other, callback, late = things
-        stage = attach(call, first, other).complete_on_timeout(late, 1000)
-        stage.add_done_callback(callback)
-        known = [weakref.ref(thing) for thing in things]
-        return stage, lambda: [it for it in known if it() is not None]
+        freed_stage = attach(call, first, other).complete_on_timeout(late, 1000)
+        freed_stage.add_done_callback(callback)
+        watched = [weakref.ref(thing) for thing in things]
+        return freed_stage, lambda: [it for it in watched if it() is not None]
 
     def test_settled_stages_keep_nothing(self):
         freed, goes_on = self.request, threading.Event()
@@ -42,28 +42,28 @@ class Kept(Case):
         def behind(source):
             return lambda call, first, other: source.then(call)
         source = freed.promise()
-        cases = [(supplied, Stage.cancel), (supplied, lambda stage: stage.complete(1)),
-                 (supplied, lambda stage: stage.fail(Oops())), (supplied, lambda _: goes_on.set()),
+        cases = [(supplied, Stage.cancel), (supplied, lambda freed_stage: freed_stage.complete(1)),
+                 (supplied, lambda freed_stage: freed_stage.fail(Oops())), (supplied, lambda _: goes_on.set()),
                  (supplied, lambda _: None), (behind(source), Stage.cancel),
                  (behind(source), lambda _: source.cancel()), (behind(freed.supply(str)), lambda _: None)]
         held = []
         for attach, settle in cases:
-            stage, left = self.things(attach)
-            settle(stage)
-            self.assertTrue(stage.done() or until(stage.done))
+            freed_stage, left = self.things(attach)
+            settle(freed_stage)
+            self.assertTrue(freed_stage.done() or until(freed_stage.done))
             self.assertTrue(until(lambda: not left()), left())
-            held.append(stage)
-        self.assertTrue(all(stage.done() for stage in [*held, *running]))
+            held.append(freed_stage)
+        self.assertTrue(all(freed_stage.done() for freed_stage in [*held, *running]))
 
     def test_idle_threads_keep_nothing(self):
         gc.disable()
         try:
             for call, *given in ((Thing(),), (lambda it: it, Thing()), (fails,)):
-                stage = self.service.submit(call, *given)
-                stage.exception(20)
-                known = weakref.ref(stage)
-                del call, given, stage
-                self.assertTrue(until(lambda: known() is None))
+                freed_stage = self.service.submit(call, *given)
+                freed_stage.exception(20)
+                watched = weakref.ref(freed_stage)
+                del call, given, freed_stage
+                self.assertTrue(until(lambda: watched() is None))
         finally:
             gc.enable()
 
@@ -74,9 +74,9 @@ class Kept(Case):
             first = freed.first_of(freed.promise(), promise)
             freed.gather(promise, promise.then(thing), first).then(thing).compose(thing)
             return weakref.ref(thing), weakref.ref(freed)
-        known = [make() for _ in range(3)]
+        watched = [make() for _ in range(3)]
         gc.collect()
-        self.assertEqual([it for both in known for it in both if it() is not None], [])
+        self.assertEqual([it for both in watched for it in both if it() is not None], [])
 
 
 class Dropped(unittest.TestCase):
@@ -95,14 +95,14 @@ class Dropped(unittest.TestCase):
         try:
             with Service(1) as dropped:
                 freed, thing = dropped.request(), Thing()
-                stage = freed.supply(lambda it: it,
-                                     thing).then(lambda it: it).compose(lambda it: freed.supply(str)).recover(str)
-                known = weakref.ref(thing)
+                freed_stage = freed.supply(lambda it: it,
+                                           thing).then(lambda it: it).compose(lambda it: freed.supply(str)).recover(str)
+                watched = weakref.ref(thing)
                 del thing
-                stage.result(5)
+                freed_stage.result(5)
                 dropped.shutdown()
-                del freed, stage
-                self.assertIsNone(known())
+                del freed, freed_stage
+                self.assertIsNone(watched())
         finally:
             gc.enable()
 
@@ -119,65 +119,67 @@ class Lifetime(CoreCase):
         super().tearDown()
 
     def test_a_settled_stage_keeps_no_function_arguments_or_callbacks(self):
-        ways = [lambda stage, source: source.complete(1), lambda stage, source: source.fail(OSError()),
-                lambda stage, source: source.cancel(), lambda stage, source: stage.cancel(),
-                lambda stage, source: stage.complete(2), lambda stage, source: stage.or_timeout(0.001)]
+        ways = [lambda freed_stage, source: source.complete(1), lambda freed_stage, source: source.fail(OSError()),
+                lambda freed_stage, source: source.cancel(), lambda freed_stage, source: freed_stage.cancel(),
+                lambda freed_stage, source: freed_stage.complete(2),
+                lambda freed_stage, source: freed_stage.or_timeout(0.001)]
         for number, way in enumerate(ways):
             source, function, callback = self.request.promise(), Thing(), Thing()
-            stage = source.then(function)
-            stage.add_done_callback(callback)
-            known = [weakref.ref(function), weakref.ref(callback)]
+            freed_stage = source.then(function)
+            freed_stage.add_done_callback(callback)
+            watched = [weakref.ref(function), weakref.ref(callback)]
             del function, callback
-            way(stage, source)
-            concurrent.futures.wait([stage], 30)
-            self.released(known, number)
+            way(freed_stage, source)
+            concurrent.futures.wait([freed_stage], 30)
+            self.released(watched, number)
         given, more = Thing(), Thing()
-        known = [weakref.ref(given), weakref.ref(more)]
-        stage = self.request.supply(lambda *_args, **_more: 1, given, more=more)
+        watched = [weakref.ref(given), weakref.ref(more)]
+        freed_stage = self.request.supply(lambda *_args, **_more: 1, given, more=more)
         del given, more
-        self.assertEqual(stage.result(30), 1)
-        self.released(known, "arguments")
+        self.assertEqual(freed_stage.result(30), 1)
+        self.released(watched, "arguments")
 
-    def released(self, known, which):
+    def released(self, watched, which):
         until = time.monotonic() + 10
-        while any(it() is not None for it in known) and time.monotonic() < until:
+        while any(it() is not None for it in watched) and time.monotonic() < until:
             time.sleep(0.001)  # (the thread that ran it lets go of it a moment later)
-        self.assertEqual([it() for it in known], [None] * len(known), which)
+        self.assertEqual([it() for it in watched], [None] * len(watched), which)
 
     def test_a_settled_stage_keeps_no_timer(self):
         value = Thing()
-        known, stage = [weakref.ref(value)], self.request.promise().complete_on_timeout(value, 1000)
+        watched, freed_stage = [weakref.ref(value)], self.request.promise().complete_on_timeout(value, 1000)
         del value
-        stage.complete(1)
-        self.released(known, "value")
+        freed_stage.complete(1)
+        self.released(watched, "value")
 
     def test_cycles_are_collected(self):
         """Through callbacks, arguments, functions, values, exceptions and what a request keeps."""
         def by_callback(freed, thing):
-            stage = freed.promise()
-            stage.add_done_callback(lambda _: (stage, thing))
+            freed_stage = freed.promise()
+            freed_stage.add_done_callback(lambda _: (freed_stage, thing))
 
         def by_value(freed, thing):
-            stage = freed.promise()
-            stage.complete((stage, thing))
+            freed_stage = freed.promise()
+            freed_stage.complete((freed_stage, thing))
 
         def by_error(freed, thing):
-            stage, error = freed.promise(), OSError()
-            error.kept = stage, thing
-            stage.fail(error)
+            freed_stage, error = freed.promise(), OSError()
+            error.kept = freed_stage, thing
+            freed_stage.fail(error)
 
         def by_arguments(freed, thing):
-            stage = freed.promise()
-            kept = [stage, thing]
-            stage.then(functools.partial(print, kept))
+            freed_stage = freed.promise()
+            kept = [freed_stage, thing]
+            freed_stage.then(functools.partial(print, kept))
 
         def by_attribute(freed, thing):
-            stage = freed.promise()
-            stage.itself, stage.thing = stage, thing
+            freed_stage = freed.promise()
+            freed_stage.itself, freed_stage.thing = freed_stage, thing
 
         def by_waiter(freed, thing):
-            stage = freed.promise()
-            stage._waiters.append((stage, thing)), stage._condition.__dict__.update(kept=(stage, thing))
+            freed_stage = freed.promise()
+            freed_stage._waiters.append((freed_stage, thing))
+            freed_stage._condition.__dict__.update(kept=(freed_stage, thing))
 
         def by_flow(freed, thing):
             flow = Flow()
@@ -185,17 +187,17 @@ class Lifetime(CoreCase):
             flow.run()
 
         def by_cancelled(freed, thing):
-            stage = freed.promise()
-            behind = freed.all_of(stage)
-            stage.cancel()
+            freed_stage = freed.promise()
+            behind = freed.all_of(freed_stage)
+            freed_stage.cancel()
             behind.exception(0).kept = behind, thing
         for make in (by_callback, by_value, by_error, by_arguments, by_attribute, by_waiter, by_flow, by_cancelled):
             thing = Thing()
-            known = weakref.ref(thing)
+            watched = weakref.ref(thing)
             make(self.service.request(), thing)
             del thing
             gc.collect()
-            self.assertIsNone(known(), make.__name__)
+            self.assertIsNone(watched(), make.__name__)
 
     def test_long_rows_are_dropped_without_a_stack(self):
         """Each request holds the next, by a callback or a value, in a thread with little stack."""

@@ -53,9 +53,9 @@ class Loops(unittest.TestCase):
             self.assertEqual(await on_loop.supply(slow).complete_on_timeout("late", 0.02), "late")
             with self.assertRaises(TimeoutError):
                 await on_loop.supply(slow).or_timeout(0.02)
-            stage = on_loop.supply(slow)
+            loop_stage = on_loop.supply(slow)
             await asyncio.sleep(0.02)
-            self.assertTrue(stage.abandon())
+            self.assertTrue(loop_stage.abandon())
             await asyncio.sleep(0.02)
             quick = on_loop.supply(str, 1).or_timeout(50)
             self.assertEqual(await quick, "1")
@@ -66,9 +66,9 @@ class Loops(unittest.TestCase):
         async def main():
             on_loop = LoopService(asyncio.get_running_loop()).request()
             for seconds in (math.inf, 1e10, 1e300):
-                promise = on_loop.promise().or_timeout(seconds)
+                loop_promise = on_loop.promise().or_timeout(seconds)
                 self.assertEqual(await on_loop.promise().complete_on_timeout(1, 0.01), 1)
-                self.assertTrue(promise.complete(1))
+                self.assertTrue(loop_promise.complete(1))
             with self.assertRaises(TimeoutError):
                 await on_loop.promise().or_timeout(-1)
             with self.assertRaises(ValueError):
@@ -139,11 +139,11 @@ class Loops(unittest.TestCase):
                 loop = asyncio.new_event_loop()
                 loop.set_exception_handler(lambda *_: None)
                 on_loop = LoopService(loop).request()
-                stage = on_loop.supply(raises)
-                behind = [stage.recover(lambda error: type(error)), stage.recover(lambda _: 2)]
+                loop_stage = on_loop.supply(raises)
+                behind = [loop_stage.recover(lambda error: type(error)), loop_stage.recover(lambda _: 2)]
                 with self.assertRaises(kind):
                     loop.run_until_complete(asyncio.sleep(20))
-                self.assertIsInstance(stage.exception(0), kind)
+                self.assertIsInstance(loop_stage.exception(0), kind)
                 self.assertEqual(loop.run_until_complete(asyncio.wait_for(on_loop.gather(*behind), 20)), [kind, 2])
                 loop.close()
 
@@ -162,9 +162,9 @@ class Loops(unittest.TestCase):
 
     def test_other_threads_complete(self):
         async def main():
-            promise = LoopService(asyncio.get_running_loop()).request().promise()
-            behind = promise.then(inc)
-            threading.Timer(0.02, promise.complete, [1]).start()
+            loop_promise = LoopService(asyncio.get_running_loop()).request().promise()
+            behind = loop_promise.then(inc)
+            threading.Timer(0.02, loop_promise.complete, [1]).start()
             self.assertEqual(await asyncio.wait_for(asyncio.wrap_future(behind), 5), 2)
         asyncio.run(main())
 
@@ -175,20 +175,20 @@ class Loops(unittest.TestCase):
                 self.assertEqual(await asyncio.get_running_loop().run_in_executor(loop_service, str, 2), "2")
                 with self.assertRaises(Oops):
                     await loop_service.submit(fails)
-                task = asyncio.ensure_future(asyncio.wrap_future(promise := loop_service.request().promise()))
+                task = asyncio.ensure_future(asyncio.wrap_future(loop_promise := loop_service.request().promise()))
                 await asyncio.sleep(0)
                 task.cancel()
                 await asyncio.sleep(0.01)
-                self.assertTrue(promise.cancelled())
+                self.assertTrue(loop_promise.cancelled())
         asyncio.run(main())
 
     def test_closed_loop(self):
         loop = asyncio.new_event_loop()
         on_loop = LoopService(loop).request()
-        promise = on_loop.promise()
-        behind = promise.then(inc)
+        loop_promise = on_loop.promise()
+        behind = loop_promise.then(inc)
         loop.close()
-        promise.complete(1)
+        loop_promise.complete(1)
         self.assertIsInstance(behind.exception(5), RuntimeError)
         with self.assertRaises(RuntimeError):
             on_loop.supply(str)

@@ -32,8 +32,8 @@ class Relays(CoreCase):
         self.loop.close()
         super().tearDown()
 
-    def end(self, future, value):
-        (future.complete if isinstance(future, Stage) else future.set_result)(value)
+    def end(self, adopted_future, value):
+        (adopted_future.complete if isinstance(adopted_future, Stage) else adopted_future.set_result)(value)
         self.loop.call_soon(self.loop.stop)
         self.loop.run_forever()
 
@@ -59,10 +59,10 @@ class Relays(CoreCase):
 
         def composed(relaying, stop):
             begun = relaying.promise()
-            stage = begun.compose(lambda _: stop)
+            adopted_stage = begun.compose(lambda _: stop)
             begun.complete(1)
-            concurrent.futures.wait([stage], 0.001)
-            return stage
+            concurrent.futures.wait([adopted_stage], 0.001)
+            return adopted_stage
 
         def adopted(relaying, stop):
             return relaying.adopt(stop)
@@ -160,20 +160,20 @@ class Relays(CoreCase):
         for error, says, cause in ((TimeoutError("x"), "relay times out 0 relay of p of a\n", "timeout"),
                                    (cf.BadAnswer("x"), "relay fails 0 relay of p of a with a bad answer\n",
                                     "badanswer")):
-            stage, b = self.service.request("a").promise("p"), self.service.request("b")
-            relays = [b.adopt(stage)]
-            self.assertTrue(stage.request._change(FAIL_AS, CLIENT, stage, error))
-            relays.append(b.adopt(stage))
+            adopted_stage, b = self.service.request("a").promise("p"), self.service.request("b")
+            relays = [b.adopt(adopted_stage)]
+            self.assertTrue(adopted_stage.request._change(FAIL_AS, CLIENT, adopted_stage, error))
+            relays.append(b.adopt(adopted_stage))
             self.assertTrue(all(relay.exception(0) is error for relay in relays))
             history = b.history()
             self.assertIn(says, str(history))
             self.assertEqual([step for step in json.loads(history.script())["steps"] if step[0] != "attach"],
                              [["failAs", 0, cause], ["failAs", 1, cause]])
             self.fits(b)
-            future, stage = concurrent.futures.Future(), self.service.request("a").promise("p")
-            future.set_exception(error)
-            stage.fail(error)
-            for each in (future, stage):
+            adopted_future, adopted_stage = concurrent.futures.Future(), self.service.request("a").promise("p")
+            adopted_future.set_exception(error)
+            adopted_stage.fail(error)
+            for each in (adopted_future, adopted_stage):
                 relay = self.service.request().adopt(each)
                 self.assertIs(relay.exception(0), error)
                 self.assertIn(f"with {error!r}", str(relay.request.history()))
@@ -218,17 +218,17 @@ class Relays(CoreCase):
         self.assertTrue(late.asked)
 
     def test_a_gather_that_is_refused_adopts_nothing(self):
-        future, service = concurrent.futures.Future(), Service(1)
+        adopted_future, service = concurrent.futures.Future(), Service(1)
         relaying = service.request()
         full = service.request(room=4095)
         for _ in range(4093):
             full.promise()
         with self.assertRaises(RequestFull):
-            full.gather(future, future)
+            full.gather(adopted_future, adopted_future)
         service.shutdown()
         with self.assertRaises(RuntimeError):
-            relaying.gather(future)
-        self.assertEqual((len(relaying._facts()[4]), len(full._facts()[4]), hasattr(future, "_relays")),
+            relaying.gather(adopted_future)
+        self.assertEqual((len(relaying._facts()[4]), len(full._facts()[4]), hasattr(adopted_future, "_relays")),
                          (0, 4093, False))
 
 

@@ -34,23 +34,23 @@ class Shutdown(unittest.TestCase):
     def test_shutdown_does_what_was_handed_in(self):
         ending, done = Service(2), []
         of_ending = ending.request()
-        stages = [of_ending.supply(time.sleep, 0.01).then(done.append) for _ in range(20)]
+        handed_in = [of_ending.supply(time.sleep, 0.01).then(done.append) for _ in range(20)]
         ending.shutdown()
-        self.assertEqual((len(done), all(stage.done() for stage in stages)), (20, True))
-        for attach in (lambda: ending.submit(str), lambda: of_ending.supply(str), lambda: stages[0].then(str),
-                       lambda: stages[0].compose(str)):
+        self.assertEqual((len(done), all(stage.done() for stage in handed_in)), (20, True))
+        for attach in (lambda: ending.submit(str), lambda: of_ending.supply(str), lambda: handed_in[0].then(str),
+                       lambda: handed_in[0].compose(str)):
             with self.assertRaises(RuntimeError):
                 attach()
 
     def test_shutdown_with_cancel(self):
-        ending, begun, goes_on = Service(2), threading.Semaphore(0), threading.Event()
+        ending, begun, lets_end = Service(2), threading.Semaphore(0), threading.Event()
         of_ending = ending.request()
-        running = [of_ending.supply(lambda: begun.release() or goes_on.wait(5)) for _ in range(2)]
+        running = [of_ending.supply(lambda: begun.release() or lets_end.wait(5)) for _ in range(2)]
         begun.acquire(), begun.acquire()
         waiting = [of_ending.supply(str) for _ in range(20)]
         behind = waiting[0].handle(lambda v, e: type(e).__name__)
         ending.shutdown(wait=False, cancel_futures=True)
-        goes_on.set()
+        lets_end.set()
         ending.shutdown()
         self.assertTrue(all(stage.result() for stage in running))
         self.assertTrue(all(stage.cancelled() for stage in waiting))
@@ -58,17 +58,17 @@ class Shutdown(unittest.TestCase):
 
     def test_shutdown_with_cancel_while_a_thread_takes(self):
         """A thread takes the last stage between two looks of who cancels the rest."""
-        ending, goes_on = Service(1), threading.Event()
+        ending, lets_end = Service(1), threading.Event()
 
         class Taken(queue.SimpleQueue):
             def empty(it):
                 was = super().empty()
                 if not was and threading.current_thread() is ends:
-                    goes_on.set()
+                    lets_end.set()
                     until(super().empty)
                 return was
         ending._works._stages = Taken()
-        stages = [ending.submit(goes_on.wait, 20), ending.submit(str)]
+        handed_in = [ending.submit(lets_end.wait, 20), ending.submit(str)]
         ends = threading.Thread(target=ending.shutdown, kwargs={"wait": False, "cancel_futures": True}, daemon=True)
         ends.start()
         ends.join(20)
@@ -76,13 +76,13 @@ class Shutdown(unittest.TestCase):
         if hangs:
             ending._works._stages.put(ending.request().promise())
         self.assertFalse(hangs)
-        goes_on.set()
-        self.assertFalse(concurrent.futures.wait(stages, 20).not_done)
+        lets_end.set()
+        self.assertFalse(concurrent.futures.wait(handed_in, 20).not_done)
 
     def test_shutdowns_at_once(self):
         """Two threads find the service open, and end it."""
-        ending, both, goes_on = Service(1), threading.Barrier(2), threading.Event()
-        running = ending.submit(goes_on.wait, 20)
+        ending, both, lets_end = Service(1), threading.Barrier(2), threading.Event()
+        running = ending.submit(lets_end.wait, 20)
 
         def look(works):
             was = works.__dict__["closed"]
@@ -97,27 +97,27 @@ class Shutdown(unittest.TestCase):
                 thread.start()
             for thread in threads:
                 thread.join(20)
-        goes_on.set()
+        lets_end.set()
         self.assertTrue(running.result(20))
         self.assertTrue(self.ends(ending))
 
     def test_shutdown_with_cancel_goes_on_after_a_callback(self):
-        ending, goes_on = Service(1), threading.Event()
-        running, waiting = ending.submit(goes_on.wait, 20), [ending.submit(str) for _ in range(3)]
+        ending, lets_end = Service(1), threading.Event()
+        running, waiting = ending.submit(lets_end.wait, 20), [ending.submit(str) for _ in range(3)]
         waiting[0].add_done_callback(leaves)
-        threading.Timer(0.05, goes_on.set).start()
+        threading.Timer(0.05, lets_end.set).start()
         with self.assertRaises(SystemExit):
             ending.shutdown(cancel_futures=True)
         self.assertTrue(running.done() and all(stage.cancelled() for stage in waiting))
 
     def test_shutdown_waits_for_a_thread_that_has_not_begun(self):
-        ending, entered, goes_on, stages = Service(1), threading.Event(), threading.Event(), []
+        ending, entered, lets_end, handed_in = Service(1), threading.Event(), threading.Event(), []
 
         def late(thread, start):
             entered.set()
-            goes_on.wait(20)
+            lets_end.wait(20)
             start(thread)
-        submits = threading.Thread(target=lambda: stages.append(ending.submit(time.sleep, 0.1)))
+        submits = threading.Thread(target=lambda: handed_in.append(ending.submit(time.sleep, 0.1)))
         ends = threading.Thread(target=ending.shutdown)
         with starting(late):
             submits.start()
@@ -125,10 +125,10 @@ class Shutdown(unittest.TestCase):
             ends.start()
             ends.join(0.2)
             self.assertTrue(ends.is_alive())
-            goes_on.set()
+            lets_end.set()
             ends.join(20)
         submits.join(20)
-        self.assertTrue(stages[0].done())
+        self.assertTrue(handed_in[0].done())
 
     def test_shutdown_that_fails_to_start_a_thread_ends(self):
         with Service(2) as ending, starting(no_thread):
@@ -162,13 +162,13 @@ class Shutdown(unittest.TestCase):
 
     def test_stages_that_become_ready_behind_the_end_are_run(self):
         """By the thread that still runs; and none is refused."""
-        ending, goes_on = Service(1), threading.Event()
+        ending, lets_end = Service(1), threading.Event()
         promises = [ending.request().promise() for _ in range(5)]
-        ends, running = [promise.then(inc) for promise in promises], ending.submit(goes_on.wait, 20)
+        ends, running = [promise.then(inc) for promise in promises], ending.submit(lets_end.wait, 20)
         ending.shutdown(wait=False)
         for promise in promises:
             promise.complete(1)
-        goes_on.set()
+        lets_end.set()
         self.assertEqual([end.result(20) for end in ends], [2] * 5)
         ending.shutdown()
         self.assertTrue(running.result(0))
@@ -223,20 +223,20 @@ class Initializers(unittest.TestCase):
 
     def test_initializers_that_fail_let_others_end(self):
         initialized, numbers = Service(3, initializer=lambda: init()), iter(range(3))
-        begun, fail, goes_on = threading.Event(), threading.Event(), threading.Event()
+        begun, fail, lets_end = threading.Event(), threading.Event(), threading.Event()
 
         def init():
             if next(numbers):
                 fail.wait(20)
                 fails()
-        running = initialized.submit(lambda: begun.set() or goes_on.wait(20))
+        running = initialized.submit(lambda: begun.set() or lets_end.wait(20))
         self.assertTrue(begun.wait(20))
         with self.assertLogs("concurrent.futures", "CRITICAL"):
-            stages = [initialized.submit(str), initialized.submit(str)]
+            handed_in = [initialized.submit(str), initialized.submit(str)]
             fail.set()
-            for stage in stages:
+            for stage in handed_in:
                 self.assertIsInstance(stage.exception(20), concurrent.futures.BrokenExecutor)
-        goes_on.set()
+        lets_end.set()
         self.assertTrue(running.result(20))
         self.assertTrue(self.ends(initialized))
 
@@ -256,11 +256,11 @@ class Initializers(unittest.TestCase):
         fails_now = threading.Event()
         with self.assertLogs("concurrent.futures", "CRITICAL"):
             initialized = Service(1, initializer=lambda: fails_now.wait(20) and fails())
-            stages = [initialized.submit(str) for _ in range(3)]
-            for stage in stages:
+            handed_in = [initialized.submit(str) for _ in range(3)]
+            for stage in handed_in:
                 stage.add_done_callback(leaves)
             fails_now.set()
-            for stage in stages:
+            for stage in handed_in:
                 self.assertIsInstance(stage.exception(20), concurrent.futures.BrokenExecutor)
             initialized.shutdown()
 

@@ -28,9 +28,9 @@ class Threads(unittest.TestCase):
         with Service(3) as pooled:
             pooled.submit(str).result(20)
             self.idle(pooled, 1)
-            r = pooled.request()
+            on_threads = pooled.request()
             for _ in range(3):
-                promise, gate = r.promise(), threading.Barrier(3)
+                promise, gate = on_threads.promise(), threading.Barrier(3)
                 ends = [promise.then(lambda _: gate.wait(20)) for _ in range(3)]
                 promise.complete(1)
                 self.assertEqual(sorted(end.result(20) for end in ends), [0, 1, 2])
@@ -41,9 +41,9 @@ class Threads(unittest.TestCase):
                 with starting(no_thread):
                     self.assertIn("can't start new thread", str(pooled.submit(str).exception(20)))
                     self.assertIsInstance(pooled.submit(str).exception(20), RuntimeError)
-                r, gate = pooled.request(), threading.Barrier(threads)
-                self.assertEqual(len([end.result(20) for end in [r.supply(gate.wait, 20) for _ in range(threads)]]),
-                                 threads)
+                on_threads, gate = pooled.request(), threading.Barrier(threads)
+                ends = [on_threads.supply(gate.wait, 20) for _ in range(threads)]
+                self.assertEqual(len([end.result(20) for end in ends]), threads)
 
     def test_a_start_of_the_clock_that_fails_is_tried_again(self):
         with Service(1) as pooled:

@@ -53,7 +53,7 @@ class Limits(Case):
         late = [self.request.promise().or_timeout(1000 + k) for k in range(3)]
         time.sleep(0.05)  # (the clock waits for the first of these)
         self.assertEqual(self.request.promise().complete_on_timeout(1, 0.01).result(20), 1)
-        self.assertFalse(any(stage.done() for stage in late))
+        self.assertFalse(any(late_stage.done() for late_stage in late))
 
     def test_slow_functions_hold_up_no_limit(self):
         """What is behind a limit is called by a thread, and not by the clock."""
@@ -74,18 +74,19 @@ class Limits(Case):
 
     def test_what_a_timer_held_may_use_the_clock(self):
         """A value that a timer lets go of is freed where no lock is held."""
-        told = []
+        told_late = []
 
         class Last:
             def __del__(it):
                 limited = self.request.promise
-                asks = threading.Thread(target=lambda: told.append(limited().complete_on_timeout(1, 0.01).result(20)))
+                asks = threading.Thread(
+                    target=lambda: told_late.append(limited().complete_on_timeout(1, 0.01).result(20)))
                 asks.start()
                 asks.join(5)
-                told.append(asks.is_alive())
+                told_late.append(asks.is_alive())
         self.request.promise().complete_on_timeout(Last(), 1000).complete(1)
-        self.assertTrue(until(lambda: len(told) == 2))
-        self.assertEqual(told, [1, False])
+        self.assertTrue(until(lambda: len(told_late) == 2))
+        self.assertEqual(told_late, [1, False])
 
     def test_timer_outlives_all_who_asked(self):
         done = threading.Event()
@@ -111,57 +112,57 @@ class Causes(Case):
         late.or_timeout(0.01)
         self.assertIsInstance(behind.exception(20), TimeoutError)
         self.assertFalse(timed._change(FAIL_AS, CLOCK, late, TimeoutError()))
-        history = timed.history()
+        late_history = timed.history()
         for part in ("clock times out 0 late\n", "0 late ends: timeout\n", "1 inc ends: timeout, passed on\n",
                      "clock times out 0 late, too late"):
-            self.assertIn(part, str(history))
-        script, before = json.loads(history.script()), json.loads(history.script(2))
+            self.assertIn(part, str(late_history))
+        script, before = json.loads(late_history.script()), json.loads(late_history.script(2))
         self.assertEqual((script["cf"], script["steps"]), (3, before["steps"] + [["failAs", 0, "timeout"]] * 2))
-        self.assertEqual((before["cf"], json.loads(history.account())["plan"]["cf"]), (2, 2))
-        self.assertEqual(cf.run_script(history.script()), history.report())
+        self.assertEqual((before["cf"], json.loads(late_history.account())["plan"]["cf"]), (2, 2))
+        self.assertEqual(cf.run_script(late_history.script()), late_history.report())
 
     def test_a_bad_answer_is_told_as_one(self):
         timed, bad = self.service.request("r"), cf.BadAnswer("x")
-        stage = timed.promise("p")
-        self.assertTrue(timed._change(FAIL_AS, CLIENT, stage, bad))
-        self.assertIs(stage.then(inc).exception(20), bad)
-        history = timed.history()
+        late_stage = timed.promise("p")
+        self.assertTrue(timed._change(FAIL_AS, CLIENT, late_stage, bad))
+        self.assertIs(late_stage.then(inc).exception(20), bad)
+        late_history = timed.history()
         for part in ("caller fails 0 p with a bad answer\n", "0 p ends: a bad answer\n"):
-            self.assertIn(part, str(history))
-        self.assertIn('["failAs", 0, "badanswer"]', history.script())
-        self.assertEqual(cf.run_script(history.script()), history.report())
+            self.assertIn(part, str(late_history))
+        self.assertIn('["failAs", 0, "badanswer"]', late_history.script())
+        self.assertEqual(cf.run_script(late_history.script()), late_history.report())
 
     def test_the_exception_of_a_timeout(self):
         """All that stand behind a stage which timed out have its exception, whenever they are told."""
-        timed, told = self.request, []
+        timed, told_late = self.request, []
         late, slow = timed.promise("late"), timed.promise("slow")
         behind_late = [late.then(inc), late.either(slow, inc), timed.first_of(slow, late),
                        late.when_done(lambda *_: None), late.combine(slow, max), slow.combine(late, max),
                        timed.all_of(slow, late), timed.gather(slow, late),
                        timed.supply(str).compose(lambda _: late), self.service.request("other").adopt(late),
                        self.service.request("other").supply(str).compose(lambda _: late)]
-        calls = [late.recover(told.append), late.handle(lambda _, error: told.append(error)),
-                 late.recover_compose(lambda error: [told.append(error), slow][1])]
+        calls = [late.recover(told_late.append), late.handle(lambda _, error: told_late.append(error)),
+                 late.recover_compose(lambda error: [told_late.append(error), slow][1])]
         error = late.or_timeout(0.01).exception(20)
         self.assertTrue(slow.complete(1))
         behind_late += [late.then(inc), late.then(inc).then(inc), timed.all_of(slow, late),
                         timed.supply(str).compose(lambda _: late), late.when_done(lambda *_: None)]
-        calls += [late.then(inc).recover(told.append)]
-        self.assertEqual([stage.exception(20) for stage in behind_late], [error] * len(behind_late))
+        calls += [late.then(inc).recover(told_late.append)]
+        self.assertEqual([late_stage.exception(20) for late_stage in behind_late], [error] * len(behind_late))
         concurrent.futures.wait(calls, 20)
-        self.assertEqual(told, [error] * 4)
+        self.assertEqual(told_late, [error] * 4)
 
     def test_the_exception_of_a_timeout_in_a_flow(self):
         """Stages of any number of sources have that of the first which ended so."""
         flow = Flow()
         promises = [flow.promise() for _ in range(5)]
-        after, told = flow.all_of(*promises), flow.first_of(*promises[3:]).recover(lambda error: error)
+        after, told_late = flow.all_of(*promises), flow.first_of(*promises[3:]).recover(lambda error: error)
         timed = self.service.start(flow)
         errors = [timed[step].or_timeout(0.01).exception(20) for step in promises[3:]]
         for step in promises[:3]:
             self.assertTrue(timed[step].complete(1))
         self.assertIs(timed[after].exception(20), errors[0])
-        self.assertIs(timed[told].result(20), errors[0])
+        self.assertIs(timed[told_late].result(20), errors[0])
 
     def test_two_timeouts_and_a_stage_that_nobody_runs(self):
         """What fails as nobody runs it, behind the second that times out, lets a stage have the exception of the
@@ -171,8 +172,8 @@ class Causes(Case):
         both = timed.all_of(first, second.recover(str))
         service.shutdown()
         errors = TimeoutError("first"), TimeoutError("second")
-        for stage, error in zip((first, second), errors):
-            self.assertTrue(timed._change(FAIL_AS, CLOCK, stage, error))
+        for late_stage, error in zip((first, second), errors):
+            self.assertTrue(timed._change(FAIL_AS, CLOCK, late_stage, error))
         self.assertIs(both.exception(20), errors[0])
 
 

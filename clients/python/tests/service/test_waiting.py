@@ -31,8 +31,8 @@ class Waiting(Case):
             awaited = [self.service.request().promise() for _ in range(3)]
             asks = [lambda: awaited[0].result(10), lambda: concurrent.futures.wait(awaited, 10).not_done,
                     lambda: list(concurrent.futures.as_completed(awaited, 10)), lambda: heard.wait(10)]
-            heard, told = threading.Event(), []
-            waiters = [threading.Thread(target=lambda ask=ask: told.append(ask())) for ask in asks]
+            heard, woken = threading.Event(), []
+            waiters = [threading.Thread(target=lambda ask=ask: woken.append(ask())) for ask in asks]
             for waiter in waiters:
                 waiter.start()
             awaited[0].add_done_callback(lambda _: heard.set())
@@ -40,8 +40,8 @@ class Waiting(Case):
                 awaited.complete(None)
             for waiter in waiters:
                 waiter.join(20)
-            self.assertEqual(len(told), 4)
-            self.assertIn(set(), told)
+            self.assertEqual(len(woken), 4)
+            self.assertIn(set(), woken)
 
     def test_all_of_waits_for_all(self):
         for _ in range(200):

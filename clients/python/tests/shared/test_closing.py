@@ -22,9 +22,9 @@ from cf.shared.request import DurableRequest
 class Closing(Case):
     def test_what_is_over_is_closed(self):
         """A process is gone between a flow's last word and its closing, or with a claim: another closes the request."""
-        service = self.service(takes_all=True)
-        service._lease = 0.5
-        service._watcher._seconds = 0.5
+        closing_service = self.service(takes_all=True)
+        closing_service._lease = 0.5
+        closing_service._watcher._seconds = 0.5
         flow = Flow("two")
         one, two = flow.promise("one"), flow.supply(f.nothing)
         store = connect(self.address)
@@ -39,11 +39,11 @@ class Closing(Case):
 
     def test_a_word_that_comes_as_its_request_is_closed(self):
         """One thread reads the word of a stage while another finds that all are settled: the request isn't closed."""
-        service = self.service(takes_all=True)
+        closing_service = self.service(takes_all=True)
         flow = Flow("one")
         flow.promise()
-        reopened = service.start(flow, 1, name="r")
-        self.until(lambda: not service.store.ends())
+        reopened = closing_service.start(flow, 1, name="r")
+        self.until(lambda: not closing_service.store.ends())
         closers = []
 
         def close():
@@ -66,17 +66,17 @@ class Closing(Case):
     def test_a_request_that_goes_on_as_it_is_let_go(self):
         """Who attaches to a closed request opens it again, and nobody forgets it who has seen it closed before."""
         store = Memory()
-        service = DurableService(store, 1, functions=f.functions, lease=1)
-        self.services.append(service)
+        closing_service = DurableService(store, 1, functions=f.functions, lease=1)
+        self.services.append(closing_service)
         flow = Flow("order")
         step = flow.promise("p")
-        reopened = service.start(flow, 1, name="r")
+        reopened = closing_service.start(flow, 1, name="r")
         self.until(lambda: "r" not in store.ends())
         kept = reopened.kept
         late = reopened.promise("late").or_timeout(0.3)
         self.assertIn("r", store.ends())
-        service._let_go(reopened, kept)
-        self.assertIs(service._requests.get("r"), reopened)
+        closing_service._let_go(reopened, kept)
+        self.assertIs(closing_service._requests.get("r"), reopened)
         self.assertIsInstance(late.exception(20), TimeoutError)
         self.assertEqual(reopened[step].result(5), 1)
 
@@ -115,10 +115,10 @@ class Closing(Case):
                 super().reopen(name, number)
         store, flow = Away(), Flow("order")
         flow.promise("p")
-        service = DurableService(store, 1, functions=f.functions, lease=0.5)
-        self.services.append(service)
+        closing_service = DurableService(store, 1, functions=f.functions, lease=0.5)
+        self.services.append(closing_service)
         with unittest.mock.patch.object(shared_service, "PATIENCE", 0):
-            reopened = service.start(flow, 1, name="r")
+            reopened = closing_service.start(flow, 1, name="r")
             self.until(lambda: "r" not in store.ends())
             store.left = 2
             with self.assertRaises(Unknown):
@@ -130,13 +130,13 @@ class Closing(Case):
 class NamesUsedAgain(Case):
     def test_a_name_that_is_used_again(self):
         """Who has a request that was dropped is told so, and another of its name is worked on."""
-        for service, name in self.each():
-            worker = DurableService(service.store, 1, functions=f.functions, takes_all=True, lease=1)
-            old = service.request(name)
+        for closing_service, name in self.each():
+            worker = DurableService(closing_service.store, 1, functions=f.functions, takes_all=True, lease=1)
+            old = closing_service.request(name)
             stage = old.promise("p")
             self.until(lambda: name in worker._requests)
-            service.store.drop(name)
-            new = service.request(name)
+            closing_service.store.drop(name)
+            new = closing_service.request(name)
             self.assertIsInstance(stage.exception(5), Broken)
             with self.assertRaises(Broken) as told:
                 old.promise()
@@ -144,22 +144,23 @@ class NamesUsedAgain(Case):
             self.assertEqual(new.seen, 0)
             self.assertEqual(worker.open(name).supply(f.inc, 1).result(20), 2)
             self.assertEqual(new[0].result(20), 2)
-            self.assertNotIn(name, {**service.broken, **worker.broken})
+            self.assertNotIn(name, {**closing_service.broken, **worker.broken})
             worker._stops.set()
             worker._pump.join()
 
     def test_what_is_late_for_a_name_that_is_used_again(self):
         """A timer that was due, and a look-up, of a request that was dropped meanwhile do nothing to the next one of
         its name."""
-        service = DurableService(Memory(), 0, functions=f.functions)
-        self.services.append(service)
-        first = service.request("r")
+        closing_service = DurableService(Memory(), 0, functions=f.functions)
+        self.services.append(closing_service)
+        first = closing_service.request("r")
         first.promise().complete(1)
-        found, timer = service.store.find("r"), Timer("r", 0, 0, b"V2", first._view.opened.number)
-        service.store.drop("r")
-        stage = service.request("r").promise()
-        service._fire(timer)
-        kept = service._kept(DurableRequest(service, RowView(service.store, found, service.session)))
+        found, timer = closing_service.store.find("r"), Timer("r", 0, 0, b"V2", first._view.opened.number)
+        closing_service.store.drop("r")
+        stage = closing_service.request("r").promise()
+        closing_service._fire(timer)
+        view = RowView(closing_service.store, found, closing_service.session)
+        kept = closing_service._kept(DurableRequest(closing_service, view))
         self.assertIs(kept, stage.request)
         self.assertFalse(stage.done())
         self.assertTrue(stage.complete(3))

@@ -23,11 +23,11 @@ class Codecs(Case):
                 return set(read["set"]) if isinstance(read, dict) and "set" in read else read
         functions = Functions()
         more = functions.function("more")(lambda them: them | {3})
-        service = DurableService(connect(self.address), 1, functions=functions, codec=Sets())
-        self.services.append(service)
-        promise = service.request("r").promise()
-        promise.complete({1, 2})
-        self.assertEqual(promise.then(more).result(20), {1, 2, 3})
+        coding_service = DurableService(connect(self.address), 1, functions=functions, codec=Sets())
+        self.services.append(coding_service)
+        coded_promise = coding_service.request("r").promise()
+        coded_promise.complete({1, 2})
+        self.assertEqual(coded_promise.then(more).result(20), {1, 2, 3})
 
     def test_a_codec_that_ends(self):
         """Whatever a codec raises, its stage is shown, and no claim is left."""
@@ -42,12 +42,12 @@ class Codecs(Case):
         def fails():
             raise KeyError(1)
         fails = functions.function("fails")(fails)
-        service = DurableService(Memory(), 1, functions=functions, codec=Ends())
-        self.services.append(service)
-        coded = service.request("r")
-        promise = coded.promise()
-        promise.complete("unread")
-        self.assertIsInstance(promise.exception(5), Broken)
+        coding_service = DurableService(Memory(), 1, functions=functions, codec=Ends())
+        self.services.append(coding_service)
+        coded = coding_service.request("r")
+        coded_promise = coded.promise()
+        coded_promise.complete("unread")
+        self.assertIsInstance(coded_promise.exception(5), Broken)
         error = coded.supply(fails).exception(20)
         self.assertIn("it can't be written", str(error))
         self.assertFalse(coded._view.claims)
@@ -75,9 +75,9 @@ class Codecs(Case):
         def odd(k):
             raise given[k]
         half = functions.function("half")(lambda: "\ud800")
-        service = DurableService(connect(self.address), 2, functions=functions)
-        self.services.append(service)
-        coded = service.request("r")
+        coding_service = DurableService(connect(self.address), 2, functions=functions)
+        self.services.append(coding_service)
+        coded = coding_service.request("r")
         told = [coded.supply(odd, k).exception(20) for k in range(4)]
         self.assertEqual([type(it) for it in told], [RemoteError, FileNotFoundError, RecursionError, SystemExit])
         self.assertEqual(told[1].filename, "\udcff")

@@ -30,10 +30,11 @@ class DurableTimeouts(Case):
             slow.complete(1)
             fails += [late.then(f.inc), timed.all_of(slow, late), late.when_done(f.nothing)]
             texts += [late.recover(f.text), fails[0].recover(f.text)]
-            for stage in fails:
-                self.assertEqual((type(stage.exception(20)), str(stage.exception())),
+            for timed_stage in fails:
+                self.assertEqual((type(timed_stage.exception(20)), str(timed_stage.exception())),
                                  (TimeoutError, "late took longer than 0.05 s"))
-            self.assertEqual([stage.result(20) for stage in texts], ["sorry, late took longer than 0.05 s"] * 3)
+            self.assertEqual([timed_stage.result(20) for timed_stage in texts],
+                             ["sorry, late took longer than 0.05 s"] * 3)
             history = timed.history()
             for part in (" times out 0 late\n", "0 late ends: timeout\n", " ends: timeout, passed on\n"):
                 self.assertIn(part, str(history))
@@ -57,8 +58,8 @@ class DurableTimeouts(Case):
                 self.until(lambda: any(it["name"] == "late" for it in
                                        map(timed._view.said, range(len(timed._view.forms)))))
                 self.assertTrue(timed._settle(FAIL_AS, timed["late"].number, given, failure=failure))
-                for stage in (timed["late"], composed, composed.then(f.inc)):
-                    self.assertEqual((type(stage.exception(20)), str(stage.exception())), (kind, text))
+                for timed_stage in (timed["late"], composed, composed.then(f.inc)):
+                    self.assertEqual((type(timed_stage.exception(20)), str(timed_stage.exception())), (kind, text))
                 self.assertEqual([word >> 32 & 0xF for word in timed._view.words if word >> 56 == FAIL_AS],
                                  [failure - TIMED_OUT] * 2)
 
@@ -82,17 +83,17 @@ class DurableTimeouts(Case):
     def test_rows_and_timers_of_before(self):
         """A time-out was a failing with an exception, and may stand so in a row. A timer that was set then lets the
         stage time out."""
-        store = Memory()
-        view = RowView(store, store.open("r", EMPTY), new_session())
+        timed_store = Memory()
+        view = RowView(timed_store, timed_store.open("r", EMPTY), new_session())
         given, limited = Json().write_error(TimeoutError("p took longer than 1 s")), b'{"name":"p"}'
         view.act(lambda view: [(ATTACH << 56 | view.who << 48, limited)] * 2 +
                  [(FAIL << 56 | view.who << 48 | view.place + 2, given)])
-        store.set_timer(Timer("r", 1, 0.0, b"E" + given))
-        service = DurableService(store, 1, functions=f.functions)
+        timed_store.set_timer(Timer("r", 1, 0.0, b"E" + given))
+        service = DurableService(timed_store, 1, functions=f.functions)
         self.services.append(service)
         timed = service.open("r")
-        for stage in (timed[0], timed[1], timed[0].then(f.inc), timed[1].then(f.inc)):
-            self.assertEqual((type(stage.exception(20)), str(stage.exception())),
+        for timed_stage in (timed[0], timed[1], timed[0].then(f.inc), timed[1].then(f.inc)):
+            self.assertEqual((type(timed_stage.exception(20)), str(timed_stage.exception())),
                              (TimeoutError, "p took longer than 1 s"))
         self.assertIn("fails 0 p with TimeoutError('p took longer than 1 s')\n", str(timed.history()))
         self.assertIn(" times out 1 p\n", str(timed.history()))
@@ -108,18 +109,18 @@ class DurableTimeouts(Case):
                     raise Unknown("away")
                 return super().append_groups(puts)
 
-            def drop_timer(self, request, stage, number=0):
+            def drop_timer(self, request, timed_stage, number=0):
                 dropped.append(self.left)
-                super().drop_timer(request, stage, number)
-        store, dropped = Away(), []
+                super().drop_timer(request, timed_stage, number)
+        timed_store, dropped = Away(), []
         with unittest.mock.patch.object(shared_service, "PATIENCE", 0):
-            service = DurableService(store, 1, functions=f.functions, lease=5)
+            service = DurableService(timed_store, 1, functions=f.functions, lease=5)
             self.services.append(service)
             limited = service.request("r").promise()
             with self.assertLogs("cf.shared", "WARNING"):
-                store.left = 3
+                timed_store.left = 3
                 self.assertIsInstance(limited.or_timeout(0.01).exception(20), TimeoutError)
-            self.until(lambda: not store._timers)
+            self.until(lambda: not timed_store._timers)
             self.assertEqual(dropped, [-1])
 
 

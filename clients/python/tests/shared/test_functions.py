@@ -13,22 +13,22 @@ from cf.shared import connect, DurableService, Functions, Memory, StoreError
 
 class NamedFunctions(Case):
     def test_rules(self):
-        service = self.service()
-        by_name = service.request("r")
+        naming = self.service()
+        by_name = naming.request("r")
         with self.assertRaises(TypeError):
             by_name.supply(len, [])
         flow = Flow()
         flow.promise().compose(f.inc)
         with self.assertRaises(TypeError):
-            service.start(flow)
+            naming.start(flow)
         with self.assertRaises(TypeError):
             by_name.promise().complete(object())
         with self.assertRaises(TypeError):
             by_name.supply(f.load, object())
         with self.assertRaises(KeyError):
-            service.open("nobody")
+            naming.open("nobody")
         with self.assertRaises(ValueError):
-            service.function("inc")(lambda x: x)
+            naming.function("inc")(lambda x: x)
         with self.assertRaises(StoreError):
             self.service("memory://").function("x", transactional=True)
         for lease in (0, -1, float("inf"), float("nan")):
@@ -40,9 +40,9 @@ class NamedFunctions(Case):
             other.add(f.functions)
         self.assertIn("inc, version 1, is another function already", str(told.exception))
         self.assertIsInstance(Service(store=connect("memory://")), DurableService)
-        service.shutdown()
+        naming.shutdown()
         with self.assertRaises(RuntimeError):
-            service.request("s")
+            naming.request("s")
 
     def test_versions(self):
         """A request goes on with the version of a function that it was begun with, beside a newer one."""

@@ -43,7 +43,7 @@ class Outages(Case):
                     with self.assertLogs("cf.shared", "WARNING"):
                         works = DurableService(failing_store, 2, functions=functions, takes_all=True, lease=1)
                         asks._lease = works._lease = 1
-                        self.assertEqual([stage.result(20) for stage in stages], [None] * 3)
+                        self.assertEqual([outlasting_stage.result(20) for outlasting_stage in stages], [None] * 3)
                         shared_service.LOGGER.warning("at least one")
                     self.assertEqual(sorted(ran), [0, 1, 2])
                     self.assertEqual(failing_store.left, 0)
@@ -75,10 +75,10 @@ class Outages(Case):
         outlasting = service.request("r")
         for fails in (False, True):
             with self.assertLogs("cf.shared", "WARNING") as logs:
-                stage = outlasting.supply(function, 17, fails)
+                outlasting_stage = outlasting.supply(function, 17, fails)
                 self.until(lambda: len(refused) > 1)  # what it came to, and that it was refused
                 failing_store.is_shut = False
-                self.assertEqual(repr(stage.exception(20)) if fails else stage.result(20),
+                self.assertEqual(repr(outlasting_stage.exception(20)) if fails else outlasting_stage.result(20),
                                  "KeyError(17)" if fails else 17)
             self.assertIn("nothing can be put: it can only be read", "".join(logs.output))
             refused.clear()
@@ -105,12 +105,12 @@ class Outages(Case):
                 service = DurableService(connect(address), 1, functions=functions, lease=1)
                 self.services.append(service)
                 try:
-                    stage = service.request(self.name).supply(shut)
+                    outlasting_stage = service.request(self.name).supply(shut)
                     time.sleep(2)
                 finally:
                     cursor.execute("alter system reset default_transaction_read_only")
                     cursor.execute("select pg_reload_conf()")
-                self.assertEqual(stage.result(30), "done")
+                self.assertEqual(outlasting_stage.result(30), "done")
                 cursor.execute("create table if not exists one (k int unique deferrable initially deferred)")
                 twice = service.function("twice",
                                          transactional=True)(lambda it: it.execute("insert into one values (1), (1)"))
@@ -129,8 +129,8 @@ class Outages(Case):
         service = DurableService(Small(), 2, functions=functions)
         self.services.append(service)
         outlasting = service.request("r")
-        stage = outlasting.supply(large)
-        self.assertIn("it is too large", str(stage.exception(20)))
+        outlasting_stage = outlasting.supply(large)
+        self.assertIn("it is too large", str(outlasting_stage.exception(20)))
         self.assertEqual(len(ran), 1)
 
         def raises():
@@ -195,15 +195,15 @@ class Outages(Case):
         with unittest.mock.patch.object(shared_service, "PATIENCE", 0), self.assertLogs("cf.shared", "WARNING"):
             works = DurableService(failing_store, 1, functions=f.functions, lease=0.5)
             self.services.append(works)
-            stage = works.open("r")
-            stage._view.said(0)
+            outlasting_stage = works.open("r")
+            outlasting_stage._view.said(0)
             failing_store.left = 2
-            self.assertEqual(stage[0].result(20), 1)
+            self.assertEqual(outlasting_stage[0].result(20), 1)
             behind = asks.open("r")[0].then(f.inc)
-            stage._catch_up()
-            stage._view.said(1)
+            outlasting_stage._catch_up()
+            outlasting_stage._view.said(1)
             failing_store.left = 1
-            works._serve(stage)
+            works._serve(outlasting_stage)
             self.assertEqual(behind.result(20), 2)
             shared_service.LOGGER.warning("at least one")
 

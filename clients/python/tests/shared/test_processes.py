@@ -22,14 +22,14 @@ class Processes(Case):
 
     def test_a_request_goes_on_elsewhere(self):
         """Begun here, worked on by two processes, and resumed by a third service."""
-        service = self.service()
-        service._workers = 0  # it only asks
+        asking = self.service()
+        asking._workers = 0  # it only asks
         worker = [self.worker() for _ in range(2)]
-        elsewhere = service.request("r")
+        elsewhere = asking.request("r")
         stages = [elsewhere.supply(f.slow, 0.01) for _ in range(12)]
-        pids = {stage.result(30) for stage in stages}
+        pids = {stage_elsewhere.result(30) for stage_elsewhere in stages}
         self.assertTrue(pids <= {it.pid for it in worker}, pids)
-        self.until(lambda: len(service.store.beats()) == 3)
+        self.until(lambda: len(asking.store.beats()) == 3)
         for process in worker:
             process.send_signal(signal.SIGTERM)
             self.assertEqual(process.wait(10), 0, process.stderr.read())
@@ -37,9 +37,9 @@ class Processes(Case):
     def test_resume(self):
         first = self.service()
         first._workers = 0
-        stage = first.request("r").supply(f.load, 5).then(f.number)
+        stage_elsewhere = first.request("r").supply(f.load, 5).then(f.number)
         time.sleep(0.2)
-        self.assertFalse(stage.done())
+        self.assertFalse(stage_elsewhere.done())
         first.shutdown()
         second = self.service()
         self.assertEqual([elsewhere.name for elsewhere in second.resume()], ["r"])
@@ -51,49 +51,49 @@ class Processes(Case):
                 "s.request('r').promise('p').or_timeout(0.5); os._exit(0)")
         paths = [str(HERE)] + ([] if os.environ.get("CF_INSTALLED") else [str(CLIENT)])
         subprocess.run([sys.executable, "-c", code % (paths, self.address)], check=True, timeout=60)
-        service = self.service()
-        service.resume()
-        self.assertIsInstance(service.open("r")["p"].exception(20), TimeoutError)
+        asking = self.service()
+        asking.resume()
+        self.assertIsInstance(asking.open("r")["p"].exception(20), TimeoutError)
 
-    def killed(self, stage, path, ready=lambda: True):
+    def killed(self, stage_elsewhere, path, ready=lambda: True):
         """Kills the worker that runs a stage, once it has left its mark, and starts another."""
         worker = self.worker()
         self.until(lambda: os.path.exists(path) and os.path.getsize(path) and ready())
         worker.kill()
         worker.wait()
         self.worker()
-        return stage
+        return stage_elsewhere
 
     def test_once(self):
-        service, path = self.service(), f"{self.folder.name}/mark"
-        service._workers = 0
-        stage = self.killed(service.request("r").supply(f.mark, path, 30), path)
-        self.assertIsInstance(stage.exception(30), Abandoned)
-        self.assertIn("may have run", str(stage.exception()))
+        asking, path = self.service(), f"{self.folder.name}/mark"
+        asking._workers = 0
+        stage_elsewhere = self.killed(asking.request("r").supply(f.mark, path, 30), path)
+        self.assertIsInstance(stage_elsewhere.exception(30), Abandoned)
+        self.assertIn("may have run", str(stage_elsewhere.exception()))
         self.assertEqual(len(Path(path).read_text().split()), 1)
 
     def test_what_was_composed_goes_on_elsewhere(self):
         """The process is killed that composed and ran what came of it: another one sees the end of it."""
-        service, path = self.service(), f"{self.folder.name}/mark"
-        service._workers = 0
-        elsewhere = service.request("r")
+        asking, path = self.service(), f"{self.folder.name}/mark"
+        asking._workers = 0
+        elsewhere = asking.request("r")
         order = elsewhere.promise()
-        stage = order.compose(f.marking)
+        stage_elsewhere = order.compose(f.marking)
         order.complete(path)
         self.assertIn("sorry, the worker that ran mark is gone",
-                      self.killed(stage, path, lambda: elsewhere._view.links).result(30))
+                      self.killed(stage_elsewhere, path, lambda: elsewhere._view.links).result(30))
 
     def test_again(self):
-        service, path = self.service(), f"{self.folder.name}/mark"
-        service._workers = 0
+        asking, path = self.service(), f"{self.folder.name}/mark"
+        asking._workers = 0
         flow = Flow("job")
         last = flow.supply(f.mark, path, 1.5).again(2)
-        elsewhere = service.start(flow, name="r")
+        elsewhere = asking.start(flow, name="r")
         self.assertEqual(self.killed(elsewhere[last], path).result(30), "marked")
         self.assertEqual(len(Path(path).read_text().split()), 2)
         self.assertIn("mark again", str(elsewhere.history()))
         self.assertEqual(elsewhere[0].exception().__class__, Abandoned)
-        self.until(lambda: "r" not in service.store.ends())
+        self.until(lambda: "r" not in asking.store.ends())
 
 
 if __name__ == "__main__":

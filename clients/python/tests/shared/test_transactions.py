@@ -31,7 +31,7 @@ class Effects(Memory):
 
     @contextlib.contextmanager
     def transaction(self):
-        store, put, done = self, [], []
+        paid_store, put, done = self, [], []
 
         class Open:
             connection = done
@@ -40,12 +40,12 @@ class Effects(Memory):
             @staticmethod
             def append(its):
                 put.append(its)
-                return len(store.read(its.request)) == its.at
+                return len(paid_store.read(its.request)) == its.at
 
             @staticmethod
             def commit():
-                store.append(put[0])
-                store.effects.extend(done)
+                paid_store.append(put[0])
+                paid_store.effects.extend(done)
         yield Open
 
 
@@ -67,15 +67,15 @@ class Transactions(Case):
     def test_what_follows_a_transaction(self):
         """A stage behind a transactional function, and a callback that puts: both come once its transaction has
         ended."""
-        for service, name, address in self.transactional():
-            same = service.function(name, transactional=True)(lambda connection, x: x)
+        for paying, name, address in self.transactional():
+            same = paying.function(name, transactional=True)(lambda connection, x: x)
             flow = Flow("order")
             first = flow.promise()
             paid = first.then(same)
             last = paid.then(f.inc)
-            transacting, heard = service.start(flow, name=name), []
+            transacting, heard = paying.start(flow, name=name), []
             transacting[paid].add_done_callback(
-                lambda _: heard.append(service.request(f"{name} mail").promise("sent").number))
+                lambda _: heard.append(paying.request(f"{name} mail").promise("sent").number))
             transacting[first].complete(1)
             self.assertEqual(transacting[last].result(20), 2)
             self.until(lambda: heard)
@@ -85,17 +85,17 @@ class Transactions(Case):
         """Another thread puts to the request while its transactional function runs: neither waits for the other's
         lock."""
         self.impatient()
-        for service, name, _ in self.transactional():
-            begun, transacting = threading.Event(), service.request(name)
+        for paying, name, _ in self.transactional():
+            begun, transacting = threading.Event(), paying.request(name)
 
             def slow(connection, x):
                 begun.set()
                 time.sleep(0.3)
                 return x
-            slow = service.function(name, transactional=True)(slow)
-            stage, other, gate = transacting.promise(), transacting.promise(), transacting.promise()
-            behind = stage.then(slow)
-            stage.complete(1)
+            slow = paying.function(name, transactional=True)(slow)
+            paid_stage, other, gate = transacting.promise(), transacting.promise(), transacting.promise()
+            behind = paid_stage.then(slow)
+            paid_stage.complete(1)
             self.assertTrue(begun.wait(20))
             told = []
             threads = [threading.Thread(target=lambda it=it: told.append(it.complete(2)), daemon=True)
@@ -113,13 +113,13 @@ class Transactions(Case):
         self.impatient()
         for groups in (False, True):
             with self.subTest(groups=groups):
-                service, other = self.service(groups=groups), self.service()
-                transacting = service.request(self.name)
-                puts = [lambda: transacting.promise(), lambda: service.request(f"{self.name} another").promise(),
+                paying, other = self.service(groups=groups), self.service()
+                transacting = paying.request(self.name)
+                puts = [lambda: transacting.promise(), lambda: paying.request(f"{self.name} another").promise(),
                         lambda: other.request(self.name).promise()]
-                puts = puts + [service.request("there").promise] if groups else puts
-                function = service.function(f"puts {groups}",
-                                            transactional=True)(lambda connection, k: puts[k]().number)
+                puts = puts + [paying.request("there").promise] if groups else puts
+                function = paying.function(f"puts {groups}",
+                                           transactional=True)(lambda connection, k: puts[k]().number)
                 for k in range(len(puts)):
                     error = transacting.supply(function, k).exception(20)
                     self.assertIn("transactional function", str(error))
@@ -127,10 +127,10 @@ class Transactions(Case):
 
     def test_what_a_transactional_function_does_to_its_connection(self):
         """Whatever it is, its stage ends and others can put."""
-        service = self.service()
-        transacting, acts = service.request(self.name), [lambda db: db.close(), lambda db: db.execute("no statement"),
-                                                         lambda db: db.rollback()]
-        function = service.function("acts", transactional=True)(lambda connection, k: acts[k](connection))
+        paying = self.service()
+        transacting, acts = paying.request(self.name), [lambda db: db.close(), lambda db: db.execute("no statement"),
+                                                        lambda db: db.rollback()]
+        function = paying.function("acts", transactional=True)(lambda connection, k: acts[k](connection))
         for k in range(len(acts)):
             self.assertTrue(transacting.supply(function, k).exception(20) is not None or k == 2)
         self.assertEqual(self.service().request(f"{self.name} 2").supply(f.inc, 1).result(20), 2)
@@ -140,8 +140,8 @@ class Transactions(Case):
         effect stands."""
         for meanwhile in (False, True):
             with self.subTest(meanwhile=meanwhile):
-                store, functions, called = Effects(), Functions(), []
-                other, real = DurableService(store, 0), store.transaction
+                paid_store, functions, called = Effects(), Functions(), []
+                other, real = DurableService(paid_store, 0), paid_store.transaction
 
                 def settle():
                     if not called or meanwhile:
@@ -160,31 +160,31 @@ class Transactions(Case):
                     if meanwhile:
                         settle()
                     assert len(called) < 5
-                store.transaction = transaction
-                service = DurableService(store, 1, functions=functions)
-                pay = service.function("pay", transactional=True)(pay)
-                transacting = service.request("r")
+                paid_store.transaction = transaction
+                paying = DurableService(paid_store, 1, functions=functions)
+                pay = paying.function("pay", transactional=True)(pay)
+                transacting = paying.request("r")
                 self.assertIsInstance(transacting.supply(pay).exception(20), KeyError)
                 self.until(lambda: not transacting._view.claims)
-                self.assertEqual((store.effects, len(called)), ([], int(meanwhile)))
-                service.shutdown(), other.shutdown()
+                self.assertEqual((paid_store.effects, len(called)), ([], int(meanwhile)))
+                paying.shutdown(), other.shutdown()
 
     def test_a_place_that_a_transaction_loses(self):
         """Its effect is undone and done again, and stands once."""
-        store, functions, called = Effects(), Functions(), []
-        other = DurableService(store, 0)
+        paid_store, functions, called = Effects(), Functions(), []
+        other = DurableService(paid_store, 0)
 
         def pay(connection):
             called.append(1)
             connection.append("paid")
             if len(called) == 1:
                 other.open("r").promise()
-        service = DurableService(store, 1, functions=functions)
-        pay = service.function("pay", transactional=True)(pay)
-        transacting = service.request("r")
+        paying = DurableService(paid_store, 1, functions=functions)
+        pay = paying.function("pay", transactional=True)(pay)
+        transacting = paying.request("r")
         self.assertIsNone(transacting.supply(pay).result(20))
-        self.assertEqual((store.effects, len(called)), (["paid"], 2))
-        service.shutdown(), other.shutdown()
+        self.assertEqual((paid_store.effects, len(called)), (["paid"], 2))
+        paying.shutdown(), other.shutdown()
 
 
 class KilledTransactions(Case):
@@ -192,22 +192,22 @@ class KilledTransactions(Case):
 
     def test_in_the_engines_transaction(self):
         """A worker dies between the effect and the finish: the effect is undone, and the next try does it, once."""
-        service, path = self.service(), f"{self.folder.name}/db"
-        service._workers = 0
+        paying, path = self.service(), f"{self.folder.name}/db"
+        paying._workers = 0
         db = sqlite3.connect(path, isolation_level=None)
         db.execute("create table paid (account text)")
         worker = self.worker()
-        transacting = service.request("r")
-        stage = transacting.supply(f.pay, "anna", 1.0).again()
+        transacting = paying.request("r")
+        paid_stage = transacting.supply(f.pay, "anna", 1.0).again()
         # while the transaction has the file nobody beats, but who reads isn't kept waiting
-        store = connect(self.address)
-        self.until(lambda: any(word >> 56 == CLAIM for word, _ in store.read("r")))
+        paid_store = connect(self.address)
+        self.until(lambda: any(word >> 56 == CLAIM for word, _ in paid_store.read("r")))
         time.sleep(0.5)
-        store.close()
+        paid_store.close()
         worker.kill()
         worker.wait()
         self.worker()
-        self.assertEqual(stage.result(30), "anna")
+        self.assertEqual(paid_stage.result(30), "anna")
         self.assertEqual(db.execute("select account from paid").fetchall(), [("anna",)])
         db.close()
 
@@ -230,8 +230,8 @@ class KilledTransactions(Case):
                 store_of._Transaction.commit = commit
                 name = f"lands {lands}"
                 with self.assertLogs("cf.shared", "WARNING"):
-                    service = self.service(note=lambda *said: notes.append(said))
-                    self.assertEqual(service.request(name).supply(f.pay, name).result(30), name)
+                    paying = self.service(note=lambda *said: notes.append(said))
+                    self.assertEqual(paying.request(name).supply(f.pay, name).result(30), name)
                 self.assertEqual([said[3] >> 56 for said in notes if said[0] == "did" and said[1] == name], [7, 4, 5])
         finally:
             store_of._Transaction.commit = real

@@ -45,43 +45,43 @@ class Working(Case):
         store, times = Slow(), []
         for k in range(100):
             store.open(f"r{k}", EMPTY)
-        service = DurableService(store, 1, functions=f.functions, takes_all=True, lease=1)
-        self.services.append(service)
-        self.until(lambda: len(service._requests) == 100)
+        working = DurableService(store, 1, functions=f.functions, takes_all=True, lease=1)
+        self.services.append(working)
+        self.until(lambda: len(working._requests) == 100)
         self.assertLess(max(b - a for a, b in zip(times, times[1:])), 1)
         self.assertGreater(len(times), 4)
 
     def test_a_thread_that_cant_be_started(self):
         """What it was to do is done once one can be: stages, timers, and forgetting what is closed."""
-        service = DurableService(Memory(), 2, functions=f.functions, lease=0.5)
-        self.services.append(service)
-        submit, refused = service._pool.submit, []
+        working = DurableService(Memory(), 2, functions=f.functions, lease=0.5)
+        self.services.append(working)
+        submit, refused = working._pool.submit, []
 
         def submits(call, name, act, *given):
             if act.__name__ not in refused:
                 refused.append(act.__name__)
                 raise RuntimeError("can't start new thread")
             return submit(call, name, act, *given)
-        with unittest.mock.patch.object(service._pool, "submit", submits), self.assertLogs("cf.shared", "WARNING"):
-            worked_on = service.request("r")
+        with unittest.mock.patch.object(working._pool, "submit", submits), self.assertLogs("cf.shared", "WARNING"):
+            worked_on = working.request("r")
             self.assertEqual(worked_on.supply(f.inc, 1).result(20), 2)
             self.assertIsInstance(worked_on.promise().or_timeout(0.05).exception(20), TimeoutError)
-            service.store.end("r", worked_on.seen)
-            self.until(lambda: "r" not in service._requests)
+            working.store.end("r", worked_on.seen)
+            self.until(lambda: "r" not in working._requests)
         self.assertEqual(sorted(refused), ["_fire", "_let_go", "_work"])
 
     def test_a_claim_that_is_found_late(self):
         """It is finished late, and what is claimed with that is run."""
-        service = DurableService(Memory(), 0, functions=f.functions, lease=1000)
-        self.services.append(service)
-        worked_on = service.request("r")
+        working = DurableService(Memory(), 0, functions=f.functions, lease=1000)
+        self.services.append(working)
+        worked_on = working.request("r")
         first, second = worked_on.supply(f.inc, 1), worked_on.supply(f.inc, 2)
         done = worked_on._act(lambda view: [(CLAIM << 56 | view.who << 48, None)])  # as by a put whose reply was lost
         self.assertTrue(first.abandon())
-        service._pool.submit(int).result(20)  # (so that the one thread has nothing to do)
+        working._pool.submit(int).result(20)  # (so that the one thread has nothing to do)
         worked_on._view.found[0] = done[0]
-        service._workers = 1
-        service._serve(worked_on)
+        working._workers = 1
+        working._serve(worked_on)
         self.assertEqual(second.result(20), 3)
         self.until(lambda: not worked_on._view.claims)
 
@@ -115,8 +115,8 @@ class UnknownFunctions(Case):
         worked_on = first.request("r")
         waits, runs = worked_on.supply(strange), worked_on.supply(f.load, 1)
         with self.assertLogs("cf.shared", "WARNING") as logs:
-            service = self.service(takes_all=True)
-            self.assertEqual(service.open("r")[runs.number].result(20)["number"], 1)
+            working = self.service(takes_all=True)
+            self.assertEqual(working.open("r")[runs.number].result(20)["number"], 1)
         self.assertIn("'r', stage 0: function strange, version 2 isn't known here", "\n".join(logs.output))
         self.assertFalse(waits.done())
 

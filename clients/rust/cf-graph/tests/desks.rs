@@ -38,14 +38,14 @@ fn desks_are_shared_and_callers_sent() {
 
 #[test]
 fn a_closed_desk_has_all_that_was_told() {
-    let (desk, mut callers) = desk_plan().desk(sizes(2, 100, 100)).unwrap();
-    callers[1].read(0).unwrap();
-    callers[0].complete(0, Value::Int(7)).unwrap();
-    callers[1].claim(1).unwrap();
-    callers[1].read_now(0, Value::Nil).unwrap();
-    callers[1].finish(1, Answer::Give(Value::Int(8))).unwrap();
-    callers.reverse();
-    let mut closed = desk.close(callers).unwrap();
+    let (desk, mut desk_callers) = desk_plan().desk(sizes(2, 100, 100)).unwrap();
+    desk_callers[1].read(0).unwrap();
+    desk_callers[0].complete(0, Value::Int(7)).unwrap();
+    desk_callers[1].claim(1).unwrap();
+    desk_callers[1].read_now(0, Value::Nil).unwrap();
+    desk_callers[1].finish(1, Answer::Give(Value::Int(8))).unwrap();
+    desk_callers.reverse();
+    let mut closed = desk.close(desk_callers).unwrap();
     let events = [(0, Call::Complete(0, Value::Int(7))), (1, Call::Claim(1)), (1, Call::Finish(1, Answer::Give(Value::Int(8))))];
     let events = events.map(|(who, call)| Event { who, call });
     assert_eq!(closed.events(), Ok(events.to_vec()));
@@ -67,23 +67,23 @@ fn a_closed_desk_has_all_that_was_told() {
 #[test]
 fn eight_threads_call_each_function_once() {
     let (mut plan, sum) = fan_out(200);
-    let (desk, callers) = plan.desk(SIZES).unwrap();
-    let threads: Vec<_> = callers.into_iter().map(|caller| thread::spawn(move || works(caller, sum))).collect();
-    let (callers, calls): (Vec<Caller>, Vec<u32>) = threads.into_iter().map(|thread| thread.join().unwrap()).unzip();
+    let (desk, desk_callers) = plan.desk(SIZES).unwrap();
+    let threads: Vec<_> = desk_callers.into_iter().map(|desk_caller| thread::spawn(move || works(desk_caller, sum))).collect();
+    let (desk_callers, calls): (Vec<Caller>, Vec<u32>) = threads.into_iter().map(|thread| thread.join().unwrap()).unzip();
     assert_eq!(calls.iter().sum::<u32>(), 400);
-    let closed = desk.close(callers).unwrap();
+    let closed = desk.close(desk_callers).unwrap();
     let mut graph = replayed(&mut plan, 0, closed);
     assert_eq!(graph.outcome(sum), Ok(Some(Outcome::Value(Value::Int(401)))));
 }
 
 /// Completes the source, and works until the sum is there.
-fn works(mut caller: Caller, sum: u16) -> (Caller, u32) {
+fn works(mut desk_caller: Caller, sum: u16) -> (Caller, u32) {
     let mut calls = 0;
-    caller.complete(0, Value::Int(1)).unwrap();
+    desk_caller.complete(0, Value::Int(1)).unwrap();
     loop {
-        calls += caller.work(called).unwrap();
-        if caller.left().unwrap() > 1_000 && caller.join(sum, 100).unwrap() == Now::Value(Value::Int(401)) {
-            return (caller, calls);
+        calls += desk_caller.work(called).unwrap();
+        if desk_caller.left().unwrap() > 1_000 && desk_caller.join(sum, 100).unwrap() == Now::Value(Value::Int(401)) {
+            return (desk_caller, calls);
         }
         thread::yield_now();
     }
@@ -92,12 +92,12 @@ fn works(mut caller: Caller, sum: u16) -> (Caller, u32) {
 #[test]
 fn one_of_eight_completions_wins() {
     for _ in 0..50 {
-        let (desk, callers) = desk_plan().desk(sizes(8, 8, 8)).unwrap();
+        let (desk, desk_callers) = desk_plan().desk(sizes(8, 8, 8)).unwrap();
         let mut threads = Vec::new();
-        for mut caller in callers {
+        for mut desk_caller in desk_callers {
             threads.push(thread::spawn(move || {
-                let won = caller.complete(0, Value::Int(i32::from(caller.number()))).unwrap();
-                (won, caller)
+                let won = desk_caller.complete(0, Value::Int(i32::from(desk_caller.number()))).unwrap();
+                (won, desk_caller)
             }));
         }
         let told: Vec<(bool, Caller)> = threads.into_iter().map(|thread| thread.join().unwrap()).collect();
@@ -128,15 +128,15 @@ fn openings_are_refused() {
 #[test]
 fn closing_takes_all_callers() {
     let mut plan = desk_plan();
-    let (desk, mut callers) = plan.desk(sizes(3, 10, 10)).unwrap();
+    let (desk, mut desk_callers) = plan.desk(sizes(3, 10, 10)).unwrap();
     let (other, mut others) = plan.desk(sizes(1, 10, 10)).unwrap();
-    assert_eq!(callers[0].meet(&mut others[0]), Err(Refused::OTHER_DESK));
-    let last = callers.pop().unwrap();
-    let refused = desk.close(callers).err().unwrap();
+    assert_eq!(desk_callers[0].meet(&mut others[0]), Err(Refused::OTHER_DESK));
+    let last = desk_callers.pop().unwrap();
+    let refused = desk.close(desk_callers).err().unwrap();
     assert_eq!((refused.why, refused.callers.len()), (Refused::NOT_ALL, 2));
-    let NotClosed { desk, mut callers, .. } = refused;
-    callers.push(others.pop().unwrap());
-    let mut refused = desk.close(callers).err().unwrap();
+    let NotClosed { desk, callers: mut desk_callers, .. } = refused;
+    desk_callers.push(others.pop().unwrap());
+    let mut refused = desk.close(desk_callers).err().unwrap();
     assert_eq!(refused.why, Refused::OTHER_DESK);
     others.extend(refused.callers.pop());
     refused.callers.push(last);
@@ -149,17 +149,17 @@ fn closing_takes_all_callers() {
 #[test]
 fn callers_that_change_places_close_no_desk() {
     let mut plan = row(1);
-    let (mut desk, mut callers) = plan.desk(sizes(2, 9, 9)).unwrap();
+    let (mut desk, mut desk_callers) = plan.desk(sizes(2, 9, 9)).unwrap();
     let (other, mut others) = plan.desk(sizes(2, 9, 9)).unwrap();
     for k in 0..2 {
-        swap(&mut callers[k], &mut others[1]);
-        let refused = desk.close(callers).unwrap_err();
+        swap(&mut desk_callers[k], &mut others[1]);
+        let refused = desk.close(desk_callers).unwrap_err();
         assert_eq!(refused.why, Refused::OTHER_DESK);
-        (desk, callers) = (refused.desk, refused.callers);
-        swap(&mut callers[k], &mut others[1]);
+        (desk, desk_callers) = (refused.desk, refused.callers);
+        swap(&mut desk_callers[k], &mut others[1]);
     }
     let refused = desk.close(others).unwrap_err();
     assert_eq!(refused.why, Refused::OTHER_DESK);
-    assert_eq!(refused.desk.close(callers).unwrap().callers(), 2);
+    assert_eq!(refused.desk.close(desk_callers).unwrap().callers(), 2);
     assert_eq!(other.close(refused.callers).unwrap().callers(), 2);
 }

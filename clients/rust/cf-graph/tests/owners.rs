@@ -1,5 +1,6 @@
 //! What who calls the library owes it (src/handle.rs names each), and safe code that tries to break it: owners that go to threads, whose
-//! functions panic or use others, that are forgotten, swapped and freed in any order. Sanitizers and valgrind run these, too: conformance/clients/rust-sanitized.
+//! functions panic or use others, that are forgotten, swapped and freed in any order. Sanitizers and valgrind run these, too:
+//! conformance/clients/rust-sanitized.
 mod common;
 
 use cf_graph::*;
@@ -33,47 +34,47 @@ fn owners_go_to_threads_and_are_never_two() {
 /// The function of one stage panics: that stays claimed, what stands behind the handle is whole, and the others go on.
 #[test]
 fn a_function_that_panics_leaves_its_owner_whole() {
-    let mut graph = row(3).graph(0).unwrap();
-    graph.complete(0, Value::Int(1)).unwrap();
+    let mut owned_graph = row(3).graph(0).unwrap();
+    owned_graph.complete(0, Value::Int(1)).unwrap();
     let panics = |function, args| if function == 1 { panic!("in a function") } else { one_more(args) };
-    assert!(catch_unwind(AssertUnwindSafe(|| graph.work(7, panics))).is_err());
-    assert_eq!((graph.outcome(1), graph.outcome(2)), (given(2), Ok(None)));
-    assert_eq!(graph.claim(8, 2), Ok(Claimed::Taken));
-    assert_eq!(graph.work(8, panics), Ok(0));
-    assert_eq!(graph.finish(7, 2, Answer::Give(Value::Int(20))), Ok(Finished::Won));
-    assert_eq!(graph.work(8, panics), Ok(1));
-    assert_eq!(graph.outcome(3), given(21));
+    assert!(catch_unwind(AssertUnwindSafe(|| owned_graph.work(7, panics))).is_err());
+    assert_eq!((owned_graph.outcome(1), owned_graph.outcome(2)), (given(2), Ok(None)));
+    assert_eq!(owned_graph.claim(8, 2), Ok(Claimed::Taken));
+    assert_eq!(owned_graph.work(8, panics), Ok(0));
+    assert_eq!(owned_graph.finish(7, 2, Answer::Give(Value::Int(20))), Ok(Finished::Won));
+    assert_eq!(owned_graph.work(8, panics), Ok(1));
+    assert_eq!(owned_graph.outcome(3), given(21));
 
-    let (desk, mut callers) = row(3).desk(sizes(2, 20, 20)).unwrap();
-    callers[0].complete(0, Value::Int(1)).unwrap();
-    assert!(catch_unwind(AssertUnwindSafe(|| callers[0].work(panics))).is_err());
-    assert_eq!(callers[1].claim(2), Ok(Claimed::Taken));
-    assert_eq!(callers[0].finish(2, Answer::Give(Value::Int(20))), Ok(Finished::Won));
-    assert_eq!(callers[1].work(panics), Ok(1));
-    assert_eq!(desk.close(callers).unwrap().graph().unwrap().outcome(3), given(21));
+    let (owned_desk, mut owned_callers) = row(3).desk(sizes(2, 20, 20)).unwrap();
+    owned_callers[0].complete(0, Value::Int(1)).unwrap();
+    assert!(catch_unwind(AssertUnwindSafe(|| owned_callers[0].work(panics))).is_err());
+    assert_eq!(owned_callers[1].claim(2), Ok(Claimed::Taken));
+    assert_eq!(owned_callers[0].finish(2, Answer::Give(Value::Int(20))), Ok(Finished::Won));
+    assert_eq!(owned_callers[1].work(panics), Ok(1));
+    assert_eq!(owned_desk.close(owned_callers).unwrap().graph().unwrap().outcome(3), given(21));
 }
 
 /// Functions open and free all that there is, also of the plan of the graph that calls them.
 #[test]
 fn functions_use_other_owners() {
-    let mut graph = row(40).graph(0).unwrap();
-    let mut plan = graph.plan().unwrap();
-    let (desk, mut callers) = plan.desk(sizes(2, 200, 200)).unwrap();
-    graph.complete(0, Value::Int(0)).unwrap();
+    let mut owned_graph = row(40).graph(0).unwrap();
+    let mut owned_plan = owned_graph.plan().unwrap();
+    let (owned_desk, mut owned_callers) = owned_plan.desk(sizes(2, 200, 200)).unwrap();
+    owned_graph.complete(0, Value::Int(0)).unwrap();
     let mut held: Vec<Graph> = Vec::new();
-    let calls = graph.work(1, |function, args| {
-        held.push(plan.graph(0).unwrap());
+    let calls = owned_graph.work(1, |function, args| {
+        held.push(owned_plan.graph(0).unwrap());
         let other = held[0].plan().unwrap().graph(function).unwrap();
         held.push(other);
         if function % 3 == 0 {
             held.clear();
-            drop(replace(&mut plan, row(2)));
+            drop(replace(&mut owned_plan, row(2)));
         }
-        let mut other = plan.graph(1).unwrap();
+        let mut other = owned_plan.graph(1).unwrap();
         other.complete(0, Value::Nil).unwrap();
         let mut inside = 0;
-        callers[1].complete(0, Value::Int(0)).unwrap();
-        callers[0].ready().unwrap();
+        owned_callers[1].complete(0, Value::Int(0)).unwrap();
+        owned_callers[0].ready().unwrap();
         other
             .work(2, |_, args| {
                 inside += 1;
@@ -84,8 +85,8 @@ fn functions_use_other_owners() {
         one_more(args)
     });
     assert_eq!(calls, Ok(40));
-    assert_eq!(graph.outcome(40), given(40));
-    assert_eq!(desk.close(callers).unwrap().words().unwrap().len(), 40);
+    assert_eq!(owned_graph.outcome(40), given(40));
+    assert_eq!(owned_desk.close(owned_callers).unwrap().words().unwrap().len(), 40);
 }
 
 /// Lets go of an owner, which is never freed. Where it stands is kept, so that no tool takes it for a leak.
@@ -97,28 +98,28 @@ fn forgotten(owner: impl Send + 'static) {
 /// What is forgotten is never freed, and the others of its kind go on.
 #[test]
 fn owners_are_forgotten() {
-    let mut plan = row(1);
-    let (desk, mut callers) = plan.desk(sizes(3, 9, 9)).unwrap();
-    forgotten(callers.remove(1));
-    assert_eq!(callers[1].complete(0, Value::Int(3)), Ok(true));
-    let refused = desk.close(callers).unwrap_err();
+    let mut owned_plan = row(1);
+    let (owned_desk, mut owned_callers) = owned_plan.desk(sizes(3, 9, 9)).unwrap();
+    forgotten(owned_callers.remove(1));
+    assert_eq!(owned_callers[1].complete(0, Value::Int(3)), Ok(true));
+    let refused = owned_desk.close(owned_callers).unwrap_err();
     assert_eq!(refused.why, Refused::NOT_ALL);
-    let NotClosed { desk, mut callers, .. } = refused;
-    assert_eq!(callers[0].read(0), given(3));
-    forgotten(desk);
-    drop(callers);
+    let NotClosed { desk: owned_desk, callers: mut owned_callers, .. } = refused;
+    assert_eq!(owned_callers[0].read(0), given(3));
+    forgotten(owned_desk);
+    drop(owned_callers);
 
-    let (desk, callers) = plan.desk(sizes(2, 9, 9)).unwrap();
-    forgotten(desk.close(callers).unwrap());
-    let mut graph = plan.graph(0).unwrap();
-    graph.complete(0, Value::Int(3)).unwrap();
-    let mut sweep = graph.sweep().unwrap();
+    let (owned_desk, owned_callers) = owned_plan.desk(sizes(2, 9, 9)).unwrap();
+    forgotten(owned_desk.close(owned_callers).unwrap());
+    let mut owned_graph = owned_plan.graph(0).unwrap();
+    owned_graph.complete(0, Value::Int(3)).unwrap();
+    let mut sweep = owned_graph.sweep().unwrap();
     assert!(sweep.step(None).unwrap().is_some());
     forgotten(sweep);
-    forgotten(Ledger::new(&mut plan, 3).unwrap());
-    forgotten(plan.graph(0).unwrap());
-    let mut again = plan.graph(0).unwrap();
-    forgotten(plan);
+    forgotten(Ledger::new(&mut owned_plan, 3).unwrap());
+    forgotten(owned_plan.graph(0).unwrap());
+    let mut again = owned_plan.graph(0).unwrap();
+    forgotten(owned_plan);
     again.complete(0, Value::Int(4)).unwrap();
     assert_eq!(again.work(0, |_, args| one_more(args)), Ok(1));
 }
@@ -127,8 +128,8 @@ fn owners_are_forgotten() {
 #[test]
 fn owners_change_places() {
     let (mut short, mut long) = (row(1).graph(0).unwrap(), row(4).graph(0).unwrap());
-    for (graph, number) in [(&mut short, 1), (&mut long, 10)] {
-        graph.complete(0, Value::Int(number)).unwrap();
+    for (owned_graph, number) in [(&mut short, 1), (&mut long, 10)] {
+        owned_graph.complete(0, Value::Int(number)).unwrap();
     }
     let taken = long.step(3, None).unwrap().taken.unwrap();
     swap(&mut short, &mut long);
@@ -146,8 +147,8 @@ fn owners_change_places() {
     // What the third caller took before the sweep is its own yet.
     assert_eq!(long.finish(3, 2, Answer::Give(Value::Int(12))), Ok(Finished::Won));
 
-    let mut plan = row(1);
-    let (mut one, mut two) = (Ledger::new(&mut plan, 2).unwrap(), Ledger::new(&mut plan, 2).unwrap());
+    let mut owned_plan = row(1);
+    let (mut one, mut two) = (Ledger::new(&mut owned_plan, 2).unwrap(), Ledger::new(&mut owned_plan, 2).unwrap());
     one.apply(completes(0, 5)).unwrap();
     swap(&mut one, &mut two);
     assert_eq!((one.count(), two.count()), (Ok(0), Ok(1)));
@@ -158,11 +159,18 @@ fn owners_change_places() {
 #[test]
 fn owners_are_freed_in_any_order() {
     fn owners() -> Vec<Box<dyn Send>> {
-        let mut plan = row(3);
-        let (desk, mut callers) = plan.desk(sizes(2, 9, 9)).unwrap();
-        let last = callers.pop().unwrap();
-        let sweep = plan.graph(2).unwrap().sweep().unwrap();
-        vec![Box::new(plan.graph(0).unwrap()), Box::new(sweep), Box::new(plan), Box::new(last), Box::new(callers), Box::new(desk)]
+        let mut owned_plan = row(3);
+        let (owned_desk, mut owned_callers) = owned_plan.desk(sizes(2, 9, 9)).unwrap();
+        let last = owned_callers.pop().unwrap();
+        let sweep = owned_plan.graph(2).unwrap().sweep().unwrap();
+        vec![
+            Box::new(owned_plan.graph(0).unwrap()),
+            Box::new(sweep),
+            Box::new(owned_plan),
+            Box::new(last),
+            Box::new(owned_callers),
+            Box::new(owned_desk),
+        ]
     }
     let mut orders = vec![vec![]];
     for k in 0..6 {
@@ -187,8 +195,8 @@ fn owners_are_freed_in_any_order() {
 /// One graph goes from thread to thread, while others of its plan are opened, used and freed.
 #[test]
 fn a_graph_goes_from_thread_to_thread() {
-    let mut plan = row(1);
-    let graphs: Vec<Graph> = (0..4).map(|_| plan.graph(0).unwrap()).collect();
+    let mut owned_plan = row(1);
+    let graphs: Vec<Graph> = (0..4).map(|_| owned_plan.graph(0).unwrap()).collect();
     let (starts, ends) = channel();
     let threads: Vec<_> = graphs
         .into_iter()
@@ -196,20 +204,20 @@ fn a_graph_goes_from_thread_to_thread() {
             let ends = starts.clone();
             thread::spawn(move || {
                 for k in 0..200 {
-                    let mut plan = own.plan().unwrap();
-                    let mut graph = plan.graph(1).unwrap();
-                    graph.complete(0, Value::Int(k)).unwrap();
-                    drop(plan);
-                    ends.send((k, graph)).unwrap();
+                    let mut owned_plan = own.plan().unwrap();
+                    let mut owned_graph = owned_plan.graph(1).unwrap();
+                    owned_graph.complete(0, Value::Int(k)).unwrap();
+                    drop(owned_plan);
+                    ends.send((k, owned_graph)).unwrap();
                 }
             })
         })
         .collect();
-    drop((starts, plan));
+    drop((starts, owned_plan));
     let mut calls = 0;
-    for (k, mut graph) in ends {
-        calls += graph.work(0, |_, args| one_more(args)).unwrap();
-        assert_eq!(graph.outcome(1), given(k + 1));
+    for (k, mut owned_graph) in ends {
+        calls += owned_graph.work(0, |_, args| one_more(args)).unwrap();
+        assert_eq!(owned_graph.outcome(1), given(k + 1));
     }
     assert_eq!(calls, 800);
     threads.into_iter().for_each(|thread| thread.join().unwrap());
@@ -218,17 +226,17 @@ fn a_graph_goes_from_thread_to_thread() {
 /// After a call was refused, what it had is as it was.
 #[test]
 fn owners_are_whole_after_refusals() {
-    let mut plan = row(1);
-    let mut graph = plan.graph(0).unwrap();
+    let mut owned_plan = row(1);
+    let mut owned_graph = owned_plan.graph(0).unwrap();
     for _ in 0..3 {
-        assert_eq!(graph.attach(Form::Apply, &[0], None), Err(Refused::BAD_ATTACH));
-        assert_eq!(graph.finish(0, u16::MAX, Answer::Link(u16::MAX)), Err(Refused::NO_STAGE));
-        assert_eq!(graph.step(0, Some((1, Answer::Throw(0)))), Err(Refused::NOT_HELD));
-        assert_eq!(graph.round(0, &[None, Some((1, Answer::Throw(0)))]), Err(Refused::NOT_HELD));
-        assert_eq!(graph.apply(1), Err(Refused::NO_WORD));
+        assert_eq!(owned_graph.attach(Form::Apply, &[0], None), Err(Refused::BAD_ATTACH));
+        assert_eq!(owned_graph.finish(0, u16::MAX, Answer::Link(u16::MAX)), Err(Refused::NO_STAGE));
+        assert_eq!(owned_graph.step(0, Some((1, Answer::Throw(0)))), Err(Refused::NOT_HELD));
+        assert_eq!(owned_graph.round(0, &[None, Some((1, Answer::Throw(0)))]), Err(Refused::NOT_HELD));
+        assert_eq!(owned_graph.apply(1), Err(Refused::NO_WORD));
     }
-    graph.complete(0, Value::Int(1)).unwrap();
-    let mut sweep = graph.sweep().unwrap();
+    owned_graph.complete(0, Value::Int(1)).unwrap();
+    let mut sweep = owned_graph.sweep().unwrap();
     for _ in 0..3 {
         sweep = sweep.end().unwrap_err();
         assert_eq!(sweep.step(Some((0, Answer::Throw(0)))), Err(Refused::NOT_HELD));
@@ -237,27 +245,27 @@ fn owners_are_whole_after_refusals() {
     assert_eq!(sweep.step(Some((1, Answer::Give(Value::Int(2))))), Ok(None));
     assert_eq!(sweep.end().unwrap().outcome(1), given(2));
 
-    let mut ledger = Ledger::new(&mut plan, 0).unwrap();
+    let mut owned_ledger = Ledger::new(&mut owned_plan, 0).unwrap();
     let mut changes = Changes::default();
     for _ in 0..3 {
-        assert_eq!(ledger.grow(u16::MAX), Err(Refused::ROOM));
-        assert_eq!(ledger.step(64, None, 0, &mut changes), Err(Refused::NO_WORD));
-        assert_eq!(ledger.step(1, Some((1, Answer::Throw(0))), 0, &mut changes), Err(Refused::NOT_HELD));
-        assert_eq!(ledger.apply_all(&[0]), (0, Err(Refused::NO_WORD)));
+        assert_eq!(owned_ledger.grow(u16::MAX), Err(Refused::ROOM));
+        assert_eq!(owned_ledger.step(64, None, 0, &mut changes), Err(Refused::NO_WORD));
+        assert_eq!(owned_ledger.step(1, Some((1, Answer::Throw(0))), 0, &mut changes), Err(Refused::NOT_HELD));
+        assert_eq!(owned_ledger.apply_all(&[0]), (0, Err(Refused::NO_WORD)));
     }
-    assert_eq!(ledger.count(), Ok(0));
+    assert_eq!(owned_ledger.count(), Ok(0));
 
-    let (mut desk, mut callers) = plan.desk(sizes(2, 1, 1)).unwrap();
-    assert_eq!(callers[0].complete(0, Value::Int(5)), Ok(true));
-    let kept = callers.pop().unwrap();
+    let (mut owned_desk, mut owned_callers) = owned_plan.desk(sizes(2, 1, 1)).unwrap();
+    assert_eq!(owned_callers[0].complete(0, Value::Int(5)), Ok(true));
+    let kept = owned_callers.pop().unwrap();
     for _ in 0..3 {
-        let refused = desk.close(callers).unwrap_err();
-        (desk, callers) = (refused.desk, refused.callers);
-        assert_eq!(callers[0].read(0), Err(Refused::PASS_FULL));
+        let refused = owned_desk.close(owned_callers).unwrap_err();
+        (owned_desk, owned_callers) = (refused.desk, refused.callers);
+        assert_eq!(owned_callers[0].read(0), Err(Refused::PASS_FULL));
     }
-    callers.push(kept);
-    assert_eq!(callers[1].complete(0, Value::Nil), Err(Refused::LOG_FULL));
-    assert_eq!(desk.close(callers).unwrap().graph().unwrap().outcome(0), given(5));
+    owned_callers.push(kept);
+    assert_eq!(owned_callers[1].complete(0, Value::Nil), Err(Refused::LOG_FULL));
+    assert_eq!(owned_desk.close(owned_callers).unwrap().graph().unwrap().outcome(0), given(5));
 }
 
 /// Each `unsafe` says what it meets.

@@ -17,12 +17,12 @@ fn a_job_that_is_dropped_lets_what_is_ready_fail() {
     }
     let keeps = Arc::new(Keeps::default());
     let of_jobs = Request::new("dropped", keeps.clone());
-    let stage = of_jobs.supply(|| 1);
-    assert!(!stage.is_settled());
+    let behind_job = of_jobs.supply(|| 1);
+    assert!(!behind_job.is_settled());
     let jobs = std::mem::take(&mut *keeps.0.lock().unwrap());
     drop(jobs);
-    assert!(stage.is_settled());
-    assert!(matches!(stage.wait(), Err(Error::Refused(Refusal::Closed))));
+    assert!(behind_job.is_settled());
+    assert!(matches!(behind_job.wait(), Err(Error::Refused(Refusal::Closed))));
     let again = of_jobs.supply(|| 2);
     let jobs = std::mem::take(&mut *keeps.0.lock().unwrap());
     jobs.into_iter().for_each(Job::run);
@@ -49,13 +49,13 @@ impl Spawn for Two {
 fn a_job_that_is_dropped_leaves_the_rest_to_the_other() {
     let two = Two::default();
     let of_jobs = Request::new("dropped", two.clone());
-    let stages = [1, 2, 3].map(|n| of_jobs.supply(move || n));
+    let behind_jobs = [1, 2, 3].map(|n| of_jobs.supply(move || n));
     let mut jobs = std::mem::take(&mut *two.0.lock().unwrap());
     assert_eq!(jobs.len(), 2);
     drop(jobs.pop());
-    assert!(stages.iter().all(|stage| !stage.is_settled()));
+    assert!(behind_jobs.iter().all(|behind_job| !behind_job.is_settled()));
     jobs.pop().unwrap().run();
-    assert_eq!(stages.map(|stage| stage.wait().unwrap()), [1, 2, 3]);
+    assert_eq!(behind_jobs.map(|behind_job| behind_job.wait().unwrap()), [1, 2, 3]);
 }
 
 /// The job that was to poll a future is dropped, and so is one that was to poll it again.
@@ -64,15 +64,15 @@ fn a_job_of_a_future_that_is_dropped_lets_it_fail() {
     let two = Two::default();
     let of_jobs = Request::new("dropped", two.clone());
     let take = || two.0.lock().unwrap().pop().expect("a job was asked for");
-    let (alive, gate) = (Arc::new(()), of_jobs.promise::<i32>());
-    let (held, awaits) = (alive.clone(), gate.clone());
+    let (alive, before_job) = (Arc::new(()), of_jobs.promise::<i32>());
+    let (held, awaits) = (alive.clone(), before_job.clone());
     let future = of_jobs.spawn(async move {
         let _held = held;
         awaits.await
     });
     take().run();
     assert!(!future.is_settled());
-    gate.complete(1).unwrap();
+    before_job.complete(1).unwrap();
     drop(take());
     assert!(future.is_settled());
     assert!(matches!(future.wait(), Err(Error::Refused(Refusal::Closed))));
@@ -84,11 +84,11 @@ fn a_job_of_a_future_that_is_dropped_lets_it_fail() {
 #[test]
 fn a_job_that_ends_leaves_no_function() {
     let one = Pool::new(1);
-    let gate = Request::new("many", one).promise::<usize>();
-    let stages: Vec<Stage<usize>> = (0..200).map(|k| gate.clone().then(move |n| n + k)).collect();
-    gate.complete(1).unwrap();
-    for (k, stage) in stages.iter().enumerate() {
-        assert_eq!(stage.wait_timeout(LONG).expect("its job has ended").unwrap(), k + 1);
+    let before_job = Request::new("many", one).promise::<usize>();
+    let behind_jobs: Vec<Stage<usize>> = (0..200).map(|k| before_job.clone().then(move |n| n + k)).collect();
+    before_job.complete(1).unwrap();
+    for (k, behind_job) in behind_jobs.iter().enumerate() {
+        assert_eq!(behind_job.wait_timeout(LONG).expect("its job has ended").unwrap(), k + 1);
     }
 }
 

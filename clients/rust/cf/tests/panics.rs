@@ -57,12 +57,12 @@ fn a_drop_that_panics_keeps_nobody_from_being_told() {
 #[test]
 fn payloads_of_panics_are_kept() {
     let panicking = Request::new("panics", Pool::new(2));
-    let stage = panicking.supply(|| -> i32 { std::panic::panic_any(vec![1, 2]) }).then(|n| n + 1);
-    match stage.wait() {
+    let panicking_stage = panicking.supply(|| -> i32 { std::panic::panic_any(vec![1, 2]) }).then(|n| n + 1);
+    match panicking_stage.wait() {
         Err(Error::Panicked(panic)) => assert_eq!(*panic.take_payload().unwrap().downcast::<Vec<i32>>().unwrap(), [1, 2]),
         other => panic!("{other:?}"),
     }
-    match stage.wait() {
+    match panicking_stage.wait() {
         Err(Error::Panicked(panic)) => assert!(panic.take_payload().is_none(), "it is had once"),
         other => panic!("{other:?}"),
     }
@@ -166,11 +166,11 @@ fn a_future_whose_drop_panics_gives_its_claim_back() {
     comes_back(|| {
         let panicking = Request::new("drops", Inline);
         let held = Drops;
-        let stage = panicking.spawn(async move {
+        let panicking_stage = panicking.spawn(async move {
             let _held = held;
             std::future::pending::<Result<i32, Error>>().await
         });
-        assert!(catch_unwind(AssertUnwindSafe(|| stage.cancel())).is_err());
+        assert!(catch_unwind(AssertUnwindSafe(|| panicking_stage.cancel())).is_err());
         let history = panicking.history().to_string();
         assert_eq!(history.matches("claims").count(), history.matches("finishes").count(), "{history}");
     });

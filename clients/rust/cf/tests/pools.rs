@@ -20,8 +20,8 @@ fn all_threads_of_a_pool_wait_for_futures() {
                 by.spawn(Yields(1)).wait().unwrap()
             })
         };
-        let stages: Vec<Stage<i32>> = (0..4).map(waits).collect();
-        assert!(stages.iter().all(|stage| stage.wait().unwrap() == 5));
+        let pool_stages: Vec<Stage<i32>> = (0..4).map(waits).collect();
+        assert!(pool_stages.iter().all(|pool_stage| pool_stage.wait().unwrap() == 5));
     });
 }
 
@@ -41,13 +41,13 @@ fn a_pool_of_one_thread_goes_on_while_it_waits_for_a_while() {
 fn functions_wait_in_a_row() {
     comes_back(|| {
         let pooled = Request::new("row", Pool::new(1));
-        let gate = pooled.promise::<i32>();
-        let mut last = gate.clone();
+        let pool_gate = pooled.promise::<i32>();
+        let mut last = pool_gate.clone();
         for _ in 0..30 {
             let before = last;
             last = pooled.supply(move || before.wait().unwrap() + 1);
         }
-        gate.complete(0).unwrap();
+        pool_gate.complete(0).unwrap();
         assert_eq!(last.wait().unwrap(), 30);
     });
 }
@@ -59,11 +59,11 @@ fn as_many_functions_run_as_a_pool_has_threads() {
         for threads in [1, 3] {
             let pool = Pool::new(threads);
             let (waits, runs) = (Request::new("waits", pool.clone()), Request::new("runs", pool));
-            let gate = waits.promise::<i32>();
+            let pool_gate = waits.promise::<i32>();
             let waiting: Vec<_> = (0..5)
                 .map(|_| {
-                    let gate = gate.clone();
-                    waits.supply(move || gate.wait().unwrap())
+                    let pool_gate = pool_gate.clone();
+                    waits.supply(move || pool_gate.wait().unwrap())
                 })
                 .collect();
             let (now, most) = (Arc::new(AtomicUsize::new(0)), Arc::new(AtomicUsize::new(0)));
@@ -81,10 +81,10 @@ fn as_many_functions_run_as_a_pool_has_threads() {
                 })
             };
             let running: Vec<_> = (0..12).map(counted).collect();
-            running.iter().for_each(|stage| stage.wait().unwrap());
+            running.iter().for_each(|pool_stage| pool_stage.wait().unwrap());
             assert_eq!(most.load(Ordering::SeqCst), threads);
-            gate.complete(1).unwrap();
-            assert!(waiting.iter().all(|stage| stage.wait().unwrap() == 1));
+            pool_gate.complete(1).unwrap();
+            assert!(waiting.iter().all(|pool_stage| pool_stage.wait().unwrap() == 1));
         }
     });
 }
@@ -102,8 +102,8 @@ fn a_function_that_waits_is_not_counted() {
     }
     comes_back(|| {
         let pooled = Request::new("threads", Threads);
-        let (gate, ran) = (pooled.promise::<i32>(), Arc::new(AtomicBool::new(false)));
-        let (waits, opens) = (gate.clone(), ran.clone());
+        let (pool_gate, ran) = (pooled.promise::<i32>(), Arc::new(AtomicBool::new(false)));
+        let (waits, opens) = (pool_gate.clone(), ran.clone());
         let other = pooled.promise::<i32>();
         let waited = pooled.supply({
             let other = other.clone();
@@ -113,7 +113,7 @@ fn a_function_that_waits_is_not_counted() {
             opens.store(true, Ordering::SeqCst);
             other.complete(3).unwrap();
         }));
-        gate.complete(1).unwrap();
+        pool_gate.complete(1).unwrap();
         assert_eq!(waited.wait().unwrap(), 3);
         assert!(ran.load(Ordering::SeqCst));
     });
@@ -129,12 +129,12 @@ fn each_thread_of_a_pool_runs_a_function() {
     comes_back(|| {
         let pooled = Request::new("meet", Pool::new(4));
         for _ in 0..3 {
-            let gate = pooled.promise::<i32>();
-            let at_once = meet(|all| gate.clone().then(move |_| all.wait().is_leader()));
-            gate.complete(1).unwrap();
+            let pool_gate = pooled.promise::<i32>();
+            let at_once = meet(|all| pool_gate.clone().then(move |_| all.wait().is_leader()));
+            pool_gate.complete(1).unwrap();
             let one_by_one = || meet(|all| pooled.supply(move || all.wait().is_leader()));
-            for stages in [at_once, one_by_one(), one_by_one()] {
-                assert_eq!(stages.iter().filter(|stage| stage.wait().unwrap()).count(), 1);
+            for pool_stages in [at_once, one_by_one(), one_by_one()] {
+                assert_eq!(pool_stages.iter().filter(|pool_stage| pool_stage.wait().unwrap()).count(), 1);
             }
         }
     });
@@ -146,12 +146,12 @@ fn a_worker_that_waits_runs_functions_of_all_that_it_is_in() {
     comes_back(|| {
         let pool = Pool::new(1);
         let [one, two, three] = ["one", "two", "three"].map(|name| Request::new(name, pool.clone()));
-        let (gate, start) = (three.promise::<i32>(), two.promise::<i32>());
-        let behind = gate.clone().then(|n| n + 1);
+        let (pool_gate, start) = (three.promise::<i32>(), two.promise::<i32>());
+        let behind = pool_gate.clone().then(|n| n + 1);
         let middle = start.clone().then(move |n| n + behind.wait().unwrap());
         let by = one.clone();
         let waited = one.supply(move || {
-            drop(by.supply(move || gate.complete(4)));
+            drop(by.supply(move || pool_gate.complete(4)));
             start.complete(1).unwrap();
             middle.wait().unwrap()
         });
@@ -179,8 +179,8 @@ fn a_worker_that_waits_runs_functions_of_requests_that_are_followed() {
 fn a_worker_that_waits_until_a_moment_keeps_to_it() {
     comes_back(|| {
         let pooled = Request::new("until", Pool::new(1));
-        let (gate, by) = (pooled.promise::<i32>(), pooled.clone());
-        let never = gate.clone();
+        let (pool_gate, by) = (pooled.promise::<i32>(), pooled.clone());
+        let never = pool_gate.clone();
         let took = pooled.supply(move || {
             for _ in 0..200 {
                 drop(by.supply(|| thread::sleep(Duration::from_millis(10))));
@@ -190,7 +190,7 @@ fn a_worker_that_waits_until_a_moment_keeps_to_it() {
             since.elapsed()
         });
         assert!(took.wait().unwrap() < Duration::from_millis(1500));
-        gate.cancel();
+        pool_gate.cancel();
     });
 }
 
@@ -198,12 +198,12 @@ fn a_worker_that_waits_until_a_moment_keeps_to_it() {
 fn two_requests_wait_for_each_other_on_one_thread() {
     let pool = Pool::new(1);
     let (one, two) = (Request::new("one", pool.clone()), Request::new("two", pool));
-    let gate = two.promise::<i32>();
-    let behind = gate.clone().then(|n| n + 1);
+    let pool_gate = two.promise::<i32>();
+    let behind = pool_gate.clone().then(|n| n + 1);
     let opens = one.clone();
     // The only thread waits for a stage of the other request, whose own function it has to run, and which a function of its own opens.
     let waited = one.supply(move || {
-        let open = gate.clone();
+        let open = pool_gate.clone();
         drop(opens.supply(move || open.complete(4)));
         behind.wait().unwrap()
     });

@@ -40,7 +40,7 @@ fn a_waker_is_called_under_a_lock_that_the_poll_takes() {
     }
     comes_back(|| {
         let (shared, polled) = (Arc::new(Mutex::new((false, None::<Waker>))), Arc::new(AtomicBool::new(false)));
-        let stage = Request::new("locked", Pool::new(2)).spawn(Locked(Arc::clone(&shared), Arc::clone(&polled)));
+        let reentered_stage = Request::new("locked", Pool::new(2)).spawn(Locked(Arc::clone(&shared), Arc::clone(&polled)));
         while !polled.load(Ordering::SeqCst) {
             thread::yield_now();
         }
@@ -49,7 +49,7 @@ fn a_waker_is_called_under_a_lock_that_the_poll_takes() {
         held.1.take().unwrap().wake();
         thread::sleep(Duration::from_millis(20));
         drop(held);
-        assert_eq!(stage.wait().unwrap(), 5);
+        assert_eq!(reentered_stage.wait().unwrap(), 5);
     });
 }
 
@@ -64,8 +64,8 @@ fn a_late_answer_is_dropped_without_the_lock() {
     }
     comes_back(|| {
         let reentered = Request::new("looks", Inline);
-        let gate = reentered.promise::<i32>();
-        let (by, source) = (gate.clone(), reentered.promise::<i32>());
+        let reentered_gate = reentered.promise::<i32>();
+        let (by, source) = (reentered_gate.clone(), reentered.promise::<i32>());
         let late: Arc<Mutex<Option<Stage<i32>>>> = Arc::default();
         let cancels = Arc::clone(&late);
         let composed = source.clone().compose(move |_| {
@@ -75,7 +75,7 @@ fn a_late_answer_is_dropped_without_the_lock() {
             other.promise()
         });
         *late.lock().unwrap() = Some(composed.clone());
-        gate.complete(1).unwrap();
+        reentered_gate.complete(1).unwrap();
         source.complete(2).unwrap();
         assert!(composed.wait().unwrap_err().is_cancelled());
         assert!(reentered.history().comes_again());
@@ -97,15 +97,15 @@ fn a_waker_is_dropped_without_the_lock() {
     }
     comes_back(|| {
         let reentered = Request::new("looks", Inline);
-        let (stage, gone) = (reentered.promise::<i32>(), Arc::new(AtomicUsize::new(0)));
+        let (reentered_stage, gone) = (reentered.promise::<i32>(), Arc::new(AtomicUsize::new(0)));
         let waker = || Waker::from(Arc::new(Looks(reentered.promise(), Arc::clone(&gone))));
-        let (mut handle, mut other) = (stage.clone(), stage.clone());
+        let (mut handle, mut other) = (reentered_stage.clone(), reentered_stage.clone());
         assert!(!poll(&mut handle, &waker()) && !poll(&mut handle, &waker()));
         assert_eq!(gone.load(Ordering::SeqCst), 1);
         assert!(!poll(&mut other, &waker()));
         drop(handle);
         assert_eq!(gone.load(Ordering::SeqCst), 2);
-        stage.complete(1).unwrap();
+        reentered_stage.complete(1).unwrap();
         assert_eq!(gone.load(Ordering::SeqCst), 3);
         assert!(poll(&mut other, &waker()));
     });
@@ -129,13 +129,13 @@ fn a_thread_that_ends_runs_functions() {
     for first in [false, true] {
         comes_back(move || {
             let reentered = Request::new("ends", Inline);
-            let gate = reentered.promise::<i32>();
-            let behind = gate.clone().then(|n| n + 1).then_async(|n| async move { Ok::<_, Error>(*n + 1) });
+            let reentered_gate = reentered.promise::<i32>();
+            let behind = reentered_gate.clone().then(|n| n + 1).then_async(|n| async move { Ok::<_, Error>(*n + 1) });
             let ended = thread::spawn(move || {
                 if first {
                     assert_eq!(Request::new("before", Inline).supply(|| 1).wait().unwrap(), 1);
                 }
-                LAST.with(|last| *last.borrow_mut() = Some(Completes(gate)));
+                LAST.with(|last| *last.borrow_mut() = Some(Completes(reentered_gate)));
                 assert_eq!(Request::new("behind", Inline).supply(|| 1).wait().unwrap(), 1);
             });
             ended.join().unwrap();
@@ -150,8 +150,8 @@ fn a_function_settles_its_own_stage() {
         comes_back(move || {
             let reentered = Request::new("own", Pool::new(2));
             let own: Arc<Mutex<Option<Stage<i32>>>> = Arc::default();
-            let (gate, of) = (reentered.promise::<i32>(), Arc::clone(&own));
-            let stage = gate.clone().then(move |_| {
+            let (reentered_gate, of) = (reentered.promise::<i32>(), Arc::clone(&own));
+            let reentered_stage = reentered_gate.clone().then(move |_| {
                 let own = of.lock().unwrap().take().unwrap();
                 match k {
                     0 => assert_eq!(own.complete(7), Ok(())),
@@ -160,9 +160,9 @@ fn a_function_settles_its_own_stage() {
                 }
                 8
             });
-            *own.lock().unwrap() = Some(stage.clone());
-            gate.complete(1).unwrap();
-            match (k, stage.wait()) {
+            *own.lock().unwrap() = Some(reentered_stage.clone());
+            reentered_gate.complete(1).unwrap();
+            match (k, reentered_stage.wait()) {
                 (0, Ok(7)) | (1, Err(Error::Cancelled)) | (2, Err(Error::Failed(_))) => {}
                 (_, other) => panic!("{other:?}"),
             }

@@ -26,8 +26,8 @@ fn alarms_ring_in_their_order() {
     let order = Arc::new(Mutex::new(Vec::new()));
     for seconds in [3, 1, 2, 1] {
         let order = order.clone();
-        let stage = timed.promise().complete_on_timeout(seconds, Duration::from_secs(seconds));
-        drop(stage.then(move |n| order.lock().unwrap().push(*n)));
+        let timed_stage = timed.promise().complete_on_timeout(seconds, Duration::from_secs(seconds));
+        drop(timed_stage.then(move |n| order.lock().unwrap().push(*n)));
     }
     clock.turn(Duration::from_millis(1999));
     assert_eq!(*order.lock().unwrap(), [1, 1]);
@@ -42,8 +42,8 @@ fn alarms_ring_in_their_order() {
 fn many_timeouts_are_swept() {
     let timed = Request::new("swept", Inline);
     for k in 0..1000 {
-        let stage = timed.promise().or_timeout(Duration::from_secs(3600));
-        assert_eq!(stage.complete(k), Ok(()));
+        let timed_stage = timed.promise().or_timeout(Duration::from_secs(3600));
+        assert_eq!(timed_stage.complete(k), Ok(()));
     }
     assert!(timed.promise::<i32>().or_timeout(Duration::from_millis(2)).wait().unwrap_err().is_timeout());
 }
@@ -61,9 +61,9 @@ fn alarms_are_swept_whatever_their_values_do() {
         let timed = Request::new("swept", Inline);
         let late = timed.promise::<i32>().or_timeout(Duration::from_millis(300));
         for k in 0..300 {
-            let stage = timed.promise().complete_on_timeout(Drops(k % 5 == 0), Duration::from_secs(3600));
-            assert_eq!(catch_unwind(AssertUnwindSafe(|| stage.cancel())).is_err(), k % 5 == 0);
-            assert!(stage.is_settled());
+            let timed_stage = timed.promise().complete_on_timeout(Drops(k % 5 == 0), Duration::from_secs(3600));
+            assert_eq!(catch_unwind(AssertUnwindSafe(|| timed_stage.cancel())).is_err(), k % 5 == 0);
+            assert!(timed_stage.is_settled());
         }
         assert!(late.wait().unwrap_err().is_timeout());
     });

@@ -68,12 +68,12 @@ fn on_one_thread(act: fn(Makes<'_>)) {
 
 #[test]
 fn one_thread_waits_for_functions() {
-    on_one_thread(|request| {
-        let waiting = request("functions");
+    on_one_thread(|one_thread| {
+        let waiting = one_thread("functions");
         let by = waiting.clone();
         let deep = waiting.supply(move || by.supply(|| 20).then(|n| n + 1).combine(&by.supply(|| 2), |a, b| a * b).wait().unwrap());
         assert_eq!(deep.wait().unwrap(), 42);
-        let (by, other) = (waiting.clone(), request("other"));
+        let (by, other) = (waiting.clone(), one_thread("other"));
         let far = waiting.supply(move || by.adopt(&other.supply(|| 4).then(|n| n + 1)).then(|n| n + 1).wait().unwrap());
         assert_eq!(far.wait().unwrap(), 6);
         let by = waiting.clone();
@@ -88,13 +88,13 @@ fn one_thread_waits_for_functions() {
 
 #[test]
 fn one_thread_waits_for_futures() {
-    on_one_thread(|request| {
-        let waiting = request("futures");
+    on_one_thread(|one_thread| {
+        let waiting = one_thread("futures");
         let by = waiting.clone();
         assert_eq!(waiting.supply(move || by.spawn(Yields(3)).wait().unwrap()).wait().unwrap(), 5);
         let by = waiting.clone();
         assert_eq!(waiting.supply(move || by.spawn(Woken(false)).wait().unwrap()).wait().unwrap(), 6);
-        let (by, other) = (waiting.clone(), request("other"));
+        let (by, other) = (waiting.clone(), one_thread("other"));
         let behind = waiting.supply(move || by.adopt(&other.spawn(Yields(2)).then(|n| n + 1)).wait().unwrap());
         assert_eq!(behind.wait().unwrap(), 6);
         assert!(waiting.history().comes_again());
@@ -104,8 +104,8 @@ fn one_thread_waits_for_futures() {
 /// What the function waits for, anybody may complete. Another function of its request does.
 #[test]
 fn one_thread_waits_for_a_promise() {
-    on_one_thread(|request| {
-        let waiting = request("promises");
+    on_one_thread(|one_thread| {
+        let waiting = one_thread("promises");
         let by = waiting.clone();
         completed_by_another(&waiting, by);
     });
@@ -121,11 +121,11 @@ fn a_pool_of_one_thread_waits_for_a_promise_of_another_request() {
 }
 
 fn completed_by_another(waiting: &Request, by: Request) {
-    let gate = waiting.promise::<i32>();
+    let waited_gate = waiting.promise::<i32>();
     let waited = waiting.supply(move || {
-        let opens = gate.clone();
+        let opens = waited_gate.clone();
         drop(by.supply(move || opens.complete(4).is_ok()));
-        gate.then(|n| n + 1).wait().unwrap()
+        waited_gate.then(|n| n + 1).wait().unwrap()
     });
     assert_eq!(waited.wait().unwrap(), 5);
 }
@@ -133,11 +133,11 @@ fn completed_by_another(waiting: &Request, by: Request) {
 /// A future on the only thread awaits what another function completes, and a function waits for the future.
 #[test]
 fn one_thread_waits_for_a_future_that_awaits_a_promise() {
-    on_one_thread(|request| {
-        let waiting = request("awaits");
-        let (gate, by) = (waiting.promise::<i32>(), waiting.clone());
+    on_one_thread(|one_thread| {
+        let waiting = one_thread("awaits");
+        let (waited_gate, by) = (waiting.promise::<i32>(), waiting.clone());
         let waited = waiting.supply(move || {
-            let (awaits, opens) = (gate.clone(), gate);
+            let (awaits, opens) = (waited_gate.clone(), waited_gate);
             let future = by.spawn(async move { awaits.await.map(|n| n + 1) });
             drop(by.supply(move || opens.complete(1).is_ok()));
             future.wait().unwrap()
@@ -203,9 +203,9 @@ fn a_function_that_waits_under_a_lock_runs_nobody_who_takes_it() {
         comes_back(move || {
             let waiting = Request::new("locked", Pool::new(2));
             let by = waiting.clone();
-            let (gate, lock) = (waiting.promise::<i32>(), Arc::new(Mutex::new(0)));
+            let (waited_gate, lock) = (waiting.promise::<i32>(), Arc::new(Mutex::new(0)));
             let (own, others) = (Arc::clone(&lock), Arc::clone(&lock));
-            let takes = gate.clone().then(move |_| *others.lock().unwrap() += 1);
+            let takes = waited_gate.clone().then(move |_| *others.lock().unwrap() += 1);
             let (ends, end) = channel::<()>();
             let end = Mutex::new(end);
             let waited = waiting.supply(move || {
@@ -219,11 +219,11 @@ fn a_function_that_waits_under_a_lock_runs_nobody_who_takes_it() {
                 begins.recv().unwrap();
                 if is_before {
                     // It is ready before the wait begins, and no other thread is free.
-                    gate.complete(1).unwrap();
+                    waited_gate.complete(1).unwrap();
                 }
                 thread::spawn(move || {
                     thread::sleep(SHORT);
-                    let _ = gate.complete(1);
+                    let _ = waited_gate.complete(1);
                     thread::sleep(SHORT);
                     ends.send(()).unwrap();
                 });
@@ -239,8 +239,8 @@ fn a_function_that_waits_under_a_lock_runs_nobody_who_takes_it() {
 /// The function that is ready ends once the wait has, so who waits can't be the one that runs it.
 #[test]
 fn a_wait_for_a_while_begins_no_function() {
-    on_one_thread(|request| {
-        let waiting = request("until");
+    on_one_thread(|one_thread| {
+        let waiting = one_thread("until");
         let (by, never) = (waiting.clone(), waiting.promise::<i32>());
         let waited = waiting.supply(move || {
             let (ends, end) = channel::<()>();
@@ -261,9 +261,9 @@ fn a_worker_that_waits_runs_others() {
     let by = waiting.clone();
     let deep = waiting.supply(move || by.supply(|| 20).then(|n| n + 1).wait().unwrap() * 2);
     assert_eq!(deep.wait_timeout(LONG).unwrap().unwrap(), 42);
-    let (by, gate) = (waiting.clone(), waiting.promise::<i32>());
+    let (by, waited_gate) = (waiting.clone(), waiting.promise::<i32>());
     let (told, tells) = mpsc::channel();
-    let open = gate.clone();
+    let open = waited_gate.clone();
     let outer = waiting.supply(move || {
         let inner = by.promise_then(open);
         told.send(()).unwrap();
@@ -271,16 +271,16 @@ fn a_worker_that_waits_runs_others() {
     });
     tells.recv().unwrap();
     thread::sleep(SHORT);
-    gate.complete(4).unwrap();
+    waited_gate.complete(4).unwrap();
     assert_eq!(outer.wait_timeout(LONG).unwrap().unwrap(), 5);
 }
 
 trait More {
-    fn promise_then(&self, gate: Stage<i32>) -> Stage<i32>;
+    fn promise_then(&self, waited_gate: Stage<i32>) -> Stage<i32>;
 }
 
 impl More for Request {
-    fn promise_then(&self, gate: Stage<i32>) -> Stage<i32> {
-        gate.then(|n| n + 1)
+    fn promise_then(&self, waited_gate: Stage<i32>) -> Stage<i32> {
+        waited_gate.then(|n| n + 1)
     }
 }

@@ -107,23 +107,26 @@ final class AskingTest {
      */
     static void onlyAsks() throws Exception {
         Request asked = SERVICE.request();
-        Stage<Integer> first = asked.promise(), second = first.copy(), third = first.copy(), fourth = first.thenApply(x -> x);
+        Stage<Integer> askedFirst = asked.promise(), askedSecond = askedFirst.copy(), askedThird = askedFirst.copy();
+        Stage<Integer> askedFourth = askedFirst.thenApply(x -> x);
         CountDownLatch runs = new CountDownLatch(1), go = new CountDownLatch(1);
-        CompletableFuture.allOf(first).thenRun(() -> {
+        CompletableFuture.allOf(askedFirst).thenRun(() -> {
             runs.countDown();
             await(go);
         });
         AtomicReference<String> caller = new AtomicReference<>();
-        CompletableFuture<Void> behind = CompletableFuture.allOf(second).thenRun(() -> caller.set(Thread.currentThread().getName()));
-        Thread thread = new Thread(() -> first.complete(1), "settles");
+        CompletableFuture<Void> behind = CompletableFuture.allOf(askedSecond).thenRun(() -> caller.set(Thread.currentThread().getName()));
+        Thread thread = new Thread(() -> askedFirst.complete(1), "settles");
         thread.start();
         await(runs);
-        is(second.isDone() && !second.isCancelled() && second.getNow(0) == 1 && second.get() == 1 && second.join() == 1, true);
-        is(second.get(20, TimeUnit.SECONDS), 1);
+        is(askedSecond.isDone() && !askedSecond.isCancelled(), true);
+        is(askedSecond.getNow(0) == 1 && askedSecond.get() == 1 && askedSecond.join() == 1, true);
+        is(askedSecond.get(20, TimeUnit.SECONDS), 1);
         is(caller.get(), null);
-        is(third.isDone() && CompletableFuture.allOf(third).isDone() && CompletableFuture.anyOf(third, fourth).join().equals(1), true);
-        is(third.thenCombine(second, Integer::sum).join(), 2);
-        is(fourth.isDone(), false);
+        is(askedThird.isDone() && CompletableFuture.allOf(askedThird).isDone(), true);
+        is(CompletableFuture.anyOf(askedThird, askedFourth).join().equals(1), true);
+        is(askedThird.thenCombine(askedSecond, Integer::sum).join(), 2);
+        is(askedFourth.isDone(), false);
         go.countDown();
         behind.get(20, TimeUnit.SECONDS);
         is(caller.get(), "settles");
@@ -133,14 +136,14 @@ final class AskingTest {
     /** Of one settled stage 1,000 others have news, which come in several parts. */
     static void manyNews() {
         Request asked = SERVICE.request();
-        Stage<Integer> first = asked.promise();
+        Stage<Integer> askedFirst = asked.promise();
         List<Stage<Integer>> copies = new ArrayList<>(), called = new ArrayList<>();
         for (int k = 0; k < 1000; k++) {
             int each = k;
-            copies.add(first.copy());
-            called.add(first.thenApply(x -> x + each));
+            copies.add(askedFirst.copy());
+            called.add(askedFirst.thenApply(x -> x + each));
         }
-        first.complete(7);
+        askedFirst.complete(7);
         for (int k = 0; k < 1000; k++) {
             is(copies.get(k).getNow(0), 7);
             is(called.get(k).getNow(0), 7 + k);

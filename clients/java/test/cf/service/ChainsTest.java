@@ -73,16 +73,16 @@ final class ChainsTest {
     static void linkedChains() throws Exception {
         Request chained = SERVICE.request();
         Stage<Integer> firstLink = chained.promise();
-        List<Stage<Integer>> made = new ArrayList<>();
+        List<Stage<Integer>> linkedStages = new ArrayList<>();
         for (int k = 0; k < 2000; k++) {
             int next = k + 1;
-            made.add(firstLink.thenCompose(x -> made.get(next)));
+            linkedStages.add(firstLink.thenCompose(x -> linkedStages.get(next)));
         }
         Stage<Integer> lastLink = chained.promise();
-        made.add(lastLink);
+        linkedStages.add(lastLink);
         firstLink.complete(0);
         withStack(200, () -> lastLink.complete(7));
-        is(made.get(0).get(20, TimeUnit.SECONDS), 7);
+        is(linkedStages.get(0).get(20, TimeUnit.SECONDS), 7);
     }
 
     /** A chain that goes to and fro between stages and futures of Java's: however deep that calls back, all of it ends. */
@@ -120,19 +120,19 @@ final class ChainsTest {
         for (int round = 0; round < 6; round++) {
             Request chained = service.request("deep").goesOn();
             Stage<Integer> firstLink = chained.promise(), behind = firstLink.thenApply(x -> x + 1), done = chained.completedFuture(1);
-            List<Stage<?>> made = new ArrayList<>();
+            List<Stage<?>> linkedStages = new ArrayList<>();
             List<Runnable> uses = Arrays.asList(() -> {
                 Stage<Integer> stage = chained.promise();
-                made.add(stage);
-                made.add(stage.thenApply(x -> x + 1));
+                linkedStages.add(stage);
+                linkedStages.add(stage.thenApply(x -> x + 1));
                 stage.complete(1);
             }, () -> {
-                made.add(chained.allOf(done, chained.promise(), CompletableFuture.completedFuture(1)));
-                made.get(made.size() - 1).cancel(true);
-            }, () -> made.add(chained.supplyAsync(() -> 1)), () -> made.add(done.thenCompose(x -> done).handle((x, e) -> 1)), () -> {
-                made.add(chained.promise());
-                made.get(made.size() - 1).completeExceptionally(failure);
-            }, () -> made.add(done.thenCompose(x -> CompletableFuture.completedFuture(x))));
+                linkedStages.add(chained.allOf(done, chained.promise(), CompletableFuture.completedFuture(1)));
+                linkedStages.get(linkedStages.size() - 1).cancel(true);
+            }, () -> linkedStages.add(chained.supplyAsync(() -> 1)), () -> linkedStages.add(done.thenCompose(x -> done).handle((x, e) -> 1)), () -> {
+                linkedStages.add(chained.promise());
+                linkedStages.get(linkedStages.size() - 1).completeExceptionally(failure);
+            }, () -> linkedStages.add(done.thenCompose(x -> CompletableFuture.completedFuture(x))));
             Runnable use = uses.get(round);
             withStack(190 + round, () -> {
                 int levels = 100;
@@ -146,7 +146,7 @@ final class ChainsTest {
             });
             withStack(512, () -> firstLink.complete(1));
             is(behind.get(20, TimeUnit.SECONDS), 2);
-            for (Stage<?> each : made) {
+            for (Stage<?> each : linkedStages) {
                 if (each.form == Form.SOURCE || each.form == Form.ALL_OF) {
                     each.complete(null);
                 }

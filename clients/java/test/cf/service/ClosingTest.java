@@ -17,11 +17,11 @@ final class ClosingTest {
 
     static void closed() {
         Request closing = SERVICE.request();
-        Stage<Integer> first = closing.completedFuture(1);
+        Stage<Integer> beforeClosing = closing.completedFuture(1);
         closing.close();
         closing.close();
         is(closing.history().events(), 2);
-        is(first.thenApply(x -> x + 1).join(), 2);
+        is(beforeClosing.thenApply(x -> x + 1).join(), 2);
         is(closing.history().stages(), 2);
         for (int k = 0; k < 100; k++) {
             closing.close();
@@ -36,40 +36,40 @@ final class ClosingTest {
     /** Functions close the request, and so do others meanwhile. */
     static void closedWithin() throws Exception {
         Request closing = SERVICE.request();
-        Stage<Object> first = closing.promise();
+        Stage<Object> beforeClosing = closing.promise();
         List<Stage<Object>> own = new ArrayList<>();
-        own.add(first.thenApply(x -> {
+        own.add(beforeClosing.thenApply(x -> {
             closing.close();
             own.get(0).cancel(true);
             return 1;
         }));
-        own.add(first.thenApply(x -> {
+        own.add(beforeClosing.thenApply(x -> {
             closing.close();
             own.get(1).complete("own");
             closing.close();
             return 1;
         }));
-        first.complete(1);
+        beforeClosing.complete(1);
         is(own.get(0).isCancelled(), true);
         is(own.get(1).join(), "own");
         ExecutorService pool = Executors.newFixedThreadPool(8);
         for (int round = 0; round < 30; round++) {
             Request closedMeanwhile = SERVICE.request();
-            List<Stage<Integer>> made = Collections.synchronizedList(new ArrayList<>());
+            List<Stage<Integer>> madeMeanwhile = Collections.synchronizedList(new ArrayList<>());
             Stage<Integer> start = closedMeanwhile.promise();
-            made.add(start);
+            madeMeanwhile.add(start);
             List<Future<?>> ends = new ArrayList<>();
             for (int t = 0; t < 8; t++) {
                 int who = t;
                 ends.add(pool.submit(() -> {
                     for (int k = 0; k < 30; k++) {
-                        Stage<Integer> stage = made.get((7 * who + k) % made.size());
+                        Stage<Integer> closingStage = madeMeanwhile.get((7 * who + k) % madeMeanwhile.size());
                         switch ((who + k) % 5) {
                             case 0: closedMeanwhile.close(); break;
-                            case 1: made.add(stage.thenApply(x -> x + 1)); break;
-                            case 2: made.add(stage.thenApplyAsync(x -> x + 1)); break;
+                            case 1: madeMeanwhile.add(closingStage.thenApply(x -> x + 1)); break;
+                            case 2: madeMeanwhile.add(closingStage.thenApplyAsync(x -> x + 1)); break;
                             case 3: closedMeanwhile.history().report(); break;
-                            default: stage.complete(1);
+                            default: closingStage.complete(1);
                         }
                     }
                 }));
@@ -78,8 +78,8 @@ final class ClosingTest {
                 end.get(20, TimeUnit.SECONDS);
             }
             start.complete(1);
-            for (Stage<Integer> stage : made) {
-                stage.get(20, TimeUnit.SECONDS);
+            for (Stage<Integer> closingStage : madeMeanwhile) {
+                closingStage.get(20, TimeUnit.SECONDS);
             }
             closedMeanwhile.close();
         }

@@ -41,27 +41,28 @@ final class DescribeTest {
     }
 
     /** A request with values and exceptions that are secret, in each way in which a history or a stage tells of one. */
-    private static List<String> told(Service service, Request request) throws Exception {
-        Stage<String> first = request.<String>promise().named("first");
-        Stage<Integer> length = first.thenCombine(request.completedFuture("bearer 123"), (a, b) -> a.length() + b.length());
+    private static List<String> told(Service describing, Request described) throws Exception {
+        Stage<String> first = described.<String>promise().named("first");
+        Stage<Integer> length = first.thenCombine(described.completedFuture("bearer 123"), (a, b) -> a.length() + b.length());
         Stage<String> failed = first.<String>thenApply(x -> {
             throw new Secret();
         });
         Stage<String> handled = failed.handle((x, e) -> "bearer 123");
-        Stage<String> relayed = request.adopt(CompletableFuture.completedFuture("bearer 123"));
-        Stage<String> late = request.promise();
+        Stage<String> relayed = described.adopt(CompletableFuture.completedFuture("bearer 123"));
+        Stage<String> late = described.promise();
         late.completeExceptionally(new Secret());
         late.complete("bearer 123");
         first.complete("bearer 123");
         is(length.join() + handled.join() + relayed.join(), "20bearer 123bearer 123");
-        List<String> told = new ArrayList<>(Arrays.asList(request.history().toString(), request.history().line(), request.history().account(),
-                request.history().script(), request.history().report(), first.toString(), failed.toString(), handled.toString(), late.toString()));
+        List<String> told = new ArrayList<>(Arrays.asList(described.history().toString(), described.history().line(), described.history().account(),
+                described.history().script(), described.history().report(), first.toString(), failed.toString(), handled.toString(),
+                late.toString()));
         Flow flow = new Flow("flow");
         Flow.Step<String> given = flow.promise(), doubled = given.thenApply(x -> x + x);
-        Request started = service.start(flow, "bearer 123");
+        Request started = describing.start(flow, "bearer 123");
         is(started.stage(doubled).join(), "bearer 123bearer 123");
         told.add(started.history().toString());
-        told.add(service.supplyAsync(() -> "bearer 123").request().history().toString());
+        told.add(describing.supplyAsync(() -> "bearer 123").request().history().toString());
         return told;
     }
 
@@ -73,8 +74,8 @@ final class DescribeTest {
             recording.enable("cf.Word");
             recording.enable("cf.Stage");
             recording.start();
-            for (Service service : Arrays.asList(types, nothing)) {
-                for (String told : told(service, service.request("described"))) {
+            for (Service describing : Arrays.asList(types, nothing)) {
+                for (String told : told(describing, describing.request("described"))) {
                     is(told.contains("bearer"), false);
                 }
             }
@@ -107,14 +108,14 @@ final class DescribeTest {
     }
 
     private static History held(List<WeakReference<Object>> held) {
-        Request request = INLINE.request("held", Describe.TYPES);
+        Request described = INLINE.request("held", Describe.TYPES);
         Object value = new Object();
         Throwable error = new Secret();
-        request.completedFuture(value);
-        request.failedFuture(error);
+        described.completedFuture(value);
+        described.failedFuture(error);
         held.add(new WeakReference<>(value));
         held.add(new WeakReference<>(error));
-        return request.history();
+        return described.history();
     }
 
     static void describers() throws Exception {
@@ -133,13 +134,13 @@ final class DescribeTest {
         String said = own.history().toString();
         is(said.contains("with " + long_ + "\\n\n") && said.contains("with null"), true);
         for (Throwable each : Arrays.asList(new IllegalStateException(), new StackOverflowError(), new LinkageError(), new OutOfMemoryError())) {
-            Request request = INLINE.request("throws", value -> DescribeTest.<RuntimeException>thrower(each));
-            Stage<Integer> one = request.completedFuture(1);
-            Stage<Integer> failed = request.failedFuture(new Secret());
+            Request described = INLINE.request("throws", value -> DescribeTest.<RuntimeException>thrower(each));
+            Stage<Integer> one = described.completedFuture(1);
+            Stage<Integer> failed = described.failedFuture(new Secret());
             is(one.join(), 1);
-            said = request.history().toString();
+            said = described.history().toString();
             is(said.contains("0 source ends: ?\n") && said.contains("fails 1 source with ?\n"), true);
-            is(request.history().line().contains("1 source by ?"), true);
+            is(described.history().line().contains("1 source by ?"), true);
             is(failed.toString().contains("Completed exceptionally: ?"), true);
         }
         // It is called under no lock of the request: another thread uses that meanwhile.
@@ -190,7 +191,8 @@ final class DescribeTest {
     /** A value whose text can't be had ends its stage all the same, and what is behind it goes on, with a recording, too. */
     static void unspeakable() throws Exception {
         List<Object> mute = new ArrayList<>();
-        for (Throwable each : Arrays.asList(new IllegalStateException(), new StackOverflowError(), new NoClassDefFoundError(), new OutOfMemoryError())) {
+        for (Throwable each : Arrays.asList(new IllegalStateException(), new StackOverflowError(), new NoClassDefFoundError(),
+                new OutOfMemoryError())) {
             mute.add(new Object() {
                 @Override
                 public String toString() {
@@ -219,14 +221,14 @@ final class DescribeTest {
         });
         try (AutoCloseable recording = recording()) {
             for (Object each : mute) {
-                Request request = INLINE.request("mute");
-                Stage<Object> first = request.promise();
+                Request described = INLINE.request("mute");
+                Stage<Object> first = described.promise();
                 Stage<String> behind = first.handle((x, e) -> "told");
                 is(each instanceof Throwable ? first.completeExceptionally((Throwable) each) : first.complete(each), true);
                 is(behind.getNow("not told"), "told");
-                is(request.history().toString().split("\n").length, 8);
-                is(request.history().line().contains("mute: 5 events"), true);
-                is(request.history().account().contains("\"name\":\"mute\""), true);
+                is(described.history().toString().split("\n").length, 8);
+                is(described.history().line().contains("mute: 5 events"), true);
+                is(described.history().account().contains("\"name\":\"mute\""), true);
                 is(first.toString().contains("mute: 0 source: Completed"), true);
             }
         }
@@ -242,8 +244,8 @@ final class DescribeTest {
                 throw new IllegalStateException();
             }
         }
-        Request request = INLINE.request("mute");
-        Stage<Integer> first = request.promise();
+        Request described = INLINE.request("mute");
+        Stage<Integer> first = described.promise();
         Stage<Integer> behind = first.thenApply(x -> x + 1), last = behind.thenApply(x -> x + 1), beside = first.exceptionally(e -> 7);
         Mute mute = new Mute();
         is(first.completeExceptionally(mute), true);

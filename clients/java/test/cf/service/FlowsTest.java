@@ -76,8 +76,8 @@ final class FlowsTest {
         }
         thrown(RequestFullException.class, ends::copy);
         Flow named = new Flow("named");
-        Flow.Step<Integer> first = named.<Integer>promise().named("first");
-        is(SERVICE.start(named).stage(first).toString().contains("0 first: Not completed"), true);
+        Flow.Step<Integer> firstStep = named.<Integer>promise().named("first");
+        is(SERVICE.start(named).stage(firstStep).toString().contains("0 first: Not completed"), true);
         thrown(IllegalArgumentException.class, () -> begunRequest.stage(foreign));
         thrown(IllegalArgumentException.class, () -> SERVICE.request().stage(step));
         Flow full = new Flow("full");
@@ -95,12 +95,12 @@ final class FlowsTest {
         ExecutorService pool = Executors.newFixedThreadPool(threads);
         for (int round = 0; round < 40; round++) {
             Flow flow = new Flow("together");
-            Flow.Step<Integer> first = flow.promise();
-            Flow.Step<Integer> last = first;
+            Flow.Step<Integer> firstStep = flow.promise();
+            Flow.Step<Integer> lastStep = firstStep;
             for (int k = 0; k < 400; k++) {
-                last = k % 7 == 0 ? last.thenApply(x -> x + 1).async() : last.thenApply(x -> x + 1);
+                lastStep = k % 7 == 0 ? lastStep.thenApply(x -> x + 1).async() : lastStep.thenApply(x -> x + 1);
             }
-            Flow.Step<Integer> end = last.thenCombine(flow.supplyAsync(() -> 1), Integer::sum);
+            Flow.Step<Integer> end = lastStep.thenCombine(flow.supplyAsync(() -> 1), Integer::sum);
             CyclicBarrier together = new CyclicBarrier(threads);
             List<Ledger.Plan> plans = Collections.synchronizedList(new ArrayList<>());
             List<Future<?>> ends = new ArrayList<>();
@@ -130,28 +130,28 @@ final class FlowsTest {
         ExecutorService pool = Executors.newFixedThreadPool(2);
         for (Service service : Arrays.asList(INLINE, new Service(pool))) {
             Flow flow = new Flow("errors");
-            Flow.Step<Integer> first = flow.promise();
+            Flow.Step<Integer> firstStep = flow.promise();
             List<Flow.Step<Integer>> fail = new ArrayList<>();
             List<Class<?>> by = new ArrayList<>();
             fail.add(flow.supplyAsync(() -> {
                 throw new AssertionError("supplier");
             }));
             by.add(AssertionError.class);
-            fail.add(first.thenApply(x -> {
+            fail.add(firstStep.thenApply(x -> {
                 throw new StackOverflowError();
             }));
             by.add(StackOverflowError.class);
-            fail.add(first.<Integer>thenApply(x -> {
+            fail.add(firstStep.<Integer>thenApply(x -> {
                 throw new LinkageError();
             }).async());
             by.add(LinkageError.class);
-            fail.add(first.thenCompose(x -> {
+            fail.add(firstStep.thenCompose(x -> {
                 throw new ThreadDeath();
             }));
             by.add(ThreadDeath.class);
-            fail.add(first.thenCompose(x -> null));
+            fail.add(firstStep.thenCompose(x -> null));
             by.add(NullPointerException.class);
-            fail.add(first.<Integer>thenApply(x -> x).async(act -> {
+            fail.add(firstStep.<Integer>thenApply(x -> x).async(act -> {
                 throw new OutOfMemoryError("no thread");
             }));
             by.add(OutOfMemoryError.class);
@@ -159,13 +159,13 @@ final class FlowsTest {
                 throw new InternalError();
             }));
             by.add(InternalError.class);
-            Flow.Step<Integer> last = first.thenApply(x -> x + 1), async = first.thenApply(x -> x + 2).async();
+            Flow.Step<Integer> lastStep = firstStep.thenApply(x -> x + 1), async = firstStep.thenApply(x -> x + 2).async();
             List<Flow.Step<String>> told = new ArrayList<>();
             for (Flow.Step<Integer> each : fail) {
                 told.add(each.handle((x, error) -> "told"));
             }
             Request begunRequest = service.start(flow, 1);
-            is(begunRequest.stage(last).get(20, TimeUnit.SECONDS) + begunRequest.stage(async).get(20, TimeUnit.SECONDS), 5);
+            is(begunRequest.stage(lastStep).get(20, TimeUnit.SECONDS) + begunRequest.stage(async).get(20, TimeUnit.SECONDS), 5);
             for (int k = 0; k < fail.size(); k++) {
                 Stage<Integer> stage = begunRequest.stage(fail.get(k));
                 is(thrown(ExecutionException.class, () -> stage.get(20, TimeUnit.SECONDS)).getCause().getClass(), by.get(k));
@@ -179,12 +179,12 @@ final class FlowsTest {
         Flow flow = new Flow("empty");
         Request begunRequest = INLINE.start(flow);
         is(begunRequest.history().events() + begunRequest.history().stages(), 0);
-        Stage<Integer> promise = begunRequest.promise(), last = promise;
+        Stage<Integer> promise = begunRequest.promise(), lastStep = promise;
         for (int k = 0; k < 40; k++) {
-            last = last.thenApply(x -> x + 1);
+            lastStep = lastStep.thenApply(x -> x + 1);
         }
         is(promise.complete(5), true);
-        is(last.join(), 45);
+        is(lastStep.join(), 45);
         begunRequest.close();
         is(INLINE.start(flow).failedFuture(new IllegalStateException()).isCompletedExceptionally(), true);
         thrown(IllegalArgumentException.class, () -> INLINE.start(flow, 1));

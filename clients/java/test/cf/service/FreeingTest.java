@@ -27,8 +27,8 @@ final class FreeingTest {
     /** What lives long keeps nothing of requests that raced with it, however they hung on it. */
     static void longLived() throws Exception {
         CompletableFuture<Object> shutdown = new CompletableFuture<>(), hidden = new CompletableFuture<>();
-        Stage<Object> stage = SERVICE.request().promise();
-        List<CompletionStage<Object>> lived = Arrays.asList(shutdown, stage, foreign(hidden));
+        Stage<Object> livingStage = SERVICE.request().promise();
+        List<CompletionStage<Object>> lived = Arrays.asList(shutdown, livingStage, foreign(hidden));
         List<WeakReference<Object>> mayBeFreed = new ArrayList<>();
         List<Stage<Object>> wait = new ArrayList<>();
         for (CompletionStage<Object> each : lived) {
@@ -36,7 +36,7 @@ final class FreeingTest {
                 mayBeFreed.add(new WeakReference<>(raced(k % 8, each)));
             }
         }
-        is(stage.more.outside.poll() == null, true);
+        is(livingStage.more.outside.poll() == null, true);
         for (CompletionStage<Object> each : lived) {
             Request keeping = SERVICE.request();
             wait.add(keeping.anyOf(keeping.promise(), keeping.promise(), each));
@@ -47,7 +47,7 @@ final class FreeingTest {
         awaitFreed(mayBeFreed);
         is(shutdown.getNumberOfDependents(), 4);
         shutdown.complete("ends");
-        stage.complete("ends");
+        livingStage.complete("ends");
         hidden.complete("ends");
         for (Stage<Object> each : wait) {
             is(each.get(20, TimeUnit.SECONDS), "ends");
@@ -112,26 +112,26 @@ final class FreeingTest {
         CompletableFuture<Object> foreign = new CompletableFuture<>();
         int timers = Clock.TIMER.getQueue().size();
         List<WeakReference<Object>> mayBeFreed = new ArrayList<>();
-        List<Stage<?>> made = new ArrayList<>();
+        List<Stage<?>> keptStages = new ArrayList<>();
         for (int k = 0; k < 8; k++) {
             Object kept = new Object();
             mayBeFreed.add(new WeakReference<>(kept));
-            made.add(k == 0 ? settling.thenApply(x -> kept.hashCode()) : k == 1 ? settling.thenCompose(x -> kept == null ? null : never)
+            keptStages.add(k == 0 ? settling.thenApply(x -> kept.hashCode()) : k == 1 ? settling.thenCompose(x -> kept == null ? null : never)
                     : k == 2 ? settling.thenCompose(x -> kept == null ? null : foreign) : k == 3 ? never.thenApply(x -> kept)
                     : k == 4 ? settling.exceptionally(x -> kept) : k == 5 ? settling.thenApplyAsync(x -> kept.hashCode())
                     : k == 6 ? keeping.supplyAsync(kept::hashCode) : never.thenApplyAsync(x -> kept));
-            made.get(k).orTimeout(1, TimeUnit.HOURS);
+            keptStages.get(k).orTimeout(1, TimeUnit.HOURS);
         }
         is(Clock.TIMER.getQueue().size() <= timers + 8, true);
         settling.complete(1);
-        made.get(3).cancel(true);
-        made.get(7).completeExceptionally(new IllegalStateException());
+        keptStages.get(3).cancel(true);
+        keptStages.get(7).completeExceptionally(new IllegalStateException());
         for (int k : new int[] {0, 4, 5, 6}) {
-            made.get(k).get(20, TimeUnit.SECONDS);
+            keptStages.get(k).get(20, TimeUnit.SECONDS);
         }
         awaitFreed(mayBeFreed);
-        made.get(1).cancel(true);
-        made.get(2).complete(null);
+        keptStages.get(1).cancel(true);
+        keptStages.get(2).complete(null);
         for (int k = 0; k < 2000 && Clock.TIMER.getQueue().size() > timers; k++) {
             Thread.sleep(5);
         }

@@ -15,21 +15,21 @@ final class FullRequestsTest {
     /** One stage too many throws and changes nothing; what is there goes on to its end. */
     static void full() {
         Request fullRequest = SERVICE.request("full");
-        Stage<Integer> first = fullRequest.promise();
+        Stage<Integer> firstOfFull = fullRequest.promise();
         List<Stage<Integer>> stages = new ArrayList<>();
-        stages.add(first);
+        stages.add(firstOfFull);
         while (stages.size() < 4096) {
             stages.add(stages.get(stages.size() - 1).thenApply(x -> x + 1));
         }
-        Stage<Integer> last = stages.get(4095);
+        Stage<Integer> lastThatFits = stages.get(4095);
         int events = fullRequest.history().events();
-        is(thrown(RequestFullException.class, () -> last.thenApply(x -> x)).getMessage().contains("\"full\""), true);
+        is(thrown(RequestFullException.class, () -> lastThatFits.thenApply(x -> x)).getMessage().contains("\"full\""), true);
         thrown(RequestFullException.class, fullRequest::promise);
         thrown(RequestFullException.class, () -> fullRequest.adopt(new CompletableFuture<>()));
-        thrown(RequestFullException.class, () -> last.thenCombine(new CompletableFuture<>(), (x, y) -> x));
+        thrown(RequestFullException.class, () -> lastThatFits.thenCombine(new CompletableFuture<>(), (x, y) -> x));
         is(fullRequest.history().events(), events);
-        first.complete(0);
-        is(last.join(), 4095);
+        firstOfFull.complete(0);
+        is(lastThatFits.join(), 4095);
         is(fullRequest.history().stages(), 4096);
         is(fullRequest.next(), null);
         Request nearly = SERVICE.request();
@@ -50,17 +50,17 @@ final class FullRequestsTest {
 
     static void goesOn() {
         Request fullRequest = SERVICE.request().goesOn();
-        Stage<Integer> first = fullRequest.promise(), last = first;
+        Stage<Integer> firstOfFull = fullRequest.promise(), lastThatFits = firstOfFull;
         for (int k = 0; k < 10_000; k++) {
-            last = last.thenApply(x -> x + 1);
+            lastThatFits = lastThatFits.thenApply(x -> x + 1);
         }
-        first.complete(0);
-        is(last.join(), 10_000);
+        firstOfFull.complete(0);
+        is(lastThatFits.join(), 10_000);
         int count = 0;
         for (Request each = fullRequest; each != null; each = each.next()) {
             count++;
         }
         is(count, 3);
-        is(first.thenCombine(last, Integer::sum).join(), 10_000);
+        is(firstOfFull.thenCombine(lastThatFits, Integer::sum).join(), 10_000);
     }
 }

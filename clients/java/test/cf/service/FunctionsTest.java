@@ -31,16 +31,16 @@ final class FunctionsTest {
         for (int round = 0; round < 2; round++) {
             boolean mixed = round == 1;
             Request calling = SERVICE.request(), other = SERVICE.request();
-            Stage<Integer> first = calling.promise(), second = calling.promise(), third = other.promise();
+            Stage<Integer> ready = calling.promise(), second = calling.promise(), third = other.promise();
             List<Integer> called = new ArrayList<>();
-            List<Stage<Integer>> made = new ArrayList<>();
+            List<Stage<Integer>> functions = new ArrayList<>();
             if (mixed) {
-                made.add(second.thenApplyAsync(x -> x));
+                functions.add(second.thenApplyAsync(x -> x));
             }
             for (int k = 0; k < 300; k++) {
                 int each = k;
-                Stage<Integer> behind = k % 3 == 0 ? first : k % 3 == 1 ? second : made.get(k / 2);
-                made.add(behind.thenApply(x -> {
+                Stage<Integer> behind = k % 3 == 0 ? ready : k % 3 == 1 ? second : functions.get(k / 2);
+                functions.add(behind.thenApply(x -> {
                     called.add(each);
                     if (each == 30) {
                         second.complete(2);
@@ -49,10 +49,10 @@ final class FunctionsTest {
                     return x + 1;
                 }));
             }
-            Stage<Integer> outer = third.thenCombine(first, Integer::sum);
-            first.complete(1);
+            Stage<Integer> outer = third.thenCombine(ready, Integer::sum);
+            ready.complete(1);
             is(outer.join(), 4);
-            for (Stage<Integer> each : made) {
+            for (Stage<Integer> each : functions) {
                 each.join();
             }
             is(called.size(), 300);
@@ -112,13 +112,13 @@ final class FunctionsTest {
         }
         Service service = new Service(each);
         Request calling = service.request("virtual");
-        Stage<Integer> first = calling.promise();
+        Stage<Integer> ready = calling.promise();
         List<Stage<Integer>> waits = new ArrayList<>();
         for (int k = 0; k < 500; k++) {
             int own = k;
-            waits.add(calling.supplyAsync(() -> first.join() + own));
+            waits.add(calling.supplyAsync(() -> ready.join() + own));
         }
-        first.complete(1);
+        ready.complete(1);
         for (int k = 0; k < 500; k++) {
             is(waits.get(k).get(20, TimeUnit.SECONDS), 1 + k);
         }
@@ -128,13 +128,13 @@ final class FunctionsTest {
     /** From the 62nd on they are one caller. */
     static void manyThreads() throws Exception {
         Request calling = SERVICE.request();
-        List<Stage<Integer>> made = new ArrayList<>();
+        List<Stage<Integer>> functions = new ArrayList<>();
         for (int k = 0; k < 100; k++) {
-            Thread thread = new Thread(() -> made.add(calling.completedFuture(1).thenApply(x -> x + 1)));
+            Thread thread = new Thread(() -> functions.add(calling.completedFuture(1).thenApply(x -> x + 1)));
             thread.start();
             thread.join();
         }
-        for (Stage<Integer> each : made) {
+        for (Stage<Integer> each : functions) {
             is(each.join(), 2);
         }
         is(calling.history().toString().contains("some thread attaches"), true);
@@ -159,10 +159,10 @@ final class FunctionsTest {
         };
         ExecutorService ended = Executors.newFixedThreadPool(1);
         ended.shutdown();
-        Stage<Integer> first = calling.promise(), given = calling.promise();
-        Stage<Integer> refused = first.thenApplyAsync(x -> x, broken), composed = first.thenComposeAsync(x -> first, broken);
-        Stage<Integer> called = first.thenApplyAsync(x -> x + 1), saved = refused.exceptionally(error -> 5), here = first.thenApply(x -> x + 2);
-        first.complete(1);
+        Stage<Integer> ready = calling.promise(), given = calling.promise();
+        Stage<Integer> refused = ready.thenApplyAsync(x -> x, broken), composed = ready.thenComposeAsync(x -> ready, broken);
+        Stage<Integer> called = ready.thenApplyAsync(x -> x + 1), saved = refused.exceptionally(error -> 5), here = ready.thenApply(x -> x + 2);
+        ready.complete(1);
         is(here.join() + called.get(20, TimeUnit.SECONDS) + saved.get(20, TimeUnit.SECONDS), 10);
         for (Stage<Integer> each : Arrays.asList(refused, composed)) {
             is(thrown(ExecutionException.class, () -> each.get(20, TimeUnit.SECONDS)).getCause() instanceof Checks.Broken, true);
@@ -172,7 +172,7 @@ final class FunctionsTest {
         is(given.complete(2), true);
         is(new Service(broken).request().promise().completeOnTimeout(3, 1, TimeUnit.MILLISECONDS).get(20, TimeUnit.SECONDS), 3);
         Stage<Integer> late = calling.supplyAsync(() -> 1, calling.delayedExecutor(20, TimeUnit.MILLISECONDS, ended));
-        Stage<Integer> behind = first.thenApplyAsync(x -> x, calling.delayedExecutor(20, TimeUnit.MILLISECONDS, ended));
+        Stage<Integer> behind = ready.thenApplyAsync(x -> x, calling.delayedExecutor(20, TimeUnit.MILLISECONDS, ended));
         for (Stage<Integer> each : Arrays.asList(late, behind)) {
             is(thrown(ExecutionException.class, () -> each.get(20, TimeUnit.SECONDS)).getCause() instanceof RejectedExecutionException, true);
         }
@@ -193,28 +193,29 @@ final class FunctionsTest {
     /** A function's Error ends its stage, as any exception does, and nothing else. */
     static void errors() throws Exception {
         Request calling = SERVICE.request();
-        Stage<Integer> first = calling.promise(), failing = calling.promise(), given = calling.promise();
+        Stage<Integer> ready = calling.promise(), failing = calling.promise(), given = calling.promise();
         CompletableFuture<Integer> own = new CompletableFuture<>();
-        List<CompletableFuture<?>> made = new ArrayList<>(Arrays.asList(calling.supplyAsync(() -> breaks()), calling.runAsync(() -> breaks()),
-                first.thenApply(x -> breaks()), first.thenApplyAsync(x -> breaks()), first.thenAccept(x -> breaks()), first.thenRun(() -> breaks()),
-                first.thenCombine(first, (x, y) -> breaks()), first.thenAcceptBoth(first, (x, y) -> breaks()), first.runAfterBoth(first, () -> breaks()),
-                first.applyToEither(first, x -> breaks()), first.acceptEither(first, x -> breaks()), first.runAfterEither(first, () -> breaks()),
-                first.thenCompose(x -> breaks()), first.thenComposeAsync(x -> breaks()), first.handle((x, e) -> breaks()),
-                first.whenComplete((x, e) -> breaks()), failing.exceptionally(e -> breaks()), failing.exceptionallyCompose(e -> breaks()),
-                given.completeAsync(() -> breaks()), own.thenCombine(first, (x, y) -> breaks())));
-        Stage<Integer> told = failing.whenComplete((x, e) -> breaks()), after = first.thenApply(x -> x + 1), behind = failing.handle((x, e) -> 3);
+        List<CompletableFuture<?>> functions = new ArrayList<>(Arrays.asList(calling.supplyAsync(() -> breaks()), calling.runAsync(() -> breaks()),
+                ready.thenApply(x -> breaks()), ready.thenApplyAsync(x -> breaks()), ready.thenAccept(x -> breaks()), ready.thenRun(() -> breaks()),
+                ready.thenCombine(ready, (x, y) -> breaks()), ready.thenAcceptBoth(ready, (x, y) -> breaks()),
+                ready.runAfterBoth(ready, () -> breaks()),
+                ready.applyToEither(ready, x -> breaks()), ready.acceptEither(ready, x -> breaks()), ready.runAfterEither(ready, () -> breaks()),
+                ready.thenCompose(x -> breaks()), ready.thenComposeAsync(x -> breaks()), ready.handle((x, e) -> breaks()),
+                ready.whenComplete((x, e) -> breaks()), failing.exceptionally(e -> breaks()), failing.exceptionallyCompose(e -> breaks()),
+                given.completeAsync(() -> breaks()), own.thenCombine(ready, (x, y) -> breaks())));
+        Stage<Integer> told = failing.whenComplete((x, e) -> breaks()), after = ready.thenApply(x -> x + 1), behind = failing.handle((x, e) -> 3);
         IllegalStateException failure = new IllegalStateException();
         own.complete(1);
-        first.complete(1);
+        ready.complete(1);
         failing.completeExceptionally(failure);
-        for (CompletableFuture<?> each : made) {
+        for (CompletableFuture<?> each : functions) {
             is(thrown(ExecutionException.class, () -> each.get(20, TimeUnit.SECONDS)).getCause() instanceof Checks.Broken, true);
         }
         is(thrown(ExecutionException.class, () -> told.get(20, TimeUnit.SECONDS)).getCause(), failure);
         is(failure.getSuppressed()[0] instanceof Checks.Broken, true);
         is(after.join() + behind.join(), 5);
         CompletionStage<Integer> refusing = refusing(new Checks.Broken());
-        Stage<Integer> composed = first.thenCompose(x -> refusing), next = composed.handle((x, e) -> 4);
+        Stage<Integer> composed = ready.thenCompose(x -> refusing), next = composed.handle((x, e) -> 4);
         is(thrown(ExecutionException.class, () -> composed.get(20, TimeUnit.SECONDS)).getCause() instanceof Checks.Broken, true);
         is(next.join(), 4);
         thrown(Checks.Broken.class, () -> calling.adopt(refusing));

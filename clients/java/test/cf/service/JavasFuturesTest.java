@@ -43,18 +43,19 @@ final class JavasFuturesTest {
     static void takenByJava() throws Exception {
         Request besideJava = SERVICE.request();
         Stage<Integer> open = besideJava.promise();
-        List<Stage<Integer>> stages = Arrays.asList(besideJava.completedFuture(1), besideJava.failedFuture(new IllegalStateException("failed")), open);
+        List<Stage<Integer>> stages = Arrays.asList(besideJava.completedFuture(1),
+                besideJava.failedFuture(new IllegalStateException("failed")), open);
         CompletableFuture<Integer> never = new CompletableFuture<>(), one = CompletableFuture.completedFuture(1);
-        List<CompletableFuture<?>> made = new ArrayList<>();
+        List<CompletableFuture<?>> javas = new ArrayList<>();
         for (Stage<Integer> each : stages) {
-            made.addAll(Arrays.asList(never.applyToEither(each, x -> x), never.applyToEitherAsync(each, x -> x), never.acceptEither(each, x -> {}),
+            javas.addAll(Arrays.asList(never.applyToEither(each, x -> x), never.applyToEitherAsync(each, x -> x), never.acceptEither(each, x -> {}),
                     never.acceptEitherAsync(each, x -> {}), never.runAfterEither(each, () -> {}), never.runAfterEitherAsync(each, () -> {}),
                     CompletableFuture.anyOf(each), CompletableFuture.anyOf(never, each), CompletableFuture.allOf(each),
                     CompletableFuture.allOf(one, each), one.thenCombine(each, Integer::sum), one.thenAcceptBothAsync(each, (x, y) -> {}),
                     one.runAfterBoth(each, () -> {}), one.thenCompose(x -> each)));
         }
         open.complete(2);
-        for (CompletableFuture<?> each : made) {
+        for (CompletableFuture<?> each : javas) {
             is(each.handle((value, error) -> "called").get(20, TimeUnit.SECONDS), "called");
             is(each.isDone(), true);
             is(each.complete(null), false);

@@ -30,13 +30,13 @@ final class TimeoutsTest {
             runs.countDown();
             await(go);
         };
-        Stage<Integer> first = timed.promise(), second = timed.promise();
-        Stage<Integer> two = second.whenComplete((x, e) -> slow.run()), one = first.exceptionally(error -> {
+        Stage<Integer> firstTimed = timed.promise(), secondTimed = timed.promise();
+        Stage<Integer> two = secondTimed.whenComplete((x, e) -> slow.run()), one = firstTimed.exceptionally(error -> {
             slow.run();
             return 1;
         });
-        first.orTimeout(1, TimeUnit.MILLISECONDS);
-        second.completeOnTimeout(2, 1, TimeUnit.MILLISECONDS);
+        firstTimed.orTimeout(1, TimeUnit.MILLISECONDS);
+        secondTimed.completeOnTimeout(2, 1, TimeUnit.MILLISECONDS);
         timed.delayedExecutor(1, TimeUnit.MILLISECONDS, Runnable::run).execute(slow);
         is(runs.await(20, TimeUnit.SECONDS), true);
         timed.promise().orTimeout(1, TimeUnit.MILLISECONDS).whenComplete((x, e) -> breaks());
@@ -60,19 +60,19 @@ final class TimeoutsTest {
     /** A stage that timed out has Java's exception, and the history says why. */
     static void timedOut() throws Exception {
         Request timed = SERVICE.request("slow");
-        Stage<Integer> asked = timed.<Integer>promise().named("asked"), behind = asked.thenApply(x -> x).named("behind");
+        Stage<Integer> asked = timed.<Integer>promise().named("asked"), behindTimed = asked.thenApply(x -> x).named("behind");
         List<Throwable> seen = Collections.synchronizedList(new ArrayList<>());
         Stage<Integer> saved = asked.handle((x, error) -> seen.add(error) ? 1 : 0);
-        Stage<Integer> last = behind.handle((x, error) -> seen.add(error) ? 2 : 0);
+        Stage<Integer> last = behindTimed.handle((x, error) -> seen.add(error) ? 2 : 0);
         asked.orTimeout(1, TimeUnit.MILLISECONDS);
         Throwable why = thrown(ExecutionException.class, () -> asked.get(20, TimeUnit.SECONDS)).getCause();
         is(why.getClass() == TimeoutException.class && why.getMessage() == null, true);
         is(saved.get(20, TimeUnit.SECONDS) + last.get(20, TimeUnit.SECONDS), 3);
         is(seen.get(0) == why && seen.get(1) instanceof CompletionException && seen.get(1).getCause() == why, true);
         is(thrown(CompletionException.class, asked::join).getCause() == why, true);
-        is(thrown(CompletionException.class, behind::join) == seen.get(1), true);
+        is(thrown(CompletionException.class, behindTimed::join) == seen.get(1), true);
         is(asked.isCompletedExceptionally() && !asked.isCancelled(), true);
-        is(asked.exceptionNow() == why && behind.exceptionNow() == why, true);
+        is(asked.exceptionNow() == why && behindTimed.exceptionNow() == why, true);
         is(asked.toString().endsWith(": 0 asked: Completed exceptionally: java.util.concurrent.TimeoutException]"), true);
         History history = timed.history();
         String said = history.toString();
@@ -93,14 +93,14 @@ final class TimeoutsTest {
         is(word, 8L << 56);
         is(Words.name(word), "failAs");
         // All of a request have one; who comes too late is told so.
-        Request other = SERVICE.request();
-        Stage<Integer> first = other.promise(), second = other.promise(), done = other.completedFuture(1);
-        is(other.history().script().startsWith("{\"cf\":2,"), true);
-        is(other.timeOut(first.number()) && other.timeOut(second.number()), true);
-        is(other.timeOut(done.number()) || other.timeOut(first.number()) || first.complete(1) || first.cancel(true), false);
-        is(first.exceptionNow() == second.exceptionNow() && first.exceptionNow() != why, true);
-        is(other.history().toString().contains("the clock times out 2 source, too late\n"), true);
-        is(other.history().report().endsWith("\ntrue\ntrue\nfalse\nfalse\nfalse\nfalse\n"
+        Request otherTimed = SERVICE.request();
+        Stage<Integer> firstTimed = otherTimed.promise(), secondTimed = otherTimed.promise(), done = otherTimed.completedFuture(1);
+        is(otherTimed.history().script().startsWith("{\"cf\":2,"), true);
+        is(otherTimed.timeOut(firstTimed.number()) && otherTimed.timeOut(secondTimed.number()), true);
+        is(otherTimed.timeOut(done.number()) || otherTimed.timeOut(firstTimed.number()) || firstTimed.complete(1) || firstTimed.cancel(true), false);
+        is(firstTimed.exceptionNow() == secondTimed.exceptionNow() && firstTimed.exceptionNow() != why, true);
+        is(otherTimed.history().toString().contains("the clock times out 2 source, too late\n"), true);
+        is(otherTimed.history().report().endsWith("\ntrue\ntrue\nfalse\nfalse\nfalse\nfalse\n"
                 + "stage 0 fault timeout raw\nstage 1 fault timeout raw\nstage 2 value 0\n"), true);
         // A flow's stage, and what is behind a minimal one.
         Flow flow = new Flow("flow");
@@ -113,30 +113,30 @@ final class TimeoutsTest {
         is(thrown(CompletionException.class, () -> minimal.toCompletableFuture().join()).getCause() == cause, true);
     }
 
-    private static String end(Stage<?> stage) {
-        return stage.request().history().end(stage.number());
+    private static String end(Stage<?> timedStage) {
+        return timedStage.request().history().end(timedStage.number());
     }
 
     /** A relay of a stage that timed out ends so, too, where nobody is told another exception for it. */
     static void timedOutElsewhere() throws Exception {
         for (int round = 0; round < 4; round++) {
             boolean wrapped = round % 2 == 1, before = round / 2 == 1;
-            Request other = SERVICE.request();
-            Stage<Integer> slow = other.promise(), of = wrapped ? slow.thenApply(x -> x) : slow;
+            Request otherTimed = SERVICE.request();
+            Stage<Integer> slow = otherTimed.promise(), of = wrapped ? slow.thenApply(x -> x) : slow;
             if (before) {
-                other.timeOut(slow.number());
+                otherTimed.timeOut(slow.number());
             }
             Request three = SERVICE.request();
-            List<Stage<?>> behind = Arrays.asList(SERVICE.request().<Integer>promise().applyToEither(of, x -> x),
+            List<Stage<?>> behindTimed = Arrays.asList(SERVICE.request().<Integer>promise().applyToEither(of, x -> x),
                     SERVICE.request().completedFuture(1).thenCombine(of, Integer::sum),
                     SERVICE.request().completedFuture(1).thenCompose(x -> of),
                     SERVICE.request().<Integer>failedFuture(new IllegalStateException()).exceptionallyCompose(error -> of),
                     three.anyOf(three.promise(), of, three.promise()));
             Stage<Integer> adopted = SERVICE.request().adopt(of);
             if (!before) {
-                other.timeOut(slow.number());
+                otherTimed.timeOut(slow.number());
             }
-            for (Stage<?> each : behind) {
+            for (Stage<?> each : behindTimed) {
                 is(thrown(CompletionException.class, each::join).getCause().getClass(), TimeoutException.class);
                 is(end(each), "fault timeout wrapped");
                 is(each.request().history().toString().contains("a relay times out "), true);
@@ -151,8 +151,8 @@ final class TimeoutsTest {
         Request timed = SERVICE.request();
         TimeoutException why = new TimeoutException("why");
         CompletableFuture<Integer> foreign = new CompletableFuture<>();
-        Stage<Integer> other = SERVICE.request().failedFuture(why);
-        List<Stage<Integer>> made = Arrays.asList(timed.adopt(foreign), timed.adopt(other), timed.failedFuture(why));
+        Stage<Integer> otherTimed = SERVICE.request().failedFuture(why);
+        List<Stage<Integer>> made = Arrays.asList(timed.adopt(foreign), timed.adopt(otherTimed), timed.failedFuture(why));
         foreign.completeExceptionally(why);
         for (Stage<Integer> each : made) {
             is(each.exceptionNow() == why, true);
@@ -169,12 +169,12 @@ final class TimeoutsTest {
             timed.promise();
         }
         List<Throwable> seen = new ArrayList<>();
-        List<Stage<?>> behind = Arrays.asList(of.handle((x, error) -> seen.add(error)),
+        List<Stage<?>> behindTimed = Arrays.asList(of.handle((x, error) -> seen.add(error)),
                 of.whenComplete((x, error) -> seen.add(error)), of.exceptionally(error -> seen.add(error) ? 1 : 0),
                 of.exceptionallyCompose(error -> seen.add(error) ? of : null));
         Stage<Integer> passed = of.thenApply(x -> x);
         timed.timeOut(slow.number());
-        is(seen.size(), behind.size());
+        is(seen.size(), behindTimed.size());
         for (Throwable each : seen) {
             is(each.getClass(), wrapped ? CompletionException.class : TimeoutException.class);
         }
@@ -185,14 +185,14 @@ final class TimeoutsTest {
     /** What a function gave stands behind its stage in the request, and is settled later, or by then. */
     private static void linkedTimedOut(boolean wrapped) {
         Request timed = SERVICE.request();
-        Stage<Integer> first = timed.promise(), second = timed.promise();
+        Stage<Integer> firstTimed = timed.promise(), secondTimed = timed.promise();
         List<Stage<Integer>> given = new ArrayList<>();
-        Stage<Integer> later = first.thenCompose(x -> given.get(0)), then = second.thenCompose(x -> given.get(0));
+        Stage<Integer> later = firstTimed.thenCompose(x -> given.get(0)), then = secondTimed.thenCompose(x -> given.get(0));
         Stage<Integer> slow = timed.promise();
         given.add(wrapped ? slow.thenApply(x -> x) : slow);
-        first.complete(1);
+        firstTimed.complete(1);
         timed.timeOut(slow.number());
-        second.complete(2);
+        secondTimed.complete(2);
         for (Stage<Integer> each : Arrays.asList(later, then)) {
             is(each.exceptionNow() == slow.exceptionNow(), true);
             is(end(each), "fault timeout wrapped");
