@@ -92,7 +92,8 @@ class CoreArguments(CoreCase):
         for kind in (4, 5, 6, 9):
             self.refused(lambda: core._change(kind, 0, core_stage, None))
         self.fits(core)
-        self.assertEqual((len(core._facts()[4]), core_stage.complete(1), core_stage.then(str).result(9)), (1, True, "1"))
+        self.assertEqual((len(core._facts()[4]), core_stage.complete(1), core_stage.then(str).result(9)),
+                         (1, True, "1"))
 
     def test_arguments_of_other_types(self):
         core, other = self.request, self.service.request().promise()
