@@ -15,7 +15,7 @@ import unittest
 import weakref
 from pathlib import Path
 
-from case import Case, CoreCase, fails, inc, Oops, program, Thing
+from case import Case, CoreCase, fails, inc, Oops, program, Thing, until
 from cf.service import Flow, Service, Stage
 REQUESTS = int(os.environ.get("CF_REQUESTS", "20000"))
 
