@@ -9,12 +9,12 @@ fn dropped_functions_and_values_are_freed() {
     {
         let freed = Request::new("dropped", Inline);
         let never = freed.promise::<i32>();
-        let (held, given) = (alive.clone(), alive.clone());
-        let behind = never.then(move |_| held);
-        assert!(behind.cancel());
+        let (kept_alive, given) = (alive.clone(), alive.clone());
+        let freed_behind = never.then(move |_| kept_alive);
+        assert!(freed_behind.cancel());
         assert_eq!(Arc::strong_count(&alive), 2, "the function of a cancelled stage is dropped");
-        let (source, held) = (freed.promise::<i32>(), alive.clone());
-        let consequence = source.clone().then(move |_| drop(held));
+        let (source, kept_alive) = (freed.promise::<i32>(), alive.clone());
+        let consequence = source.clone().then(move |_| drop(kept_alive));
         assert!(source.cancel() && consequence.is_settled());
         assert_eq!(Arc::strong_count(&alive), 2, "and that of one that fails with its source");
         let value = freed.promise::<Arc<()>>();
@@ -29,10 +29,10 @@ fn dropped_functions_and_values_are_freed() {
 #[test]
 fn a_future_that_nobody_can_wake_goes_with_its_request() {
     let alive = Arc::new(());
-    let held = alive.clone();
+    let kept_alive = alive.clone();
     let freed = Request::new("left", Inline);
     let stage = freed.spawn(async move {
-        let _held = held;
+        let _held = kept_alive;
         std::future::pending::<()>().await;
         Ok::<i32, Error>(1)
     });
@@ -46,11 +46,11 @@ fn a_future_that_nobody_can_wake_goes_with_its_request() {
 #[test]
 fn a_request_that_waits_for_itself_is_freed() {
     let alive = Arc::new(());
-    let held = Arc::clone(&alive);
+    let kept_alive = Arc::clone(&alive);
     let freed = Request::new("itself", Inline);
     let (gate, by) = (freed.promise::<i32>(), freed.clone());
     let composed = gate.clone().compose(move |_| by.promise::<i32>());
-    drop(composed.clone().then(move |_| drop(held)));
+    drop(composed.clone().then(move |_| drop(kept_alive)));
     gate.complete(1).unwrap();
     assert!(!composed.is_settled());
     drop((freed, gate, composed));
