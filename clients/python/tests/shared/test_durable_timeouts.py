@@ -21,21 +21,21 @@ class DurableTimeouts(Case):
         """A stage times out by a word of its own, and all that stand behind it have its exception, whenever they are
         told."""
         for service, name in self.each():
-            timed = service.request(name)
-            late, slow = timed.promise("late"), timed.promise("slow")
-            fails = [late.then(f.inc), late.when_done(f.nothing), timed.all_of(slow, late), slow.combine(late, f.add)]
+            stored = service.request(name)
+            late, slow = stored.promise("late"), stored.promise("slow")
+            fails = [late.then(f.inc), late.when_done(f.nothing), stored.all_of(slow, late), slow.combine(late, f.add)]
             texts = [late.recover(f.text)]
             late.or_timeout(0.05)
             self.assertEqual(str(late.exception(20)), "late took longer than 0.05 s")
             slow.complete(1)
-            fails += [late.then(f.inc), timed.all_of(slow, late), late.when_done(f.nothing)]
+            fails += [late.then(f.inc), stored.all_of(slow, late), late.when_done(f.nothing)]
             texts += [late.recover(f.text), fails[0].recover(f.text)]
-            for timed_stage in fails:
-                self.assertEqual((type(timed_stage.exception(20)), str(timed_stage.exception())),
+            for stored_stage in fails:
+                self.assertEqual((type(stored_stage.exception(20)), str(stored_stage.exception())),
                                  (TimeoutError, "late took longer than 0.05 s"))
-            self.assertEqual([timed_stage.result(20) for timed_stage in texts],
+            self.assertEqual([stored_stage.result(20) for stored_stage in texts],
                              ["sorry, late took longer than 0.05 s"] * 3)
-            history = timed.history()
+            history = stored.history()
             for part in (" times out 0 late\n", "0 late ends: timeout\n", " ends: timeout, passed on\n"):
                 self.assertIn(part, str(history))
             self.assertIn('["failAs", 0, "timeout"]', history.script())
@@ -51,22 +51,22 @@ class DurableTimeouts(Case):
         for service, name in self.each():
             for failure, given, kind, text in ((TIMED_OUT, Json().write_error(TimeoutError("x")), TimeoutError, "x"),
                                                (TIMED_OUT, None, TimeoutError, ""), (BAD_ANSWER, None, BadAnswer, "")):
-                timed = service.request(f"{name} {failure} {given}")
-                number = timed.promise("number")
+                stored = service.request(f"{name} {failure} {given}")
+                number = stored.promise("number")
                 composed = number.compose(f.waiting)
                 number.complete(1)
                 self.until(lambda: any(it["name"] == "late" for it in
-                                       map(timed._view.said, range(len(timed._view.forms)))))
-                self.assertTrue(timed._settle(FAIL_AS, timed["late"].number, given, failure=failure))
-                for timed_stage in (timed["late"], composed, composed.then(f.inc)):
-                    self.assertEqual((type(timed_stage.exception(20)), str(timed_stage.exception())), (kind, text))
-                self.assertEqual([word >> 32 & 0xF for word in timed._view.words if word >> 56 == FAIL_AS],
+                                       map(stored._view.said, range(len(stored._view.forms)))))
+                self.assertTrue(stored._settle(FAIL_AS, stored["late"].number, given, failure=failure))
+                for stored_stage in (stored["late"], composed, composed.then(f.inc)):
+                    self.assertEqual((type(stored_stage.exception(20)), str(stored_stage.exception())), (kind, text))
+                self.assertEqual([word >> 32 & 0xF for word in stored._view.words if word >> 56 == FAIL_AS],
                                  [failure - TIMED_OUT] * 2)
 
     def test_a_promise_that_timed_out_before_it_was_linked_to(self):
         for service, name in self.each():
-            timed, begun, goes_on = service.request(name), threading.Event(), threading.Event()
-            number = timed.promise("number")
+            stored, begun, goes_on = service.request(name), threading.Event(), threading.Event()
+            number = stored.promise("number")
 
             def composing(request, number):
                 begun.set()
@@ -76,27 +76,27 @@ class DurableTimeouts(Case):
             composed = number.compose(composing)
             number.complete(1)
             self.assertTrue(begun.wait(20))
-            error = timed[composed.number - 1].or_timeout(0.01).exception(20)
+            error = stored[composed.number - 1].or_timeout(0.01).exception(20)
             goes_on.set()
             self.assertEqual(str(composed.exception(20)), str(error))
 
     def test_rows_and_timers_of_before(self):
         """A time-out was a failing with an exception, and may stand so in a row. A timer that was set then lets the
         stage time out."""
-        timed_store = Memory()
-        view = RowView(timed_store, timed_store.open("r", EMPTY), new_session())
-        given, limited = Json().write_error(TimeoutError("p took longer than 1 s")), b'{"name":"p"}'
-        view.act(lambda view: [(ATTACH << 56 | view.who << 48, limited)] * 2 +
+        late_store = Memory()
+        view = RowView(late_store, late_store.open("r", EMPTY), new_session())
+        given, stored_limit = Json().write_error(TimeoutError("p took longer than 1 s")), b'{"name":"p"}'
+        view.act(lambda view: [(ATTACH << 56 | view.who << 48, stored_limit)] * 2 +
                  [(FAIL << 56 | view.who << 48 | view.place + 2, given)])
-        timed_store.set_timer(Timer("r", 1, 0.0, b"E" + given))
-        service = DurableService(timed_store, 1, functions=f.functions)
+        late_store.set_timer(Timer("r", 1, 0.0, b"E" + given))
+        service = DurableService(late_store, 1, functions=f.functions)
         self.services.append(service)
-        timed = service.open("r")
-        for timed_stage in (timed[0], timed[1], timed[0].then(f.inc), timed[1].then(f.inc)):
-            self.assertEqual((type(timed_stage.exception(20)), str(timed_stage.exception())),
+        stored = service.open("r")
+        for stored_stage in (stored[0], stored[1], stored[0].then(f.inc), stored[1].then(f.inc)):
+            self.assertEqual((type(stored_stage.exception(20)), str(stored_stage.exception())),
                              (TimeoutError, "p took longer than 1 s"))
-        self.assertIn("fails 0 p with TimeoutError('p took longer than 1 s')\n", str(timed.history()))
-        self.assertIn(" times out 1 p\n", str(timed.history()))
+        self.assertIn("fails 0 p with TimeoutError('p took longer than 1 s')\n", str(stored.history()))
+        self.assertIn(" times out 1 p\n", str(stored.history()))
 
     def test_a_timer_that_fails_once(self):
         """It stays until it has fired."""
@@ -109,18 +109,18 @@ class DurableTimeouts(Case):
                     raise Unknown("away")
                 return super().append_groups(puts)
 
-            def drop_timer(self, request, timed_stage, number=0):
+            def drop_timer(self, request, stored_stage, number=0):
                 dropped.append(self.left)
-                super().drop_timer(request, timed_stage, number)
-        timed_store, dropped = Away(), []
+                super().drop_timer(request, stored_stage, number)
+        late_store, dropped = Away(), []
         with unittest.mock.patch.object(shared_service, "PATIENCE", 0):
-            service = DurableService(timed_store, 1, functions=f.functions, lease=5)
+            service = DurableService(late_store, 1, functions=f.functions, lease=5)
             self.services.append(service)
-            limited = service.request("r").promise()
+            stored_limit = service.request("r").promise()
             with self.assertLogs("cf.shared", "WARNING"):
-                timed_store.left = 3
-                self.assertIsInstance(limited.or_timeout(0.01).exception(20), TimeoutError)
-            self.until(lambda: not timed_store._timers)
+                late_store.left = 3
+                self.assertIsInstance(stored_limit.or_timeout(0.01).exception(20), TimeoutError)
+            self.until(lambda: not late_store._timers)
             self.assertEqual(dropped, [-1])
 
 
