@@ -10,10 +10,11 @@ import threading
 import unittest
 import unittest.mock
 
+from case import Case
 from cf.shared import StoreError, Unknown
 
 
-class PostgreSQL(unittest.TestCase):
+class PostgreSQL(Case):
     @unittest.skipIf(importlib.util.find_spec("psycopg2") is None, "no psycopg2")
     def test_what_a_server_of_postgresql_says(self):
         """One that can only be read for now is away; what it refuses for good is told as such, also at a commit."""
