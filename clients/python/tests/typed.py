@@ -57,34 +57,34 @@ if TYPE_CHECKING:
         return number + await service.request().supply(load, 1)  # type: ignore[arg-type]
 
     def flows(service: Service) -> None:
-        flow = Flow("order")
-        quoted = flow.supply(load, 3)
-        total = flow.promise("number").then(size).combine(quoted, lambda a, b: b * a)
-        request: Request = service.start(flow, "x", name="order 17")
-        stage: Stage[str] = request[total]
-        value: int = flow.run(1)[total].result()  # type: ignore[assignment]
+        typed_flow = Flow("order")
+        typed_quote = typed_flow.supply(load, 3)
+        typed_total = typed_flow.promise("number").then(size).combine(typed_quote, lambda a, b: b * a)
+        request: Request = service.start(typed_flow, "x", name="order 17")
+        stage: Stage[str] = request[typed_total]
+        value: int = typed_flow.run(1)[typed_total].result()  # type: ignore[assignment]
         print(stage, value)
 
-    def told(loop: asyncio.AbstractEventLoop, flow: Flow) -> None:
+    def told(loop: asyncio.AbstractEventLoop, typed_flow: Flow) -> None:
         service = Service(2, describe=describe_types)
         requests: List[Request] = [service.request("r", describe=describe_nothing),
-                                   service.start(flow, 1, describe=lambda value: type(value).__name__),
+                                   service.start(typed_flow, 1, describe=lambda value: type(value).__name__),
                                    LoopService(loop, describe=str).request(describe=repr),
-                                   flow.run(describe=describe_types)]
+                                   typed_flow.run(describe=describe_types)]
         service.request("r", describe=len)  # type: ignore[arg-type]
         service.request("r", describe="types")  # type: ignore[arg-type]
         print(requests)
 
     def ledgers(plan: cf.Plan) -> None:
-        ledger = cf.Ledger(plan, room=2)
-        told: cf.Stepped = ledger.step(3)
+        typed_ledger = cf.Ledger(plan, room=2)
+        told: cf.Stepped = typed_ledger.step(3)
         task: Optional[cf.Task] = told.task
         args: Tuple[Any, ...] = () if task is None else task.args
-        again: cf.Stepped = ledger.step(3, task, cf.Thrown(4), first=1)
+        again: cf.Stepped = typed_ledger.step(3, task, cf.Thrown(4), first=1)
         news: List[cf.StageState] = again.news
-        ledger.apply_all([1, 2])
-        ledger.restart()
-        ledger.step(3, answer="x")  # type: ignore[arg-type]
+        typed_ledger.apply_all([1, 2])
+        typed_ledger.restart()
+        typed_ledger.step(3, answer="x")  # type: ignore[arg-type]
         event: cf.Event = cf.events.FailAs(3, 0, cf.Failure.TIMED_OUT)
         late: bool = cf.Graph(plan).fail_as(0, cf.Failure.BAD_ANSWER)
         cf.Graph(plan).fail_as(0, "timeout")  # type: ignore[arg-type]

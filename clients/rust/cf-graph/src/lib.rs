@@ -4,7 +4,7 @@
 //! time, since each takes it by `&mut`. A [`Desk`] is a graph that threads share without a lock, each by a [`Caller`] of its own; closed
 //! with all of them it gives the one history of what they did. A [`Ledger`] is a graph that keeps the words of all that was done to it, and
 //! a [`Sweep`] one whose functions are called in one go. What C owes by docs/C.md is met by the types: nothing copies a handle, and dropping
-//! frees it. `src/handle.rs` says how each thing owed is met, and `tests/owed.rs` tries to break it.
+//! frees it. `src/handle.rs` says how each thing owed is met, and `tests/owners.rs` tries to break it.
 //!
 //! No owner is `Clone`:
 //!

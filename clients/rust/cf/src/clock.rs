@@ -27,8 +27,8 @@ use std::time::{Duration, Instant};
 ///     }
 /// }
 ///
-/// let request = Request::with_clock("order 17", Arc::new(Inline), Arc::new(Hasty));
-/// assert!(request.promise::<u32>().or_timeout(Duration::from_millis(20)).wait().unwrap_err().is_timeout());
+/// let reminder = Request::with_clock("reminder 2", Arc::new(Inline), Arc::new(Hasty));
+/// assert!(reminder.promise::<u32>().or_timeout(Duration::from_millis(20)).wait().unwrap_err().is_timeout());
 /// ```
 pub trait Clock: Send + Sync + 'static {
     /// How long it is since a moment of the clock's own. It never goes back. Where it panics, an event has the time of the one before it.
@@ -51,8 +51,8 @@ pub trait Clock: Send + Sync + 'static {
 ///         drop(alarm);
 ///     }
 /// }
-/// let request = cf::Request::with_clock("order 17", std::sync::Arc::new(cf::Inline), std::sync::Arc::new(Stopped));
-/// let late = request.promise::<u32>().or_timeout(std::time::Duration::from_secs(5));
+/// let reminder = cf::Request::with_clock("reminder 2", std::sync::Arc::new(cf::Inline), std::sync::Arc::new(Stopped));
+/// let late = reminder.promise::<u32>().or_timeout(std::time::Duration::from_secs(5));
 /// assert!(matches!(late.wait(), Err(cf::Error::Refused(cf::Refusal::NoClock))));
 /// ```
 pub struct Alarm {
@@ -76,8 +76,8 @@ impl Alarm {
     ///         std::thread::spawn(move || alarm.ring());
     ///     }
     /// }
-    /// let request = cf::Request::with_clock("order 17", std::sync::Arc::new(cf::Inline), std::sync::Arc::new(AtOnce));
-    /// assert!(request.promise::<u32>().or_timeout(std::time::Duration::from_secs(5)).wait().unwrap_err().is_timeout());
+    /// let reminder = cf::Request::with_clock("reminder 2", std::sync::Arc::new(cf::Inline), std::sync::Arc::new(AtOnce));
+    /// assert!(reminder.promise::<u32>().or_timeout(std::time::Duration::from_secs(5)).wait().unwrap_err().is_timeout());
     /// ```
     pub fn ring(mut self) {
         if let Some(core) = std::mem::take(&mut self.core).upgrade() {
@@ -322,8 +322,8 @@ fn stand_by() {
 /// use cf::{HandClock, Inline, Request};
 /// use std::{sync::Arc, time::Duration};
 /// let clock = HandClock::new();
-/// let request = Request::with_clock("order 17", Arc::new(Inline), Arc::new(clock.clone()));
-/// let quote = request.promise::<u32>().or_timeout(Duration::from_secs(3600)).recover(|_| 52);
+/// let reminder = Request::with_clock("reminder 2", Arc::new(Inline), Arc::new(clock.clone()));
+/// let quote = reminder.promise::<u32>().or_timeout(Duration::from_secs(3600)).recover(|_| 52);
 /// clock.turn(Duration::from_secs(3599));
 /// assert!(!quote.is_settled());
 /// clock.turn(Duration::from_secs(1));

@@ -10,9 +10,9 @@ use std::time::Duration;
 ///
 /// ```
 /// use cf::{BoxError, Inline, Request};
-/// let request = Request::new("order 17", Inline);
-/// let stage = request.try_supply(|| -> Result<u32, BoxError> { Ok("49".parse::<u32>()?) });
-/// assert_eq!(stage.wait().unwrap(), 49);
+/// let payment = Request::new("payment 4", Inline);
+/// let paid = payment.try_supply(|| -> Result<u32, BoxError> { Ok("49".parse::<u32>()?) });
+/// assert_eq!(paid.wait().unwrap(), 49);
 /// ```
 pub type BoxError = Box<dyn StdError + Send + Sync>;
 
@@ -20,8 +20,8 @@ pub type BoxError = Box<dyn StdError + Send + Sync>;
 ///
 /// ```
 /// use cf::{Error, Inline, Request};
-/// let request = Request::new("order 17", Inline);
-/// match request.try_supply(|| Err::<u32, _>("no stock")).wait() {
+/// let payment = Request::new("payment 4", Inline);
+/// match payment.try_supply(|| Err::<u32, _>("no stock")).wait() {
 ///     Err(Error::Failed(error)) => assert_eq!(error.to_string(), "no stock"),
 ///     other => panic!("{other:?}"),
 /// }
@@ -47,10 +47,10 @@ pub enum Error {
 ///
 /// ```
 /// use cf::{Inline, Refusal, Request};
-/// let request = Request::new("large", Inline);
-/// let full = (0..4096).map(|_| request.promise::<u32>()).count();
+/// let payment = Request::new("payment 4", Inline);
+/// let full = (0..4096).map(|_| payment.promise::<u32>()).count();
 /// assert_eq!(full, 4096);
-/// assert!(matches!(request.promise::<u32>().wait(), Err(cf::Error::Refused(Refusal::Full))));
+/// assert!(matches!(payment.promise::<u32>().wait(), Err(cf::Error::Refused(Refusal::Full))));
 /// ```
 #[derive(Clone, Copy, Debug, PartialEq, Eq, Hash)]
 #[non_exhaustive]
@@ -69,9 +69,9 @@ pub enum Refusal {
 ///
 /// ```
 /// use cf::{Error, Inline, Request};
-/// let request = Request::new("order 17", Inline);
-/// let stage = request.supply(|| -> u32 { std::panic::panic_any(404_u16) });
-/// let panic = match stage.wait() {
+/// let payment = Request::new("payment 4", Inline);
+/// let paid = payment.supply(|| -> u32 { std::panic::panic_any(404_u16) });
+/// let panic = match paid.wait() {
 ///     Err(Error::Panicked(panic)) => panic,
 ///     other => panic!("{other:?}"),
 /// };
@@ -97,8 +97,8 @@ impl Panic {
     ///
     /// ```
     /// # use cf::{Error, Inline, Request};
-    /// let stage = Request::new("order 17", Inline).supply(|| -> u32 { panic!("at {}", 5) });
-    /// assert!(matches!(stage.wait(), Err(Error::Panicked(panic)) if panic.message() == "at 5"));
+    /// let paid = Request::new("payment 4", Inline).supply(|| -> u32 { panic!("at {}", 5) });
+    /// assert!(matches!(paid.wait(), Err(Error::Panicked(panic)) if panic.message() == "at 5"));
     /// ```
     pub fn message(&self) -> &str {
         &self.0.message
@@ -113,8 +113,8 @@ impl Panic {
     ///
     /// ```should_panic
     /// # use cf::{Error, Inline, Request};
-    /// let stage = Request::new("order 17", Inline).supply(|| -> u32 { panic!("at {}", 5) });
-    /// if let Err(Error::Panicked(panic)) = stage.wait() {
+    /// let paid = Request::new("payment 4", Inline).supply(|| -> u32 { panic!("at {}", 5) });
+    /// if let Err(Error::Panicked(panic)) = paid.wait() {
     ///     panic.resume();
     /// }
     /// ```
@@ -135,8 +135,8 @@ impl Error {
     ///
     /// ```
     /// # use std::num::ParseIntError;
-    /// let request = cf::Request::new("parse", cf::Inline);
-    /// let error = request.try_supply(|| "x".parse::<i32>()).wait().unwrap_err();
+    /// let payment = cf::Request::new("payment 4", cf::Inline);
+    /// let error = payment.try_supply(|| "x".parse::<i32>()).wait().unwrap_err();
     /// assert_eq!(error.downcast_ref::<ParseIntError>().unwrap().to_string(), "invalid digit found in string");
     /// ```
     pub fn downcast_ref<E: StdError + 'static>(&self) -> Option<&E> {
@@ -149,8 +149,8 @@ impl Error {
     /// Whether it is an error of this type that a function returned.
     ///
     /// ```
-    /// let request = cf::Request::new("parse", cf::Inline);
-    /// assert!(request.try_supply(|| "x".parse::<i32>()).wait().unwrap_err().is::<std::num::ParseIntError>());
+    /// let payment = cf::Request::new("payment 4", cf::Inline);
+    /// assert!(payment.try_supply(|| "x".parse::<i32>()).wait().unwrap_err().is::<std::num::ParseIntError>());
     /// ```
     pub fn is<E: StdError + 'static>(&self) -> bool {
         self.downcast_ref::<E>().is_some()
@@ -159,9 +159,9 @@ impl Error {
     /// Whether it is a cancellation.
     ///
     /// ```
-    /// let stage = cf::Request::new("order 17", cf::Inline).promise::<u32>();
-    /// stage.cancel();
-    /// assert!(stage.wait().unwrap_err().is_cancelled());
+    /// let paid = cf::Request::new("payment 4", cf::Inline).promise::<u32>();
+    /// paid.cancel();
+    /// assert!(paid.wait().unwrap_err().is_cancelled());
     /// ```
     pub fn is_cancelled(&self) -> bool {
         matches!(self, Error::Cancelled)
@@ -170,8 +170,8 @@ impl Error {
     /// Whether it is a timeout.
     ///
     /// ```
-    /// let stage = cf::Request::new("order 17", cf::Inline).promise::<u32>().or_timeout(std::time::Duration::from_millis(1));
-    /// assert!(stage.wait().unwrap_err().is_timeout());
+    /// let paid = cf::Request::new("payment 4", cf::Inline).promise::<u32>().or_timeout(std::time::Duration::from_millis(1));
+    /// assert!(paid.wait().unwrap_err().is_timeout());
     /// ```
     pub fn is_timeout(&self) -> bool {
         matches!(self, Error::TimedOut(_))

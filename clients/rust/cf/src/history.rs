@@ -26,10 +26,10 @@ const LONGEST_NAME: usize = 64;
 /// direction `\u202e`. [`Request::described`](crate::Request::described) says how much is told of values and errors.
 ///
 /// ```
-/// let request = cf::Request::new("order 17", cf::Inline);
-/// let price = request.promise::<u32>().named("price");
+/// let shipment = cf::Request::new("shipment 9", cf::Inline);
+/// let price = shipment.promise::<u32>().named("price");
 /// price.complete(49).unwrap();
-/// let told: Vec<String> = request.history().to_string().lines().map(|line| line[line.len().min(14)..].to_owned()).collect();
+/// let told: Vec<String> = shipment.history().to_string().lines().map(|line| line[line.len().min(14)..].to_owned()).collect();
 /// assert_eq!(told[1..], ["caller attaches 0 price, source", "caller completes 0 price with 49", "0 price ends: 49"]);
 /// ```
 #[derive(Clone)]
@@ -96,9 +96,9 @@ impl History {
     /// The words of all events, in their one order: docs/FORMATS.md, "Words of events".
     ///
     /// ```
-    /// let request = cf::Request::new("order 17", cf::Inline);
-    /// let _ = request.promise::<u32>();
-    /// assert_eq!(request.history().words(), [7 << 56]);
+    /// let shipment = cf::Request::new("shipment 9", cf::Inline);
+    /// let _ = shipment.promise::<u32>();
+    /// assert_eq!(shipment.history().words(), [7 << 56]);
     /// ```
     pub fn words(&self) -> &[u64] {
         &self.words
@@ -107,9 +107,9 @@ impl History {
     /// When each event was done, since the request began.
     ///
     /// ```
-    /// let request = cf::Request::new("order 17", cf::Inline);
-    /// request.supply(|| 49).wait().unwrap();
-    /// assert_eq!(request.history().times().count(), 3);
+    /// let shipment = cf::Request::new("shipment 9", cf::Inline);
+    /// shipment.supply(|| 49).wait().unwrap();
+    /// assert_eq!(shipment.history().times().count(), 3);
     /// ```
     pub fn times(&self) -> impl Iterator<Item = Duration> + '_ {
         self.record.items().filter_map(|item| match item {
@@ -121,9 +121,9 @@ impl History {
     /// The names of stages, by their numbers.
     ///
     /// ```
-    /// let request = cf::Request::new("order 17", cf::Inline);
-    /// let _ = request.promise::<u32>().named("price");
-    /// assert_eq!(request.history().names(), ["price"]);
+    /// let shipment = cf::Request::new("shipment 9", cf::Inline);
+    /// let _ = shipment.promise::<u32>().named("price");
+    /// assert_eq!(shipment.history().names(), ["price"]);
     /// ```
     pub fn names(&self) -> &[String] {
         &self.names
@@ -132,9 +132,9 @@ impl History {
     /// Does all again on a ledger of its own, and says whether each reply and each outcome comes again.
     ///
     /// ```
-    /// let request = cf::Request::new("order 17", cf::Pool::new(4));
-    /// request.supply(|| 20).then(|n| n + 1).wait().unwrap();
-    /// assert!(request.history().comes_again());
+    /// let shipment = cf::Request::new("shipment 9", cf::Pool::new(4));
+    /// shipment.supply(|| 20).then(|n| n + 1).wait().unwrap();
+    /// assert!(shipment.history().comes_again());
     /// ```
     #[must_use]
     pub fn comes_again(&self) -> bool {
@@ -167,9 +167,9 @@ impl History {
     /// each finish is a step. It is of version 2, or of 3 where a stage was to time out or to have a bad answer.
     ///
     /// ```
-    /// let request = cf::Request::new("order 17", cf::Inline);
-    /// request.promise().complete(49).unwrap();
-    /// assert_eq!(request.history().script(), r#"{"cf":2,"room":1,"stages":[],"steps":[["attach",{"form":"source"}],["complete",0,0]]}"#);
+    /// let shipment = cf::Request::new("shipment 9", cf::Inline);
+    /// shipment.promise().complete(49).unwrap();
+    /// assert_eq!(shipment.history().script(), r#"{"cf":2,"room":1,"stages":[],"steps":[["attach",{"form":"source"}],["complete",0,0]]}"#);
     /// ```
     #[must_use]
     pub fn script(&self) -> String {
@@ -182,9 +182,9 @@ impl History {
     /// What `cf run` prints of the script, by what callers were told.
     ///
     /// ```
-    /// let request = cf::Request::new("order 17", cf::Inline);
-    /// request.promise().complete(49).unwrap();
-    /// assert_eq!(request.history().report(), "attached 0\ntrue\nstage 0 value 0\n");
+    /// let shipment = cf::Request::new("shipment 9", cf::Inline);
+    /// shipment.promise().complete(49).unwrap();
+    /// assert_eq!(shipment.history().report(), "attached 0\ntrue\nstage 0 value 0\n");
     /// ```
     #[must_use]
     pub fn report(&self) -> String {
@@ -206,9 +206,9 @@ impl History {
     /// `relays` are for people.
     ///
     /// ```
-    /// let request = cf::Request::new("order 17", cf::Inline);
-    /// request.promise().complete(49).unwrap();
-    /// assert!(request.history().account().contains(r#""outcomes":["value 0"]"#));
+    /// let shipment = cf::Request::new("shipment 9", cf::Inline);
+    /// shipment.promise().complete(49).unwrap();
+    /// assert!(shipment.history().account().contains(r#""outcomes":["value 0"]"#));
     /// ```
     #[must_use]
     pub fn account(&self) -> String {
@@ -238,10 +238,10 @@ impl History {
     /// `NotFound` where `cf_look` isn't on the path; else those of [`page_by`](History::page_by).
     ///
     /// ```
-    /// let request = cf::Request::new("order 17", cf::Inline);
-    /// request.promise().complete(49).unwrap();
-    /// match request.history().page() {
-    ///     Ok(page) => assert!(page.contains("order 17")),
+    /// let shipment = cf::Request::new("shipment 9", cf::Inline);
+    /// shipment.promise().complete(49).unwrap();
+    /// match shipment.history().page() {
+    ///     Ok(page) => assert!(page.contains("shipment 9")),
     ///     Err(error) => assert_eq!(error.kind(), std::io::ErrorKind::NotFound),
     /// }
     /// ```
@@ -256,8 +256,8 @@ impl History {
     /// Where the program can't be started, or ends with another status than 0: what it says then.
     ///
     /// ```
-    /// let request = cf::Request::new("order 17", cf::Inline);
-    /// assert!(request.history().page_by("/no/such/program").is_err());
+    /// let shipment = cf::Request::new("shipment 9", cf::Inline);
+    /// assert!(shipment.history().page_by("/no/such/program").is_err());
     /// ```
     pub fn page_by(&self, program: impl AsRef<OsStr>) -> io::Result<String> {
         let mut command = Command::new(program);
@@ -297,9 +297,9 @@ impl History {
     /// All in one line, for a log. A `;` of a name or a text is written `\u003b`, so that what stands between two `; ` is a line of the history.
     ///
     /// ```
-    /// let request = cf::Request::new("order 17", cf::Inline);
-    /// request.promise().complete(49).unwrap();
-    /// assert!(request.history().line().starts_with("order 17: 2 events, 1 stages; "));
+    /// let shipment = cf::Request::new("shipment 9", cf::Inline);
+    /// shipment.promise().complete(49).unwrap();
+    /// assert!(shipment.history().line().starts_with("shipment 9: 2 events, 1 stages; "));
     /// ```
     #[must_use]
     pub fn line(&self) -> String {

@@ -20,8 +20,8 @@ use std::sync::Arc;
 /// until nobody has the request or one of its stages any more.
 ///
 /// ```
-/// let request = cf::Request::new("order 17", cf::Pool::new(2));
-/// let (user, price) = (request.supply(|| "Ada"), request.supply(|| 49));
+/// let basket = cf::Request::new("basket 3", cf::Pool::new(2));
+/// let (user, price) = (basket.supply(|| "Ada"), basket.supply(|| 49));
 /// assert_eq!(user.combine(&price, |user, price| format!("{user} pays {price}")).wait().unwrap(), "Ada pays 49");
 /// ```
 #[derive(Clone)]
@@ -37,7 +37,7 @@ impl Request {
     ///
     /// ```
     /// let pool = cf::Pool::new(2);
-    /// let (one, two) = (cf::Request::new("order 17", pool.clone()), cf::Request::new("order 18", pool));
+    /// let (one, two) = (cf::Request::new("basket 3", pool.clone()), cf::Request::new("basket 4", pool));
     /// assert_eq!(one.supply(|| 1).combine(&two.supply(|| 2), |a, b| a + b).wait().unwrap(), 3);
     /// ```
     pub fn new(name: &str, spawn: impl Spawn) -> Request {
@@ -53,8 +53,8 @@ impl Request {
     /// ```
     /// use std::{sync::Arc, time::Duration};
     /// let clock = cf::HandClock::new();
-    /// let request = cf::Request::with_clock("order 17", Arc::new(cf::Inline), Arc::new(clock.clone()));
-    /// let late = request.promise::<u32>().or_timeout(Duration::from_secs(60));
+    /// let basket = cf::Request::with_clock("basket 3", Arc::new(cf::Inline), Arc::new(clock.clone()));
+    /// let late = basket.promise::<u32>().or_timeout(Duration::from_secs(60));
     /// clock.turn(Duration::from_secs(60));
     /// assert!(late.wait().unwrap_err().is_timeout());
     /// ```
@@ -71,8 +71,8 @@ impl Request {
     ///
     /// ```
     /// use std::sync::Arc;
-    /// let request = cf::Request::try_new("order 17", Arc::new(cf::Inline), Arc::new(cf::SystemClock), 500)?;
-    /// assert_eq!(request.supply(|| 4).wait().unwrap(), 4);
+    /// let basket = cf::Request::try_new("basket 3", Arc::new(cf::Inline), Arc::new(cf::SystemClock), 500)?;
+    /// assert_eq!(basket.supply(|| 4).wait().unwrap(), 4);
     /// # Ok::<_, cf::Refusal>(())
     /// ```
     pub fn try_new(name: &str, spawn: Arc<dyn Spawn>, clock: Arc<dyn Clock>, room: u16) -> Result<Request, Refusal> {
@@ -82,7 +82,7 @@ impl Request {
     /// Its name.
     ///
     /// ```
-    /// assert_eq!(cf::Request::new("order 17", cf::Inline).name(), "order 17");
+    /// assert_eq!(cf::Request::new("basket 3", cf::Inline).name(), "basket 3");
     /// ```
     pub fn name(&self) -> &str {
         &self.0.name
@@ -92,9 +92,9 @@ impl Request {
     /// before stays as it is.
     ///
     /// ```
-    /// let request = cf::Request::new("login", cf::Inline).described(cf::Describe::Nothing);
-    /// request.supply(|| "Bearer eyJhbGciOi").wait().unwrap();
-    /// assert!(!request.history().to_string().contains("Bearer"));
+    /// let basket = cf::Request::new("login", cf::Inline).described(cf::Describe::Nothing);
+    /// basket.supply(|| "Bearer eyJhbGciOi").wait().unwrap();
+    /// assert!(!basket.history().to_string().contains("Bearer"));
     /// ```
     pub fn described(self, describe: Describe) -> Request {
         let mut inner = self.0.lock();
@@ -107,8 +107,8 @@ impl Request {
     /// What the function gives.
     ///
     /// ```
-    /// let request = cf::Request::new("order 17", cf::Inline);
-    /// assert_eq!(request.supply(|| 49).wait().unwrap(), 49);
+    /// let basket = cf::Request::new("basket 3", cf::Inline);
+    /// assert_eq!(basket.supply(|| 49).wait().unwrap(), 49);
     /// ```
     #[track_caller]
     pub fn supply<U, F>(&self, f: F) -> Stage<U>
@@ -122,8 +122,8 @@ impl Request {
     /// What the function gives, or its error.
     ///
     /// ```
-    /// let request = cf::Request::new("order 17", cf::Inline);
-    /// assert_eq!(request.try_supply(|| "49".parse::<u32>()).wait().unwrap(), 49);
+    /// let basket = cf::Request::new("basket 3", cf::Inline);
+    /// assert_eq!(basket.try_supply(|| "49".parse::<u32>()).wait().unwrap(), 49);
     /// ```
     #[track_caller]
     pub fn try_supply<U, E, F>(&self, f: F) -> Stage<U>
@@ -139,8 +139,8 @@ impl Request {
     /// What the future gives, or its error. It is polled where functions run; a stage that is cancelled or times out drops it.
     ///
     /// ```
-    /// let request = cf::Request::new("order 17", cf::Inline);
-    /// assert_eq!(request.spawn(async { Ok::<_, cf::Error>(49) }).wait().unwrap(), 49);
+    /// let basket = cf::Request::new("basket 3", cf::Inline);
+    /// assert_eq!(basket.spawn(async { Ok::<_, cf::Error>(49) }).wait().unwrap(), 49);
     /// ```
     #[track_caller]
     pub fn spawn<U, E, F>(&self, future: F) -> Stage<U>
@@ -155,8 +155,8 @@ impl Request {
     /// What somebody completes it with, who has a clone of it.
     ///
     /// ```
-    /// let request = cf::Request::new("order 17", cf::Inline);
-    /// let price = request.promise();
+    /// let basket = cf::Request::new("basket 3", cf::Inline);
+    /// let price = basket.promise();
     /// let by = price.clone();
     /// std::thread::spawn(move || by.complete(49));
     /// assert_eq!(price.wait().unwrap(), 49);
@@ -170,7 +170,7 @@ impl Request {
     /// adopt is let go with their own stage.
     ///
     /// ```
-    /// let (one, two) = (cf::Request::new("order 17", cf::Inline), cf::Request::new("order 18", cf::Inline));
+    /// let (one, two) = (cf::Request::new("basket 3", cf::Inline), cf::Request::new("basket 4", cf::Inline));
     /// assert_eq!(one.adopt(&two.supply(|| 49)).wait().unwrap(), 49);
     /// ```
     pub fn adopt<T: Send + Sync + 'static>(&self, stage: &Stage<T>) -> Stage<T> {
@@ -188,9 +188,9 @@ impl Request {
     /// `()`, once all have values; else the error of the first in this order that has one, once all are settled. n stages take n - 1.
     ///
     /// ```
-    /// let request = cf::Request::new("order 17", cf::Inline);
-    /// let (user, price) = (request.supply(|| "Ada"), request.supply(|| 49));
-    /// request.all_of([&user as &dyn cf::AnyStage, &price]).wait().unwrap();
+    /// let basket = cf::Request::new("basket 3", cf::Inline);
+    /// let (user, price) = (basket.supply(|| "Ada"), basket.supply(|| 49));
+    /// basket.all_of([&user as &dyn cf::AnyStage, &price]).wait().unwrap();
     /// ```
     pub fn all_of<'a>(&self, stages: impl IntoIterator<Item = &'a dyn AnyStage>) -> Stage<()> {
         self.tree(Form::AllOf, stages.into_iter().map(|stage| stage.adopted(self)).collect(), Made::as_a(|| "all of"))
@@ -199,9 +199,9 @@ impl Request {
     /// What the first has that is settled, be it an error. Of no stages it is never settled. n stages take n - 1.
     ///
     /// ```
-    /// let request = cf::Request::new("order 17", cf::Inline);
-    /// let quotes = [request.promise(), request.supply(|| 49), request.promise()];
-    /// assert_eq!(request.first_of(&quotes).wait().unwrap(), 49);
+    /// let basket = cf::Request::new("basket 3", cf::Inline);
+    /// let quotes = [basket.promise(), basket.supply(|| 49), basket.promise()];
+    /// assert_eq!(basket.first_of(&quotes).wait().unwrap(), 49);
     /// ```
     pub fn first_of<'a, T: Send + Sync + 'static>(&self, stages: impl IntoIterator<Item = &'a Stage<T>>) -> Stage<T> {
         self.tree(Form::AnyOf, stages.into_iter().map(|stage| stage.adopted(self)).collect(), Made::as_a(|| "first of"))
@@ -210,9 +210,9 @@ impl Request {
     /// The values of all, in this order; else as [`all_of`](Request::all_of). n stages take n.
     ///
     /// ```
-    /// let request = cf::Request::new("order 17", cf::Inline);
-    /// let quotes = [request.supply(|| 52), request.supply(|| 49)];
-    /// assert_eq!(request.gather(&quotes).wait().unwrap(), [52, 49]);
+    /// let basket = cf::Request::new("basket 3", cf::Inline);
+    /// let quotes = [basket.supply(|| 52), basket.supply(|| 49)];
+    /// assert_eq!(basket.gather(&quotes).wait().unwrap(), [52, 49]);
     /// ```
     pub fn gather<'a, T: Clone + Send + Sync + 'static>(&self, stages: impl IntoIterator<Item = &'a Stage<T>>) -> Stage<Vec<T>> {
         let stages: Vec<&Stage<T>> = stages.into_iter().collect();
@@ -235,9 +235,9 @@ impl Request {
     /// Cancels all that isn't settled, the last stage first.
     ///
     /// ```
-    /// let request = cf::Request::new("order 17", cf::Inline);
-    /// let price = request.promise::<u32>();
-    /// request.cancel_all();
+    /// let basket = cf::Request::new("basket 3", cf::Inline);
+    /// let price = basket.promise::<u32>();
+    /// basket.cancel_all();
     /// assert!(price.wait().unwrap_err().is_cancelled());
     /// ```
     pub fn cancel_all(&self) {
@@ -247,9 +247,9 @@ impl Request {
     /// All that happened until now. It takes some 20 ns an event, and telling it 1 µs.
     ///
     /// ```
-    /// let request = cf::Request::new("order 17", cf::Inline);
-    /// request.supply(|| 49).named("price").wait().unwrap();
-    /// assert!(request.history().to_string().contains("0 price ends: 49"));
+    /// let basket = cf::Request::new("basket 3", cf::Inline);
+    /// basket.supply(|| 49).named("price").wait().unwrap();
+    /// assert!(basket.history().to_string().contains("0 price ends: 49"));
     /// ```
     #[must_use]
     pub fn history(&self) -> History {

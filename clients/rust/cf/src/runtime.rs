@@ -11,8 +11,8 @@ use tokio::time::Instant;
 /// ```
 /// # let runtime = tokio::runtime::Runtime::new().unwrap();
 /// # runtime.block_on(async {
-/// let request = cf::Request::new("order 17", cf::Blocking::new(tokio::runtime::Handle::current(), 8));
-/// assert_eq!(request.supply(|| 20).then(|n| n + 1).await.unwrap(), 21);
+/// let download = cf::Request::new("download 6", cf::Blocking::new(tokio::runtime::Handle::current(), 8));
+/// assert_eq!(download.supply(|| 20).then(|n| n + 1).await.unwrap(), 21);
 /// # });
 /// ```
 #[derive(Clone, Debug)]
@@ -45,8 +45,8 @@ impl Spawn for Blocking {
 /// ```
 /// # let runtime = tokio::runtime::Runtime::new().unwrap();
 /// # runtime.block_on(async {
-/// let request = cf::Request::new("order 17", cf::Tasks::new(tokio::runtime::Handle::current(), 8));
-/// let stage = request.spawn(async { Ok::<_, cf::Error>(20) }).then(|n| n + 1);
+/// let download = cf::Request::new("download 6", cf::Tasks::new(tokio::runtime::Handle::current(), 8));
+/// let stage = download.spawn(async { Ok::<_, cf::Error>(20) }).then(|n| n + 1);
 /// assert_eq!(stage.await.unwrap(), 21);
 /// # });
 /// ```
@@ -85,8 +85,8 @@ impl Spawn for Tasks {
 /// # runtime.block_on(async {
 /// use std::{sync::Arc, time::Duration};
 /// let handle = tokio::runtime::Handle::current();
-/// let request = cf::Request::with_clock("order 17", Arc::new(cf::Tasks::new(handle.clone(), 8)), Arc::new(cf::TokioClock::new(handle)));
-/// assert!(request.promise::<u32>().or_timeout(Duration::from_millis(5)).await.unwrap_err().is_timeout());
+/// let download = cf::Request::with_clock("download 6", Arc::new(cf::Tasks::new(handle.clone(), 8)), Arc::new(cf::TokioClock::new(handle)));
+/// assert!(download.promise::<u32>().or_timeout(Duration::from_millis(5)).await.unwrap_err().is_timeout());
 /// # });
 /// ```
 #[derive(Clone, Debug)]

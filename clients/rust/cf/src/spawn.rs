@@ -69,7 +69,7 @@ impl Job {
     ///         Ok(())
     ///     }
     /// }
-    /// assert_eq!(cf::Request::new("order 17", Threads).supply(|| 4).wait().unwrap(), 4);
+    /// assert_eq!(cf::Request::new("import 5", Threads).supply(|| 4).wait().unwrap(), 4);
     /// ```
     pub fn run(mut self) {
         let turn = self.0.take();
@@ -106,8 +106,8 @@ impl fmt::Debug for Job {
 ///     }
 /// }
 ///
-/// let request = Request::new("order 17", Threads);
-/// assert_eq!(request.supply(|| 20).then(|n| n + 1).wait().unwrap(), 21);
+/// let import = Request::new("import 5", Threads);
+/// assert_eq!(import.supply(|| 20).then(|n| n + 1).wait().unwrap(), 21);
 /// ```
 pub trait Spawn: Send + Sync + 'static {
     /// Runs the job soon, on any thread, or gives it back where it takes no more, whereupon what is ready fails with
@@ -348,9 +348,9 @@ pub(crate) fn in_turn<T>(row: &'static LocalKey<Row<T>>, first: T, act: impl Fn(
 /// is called under a lock that its poll takes, too, wants another [`Spawn`].
 ///
 /// ```
-/// let request = cf::Request::new("order 17", cf::Inline);
+/// let import = cf::Request::new("import 5", cf::Inline);
 /// let here = std::thread::current().id();
-/// assert_eq!(request.supply(|| std::thread::current().id()).wait().unwrap(), here);
+/// assert_eq!(import.supply(|| std::thread::current().id()).wait().unwrap(), here);
 /// ```
 #[derive(Clone, Copy, Debug, Default)]
 pub struct Inline;
@@ -372,8 +372,8 @@ impl Spawn for Inline {
 ///
 /// ```
 /// let pool = cf::Pool::new(4);
-/// let request = cf::Request::new("order 17", pool.clone());
-/// assert_eq!(request.supply(|| 20).then(|n| n + 1).wait().unwrap(), 21);
+/// let import = cf::Request::new("import 5", pool.clone());
+/// assert_eq!(import.supply(|| 20).then(|n| n + 1).wait().unwrap(), 21);
 /// ```
 #[derive(Clone, Debug)]
 pub struct Pool(Arc<Threads>);
@@ -540,8 +540,8 @@ impl Drop for Threads {
 ///
 /// ```
 /// let pool = std::sync::Arc::new(rayon::ThreadPoolBuilder::new().num_threads(2).build().unwrap());
-/// let request = cf::Request::new("order 17", pool);
-/// assert_eq!(request.supply(|| 20).then(|n| n + 1).wait().unwrap(), 21);
+/// let import = cf::Request::new("import 5", pool);
+/// assert_eq!(import.supply(|| 20).then(|n| n + 1).wait().unwrap(), 21);
 /// ```
 #[cfg(feature = "rayon")]
 impl Spawn for rayon::ThreadPool {

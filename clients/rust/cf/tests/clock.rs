@@ -28,8 +28,8 @@ fn goes_on() {
 #[test]
 fn an_earlier_timeout_wakes_the_clock() {
     let _alone = alone();
-    let request = Request::new("later", Inline);
-    let later = request.promise::<i32>().or_timeout(HOUR);
+    let clocked = Request::new("later", Inline);
+    let later = clocked.promise::<i32>().or_timeout(HOUR);
     for _ in 0..5 {
         // By then the clock waits for the later one.
         thread::sleep(SHORT);
@@ -79,34 +79,34 @@ impl Wake for Panics {
     }
 }
 
-fn panics_at_its_end(stage: &mut cf::Stage<i32>) {
-    assert!(Pin::new(stage).poll(&mut Context::from_waker(&Waker::from(Arc::new(Panics)))).is_pending());
+fn panics_at_its_end(clocked_stage: &mut cf::Stage<i32>) {
+    assert!(Pin::new(clocked_stage).poll(&mut Context::from_waker(&Waker::from(Arc::new(Panics)))).is_pending());
 }
 
 #[test]
 fn a_waker_that_panics_ends_neither_the_clock_nor_a_pool() {
     let _alone = alone();
-    let request = Request::new("panics", Pool::new(1));
-    let (mut first, mut second) = (request.promise::<i32>(), request.promise::<i32>());
+    let clocked = Request::new("panics", Pool::new(1));
+    let (mut first, mut second) = (clocked.promise::<i32>(), clocked.promise::<i32>());
     panics_at_its_end(&mut first);
     panics_at_its_end(&mut second);
     let _ = (first.clone().or_timeout(SHORT), second.clone().or_timeout(SHORT));
     assert!(first.wait().is_err() && second.wait().is_err());
     goes_on();
-    let mut behind = request.supply(|| thread::sleep(SHORT)).then(|()| 1);
+    let mut behind = clocked.supply(|| thread::sleep(SHORT)).then(|()| 1);
     panics_at_its_end(&mut behind);
     assert_eq!(behind.wait().unwrap(), 1);
-    assert_eq!(request.supply(|| 3).wait_timeout(LONG).expect("the pool stands").unwrap(), 3);
+    assert_eq!(clocked.supply(|| 3).wait_timeout(LONG).expect("the pool stands").unwrap(), 3);
 }
 
 #[test]
 fn a_timeout_that_never_comes_leaves_the_stage() {
     let _alone = alone();
-    let request = Request::new("never", Inline);
-    let stage = request.promise::<i32>().or_timeout(Duration::MAX).complete_on_timeout(4, Duration::MAX);
+    let clocked = Request::new("never", Inline);
+    let clocked_stage = clocked.promise::<i32>().or_timeout(Duration::MAX).complete_on_timeout(4, Duration::MAX);
     goes_on();
-    assert!(!stage.is_settled());
-    assert!(stage.complete(1).is_ok());
+    assert!(!clocked_stage.is_settled());
+    assert!(clocked_stage.complete(1).is_ok());
 }
 
 /// A value that a stage would get later goes with the stage's end, and doesn't wait for the alarm.
@@ -114,8 +114,8 @@ fn a_timeout_that_never_comes_leaves_the_stage() {
 fn a_settled_stage_keeps_no_value_for_later() {
     let _alone = alone();
     let alive = Arc::new(());
-    let request = Request::new("later", Inline);
-    let [first, second, third] = [(); 3].map(|()| request.promise::<Arc<()>>().complete_on_timeout(Arc::clone(&alive), HOUR));
+    let clocked = Request::new("later", Inline);
+    let [first, second, third] = [(); 3].map(|()| clocked.promise::<Arc<()>>().complete_on_timeout(Arc::clone(&alive), HOUR));
     assert_eq!(Arc::strong_count(&alive), 4);
     assert!(first.cancel());
     assert_eq!(Arc::strong_count(&alive), 3);
@@ -131,7 +131,7 @@ fn a_settled_stage_keeps_no_value_for_later() {
     };
     // The one that the stage has, and the third's; and then none.
     sinks_to(3);
-    drop((request, first, second, third));
+    drop((clocked, first, second, third));
     sinks_to(1);
     let late = Request::new("late", Inline).promise::<i32>();
     late.cancel();
@@ -156,17 +156,17 @@ fn an_alarm_that_is_dropped_lets_its_stage_fail() {
     let _alone = alone();
     for keeps in [false, true] {
         let clock = Drops(Arc::default(), keeps);
-        let request = Request::with_clock("dropped", Arc::new(Inline), Arc::new(clock.clone()));
-        let stage = request.promise::<i32>().or_timeout(HOUR);
-        let given = request.promise::<i32>().complete_on_timeout(1, HOUR);
-        let settled = request.promise::<i32>().or_timeout(HOUR);
+        let clocked = Request::with_clock("dropped", Arc::new(Inline), Arc::new(clock.clone()));
+        let clocked_stage = clocked.promise::<i32>().or_timeout(HOUR);
+        let given = clocked.promise::<i32>().complete_on_timeout(1, HOUR);
+        let settled = clocked.promise::<i32>().or_timeout(HOUR);
         let _ = settled.complete(2);
-        let behind = stage.clone().recover(|_| 3);
-        assert_eq!(stage.is_settled(), !keeps);
+        let behind = clocked_stage.clone().recover(|_| 3);
+        assert_eq!(clocked_stage.is_settled(), !keeps);
         clock.0.lock().unwrap().drain(..).for_each(drop);
-        assert!(matches!(stage.wait(), Err(Error::Refused(Refusal::NoClock))));
+        assert!(matches!(clocked_stage.wait(), Err(Error::Refused(Refusal::NoClock))));
         assert!(matches!(given.wait(), Err(Error::Refused(Refusal::NoClock))));
         assert_eq!((settled.wait().is_ok(), behind.wait().unwrap()), (keeps, 3));
-        assert!(request.history().comes_again());
+        assert!(clocked.history().comes_again());
     }
 }

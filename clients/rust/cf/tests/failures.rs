@@ -9,26 +9,26 @@ const fn seconds(count: u64) -> Duration {
     Duration::from_secs(count)
 }
 
-fn request(clock: &HandClock) -> Request {
+fn failing(clock: &HandClock) -> Request {
     Request::with_clock("failures", Arc::new(Inline), Arc::new(clock.clone()))
 }
 
 /// What a history tells, without its head and its times.
-fn told(request: &Request) -> Vec<String> {
-    request.history().to_string().lines().skip(1).map(|line| line[14..].to_owned()).collect()
+fn told(failing: &Request) -> Vec<String> {
+    failing.history().to_string().lines().skip(1).map(|line| line[14..].to_owned()).collect()
 }
 
 /// How many seconds the stage had whose time ran out, and its number.
-fn timed_out<T: Clone + Debug + Send + Sync + 'static>(stage: &Stage<T>) -> (u64, Option<u16>) {
-    match stage.peek() {
-        Some(Err(Error::TimedOut(wait))) => (wait.as_secs(), stage.blamed()),
+fn timed_out<T: Clone + Debug + Send + Sync + 'static>(failed_stage: &Stage<T>) -> (u64, Option<u16>) {
+    match failed_stage.peek() {
+        Some(Err(Error::TimedOut(wait))) => (wait.as_secs(), failed_stage.blamed()),
         other => panic!("{other:?}"),
     }
 }
 
 /// The script does all again, by the library alone.
-fn is_done_again(request: &Request) {
-    let history = request.history();
+fn is_done_again(failing: &Request) {
+    let history = failing.history();
     assert_eq!(cf_graph::run_script(history.script().as_bytes()), Ok(history.report()));
     assert!(history.comes_again());
 }
@@ -36,17 +36,17 @@ fn is_done_again(request: &Request) {
 #[test]
 fn a_time_out_is_told_as_one() {
     let clock = HandClock::new();
-    let request = request(&clock);
-    let price = request.promise::<i32>().named("price").or_timeout(seconds(5)).or_timeout(seconds(6));
+    let failing = failing(&clock);
+    let price = failing.promise::<i32>().named("price").or_timeout(seconds(5)).or_timeout(seconds(6));
     let behind = price.clone().then(|n| n + 1).named("behind");
     clock.turn(seconds(6));
     assert!(matches!(price.wait(), Err(Error::TimedOut(wait)) if wait == seconds(5)));
     assert_eq!((timed_out(&price), timed_out(&behind)), ((5, Some(0)), (5, Some(0))));
     assert_eq!(
-        told(&request)[2..],
+        told(&failing)[2..],
         ["clock times out 0 price", "0 price ends: timeout", "1 behind ends: timeout, passed on", "clock times out 0 price, too late",]
     );
-    let history = request.history();
+    let history = failing.history();
     assert_eq!(history.words()[2..], [8 << 56 | 1 << 48; 2]);
     let attaches = r#"["attach",{"form":"source"}],["attach",{"form":"apply","of":[0],"fn":{"const":1}}]"#;
     let steps = r#"["failAs",0,"timeout"],["failAs",0,"timeout"]"#;
@@ -55,26 +55,26 @@ fn a_time_out_is_told_as_one() {
     let account = history.account();
     assert!(account.contains(r#"["did",3,"576742227280134144","true"],["outcome",3,0,"fault timeout raw"]"#), "{account}");
     assert!(account.contains(r#""errors":["timed out after 5s",""]"#), "{account}");
-    is_done_again(&request);
-    let request = request.described(Describe::Nothing);
-    assert_eq!(told(&request)[3], "0 price ends: timeout");
-    assert!(request.history().account().contains(r#""errors":["-",""]"#));
+    is_done_again(&failing);
+    let failing = failing.described(Describe::Nothing);
+    assert_eq!(told(&failing)[3], "0 price ends: timeout");
+    assert!(failing.history().account().contains(r#""errors":["-",""]"#));
 }
 
 /// A caller may say so, too.
 #[test]
 fn a_bad_answer_is_told_as_one() {
-    let request = request(&HandClock::new());
-    let price = request.promise::<i32>().named("price");
+    let failing = failing(&HandClock::new());
+    let price = failing.promise::<i32>().named("price");
     let behind = price.clone().then(|n| n + 1).named("behind");
     assert!(price.fail(Error::BadAnswer) && !price.fail(Error::BadAnswer) && !price.fail(Error::TimedOut(seconds(3))));
     assert!(matches!((price.wait(), behind.wait()), (Err(Error::BadAnswer), Err(Error::BadAnswer))));
     assert_eq!((price.blamed(), behind.blamed()), (Some(0), Some(0)));
-    let slow = request.promise::<i32>().named("slow");
+    let slow = failing.promise::<i32>().named("slow");
     assert!(slow.fail(Error::TimedOut(seconds(3))));
     assert_eq!(timed_out(&slow), (3, Some(2)));
     assert_eq!(
-        told(&request)[2..],
+        told(&failing)[2..],
         [
             "caller fails 0 price with a bad answer",
             "0 price ends: a bad answer",
@@ -86,18 +86,18 @@ fn a_bad_answer_is_told_as_one() {
             "2 slow ends: timeout",
         ]
     );
-    let script = request.history().script();
+    let script = failing.history().script();
     assert!(script.starts_with(r#"{"cf":3,"room":3,"#) && script.contains(r#"["failAs",0,"badanswer"],["failAs",0,"timeout"]"#), "{script}");
-    is_done_again(&request);
+    is_done_again(&failing);
 }
 
 /// A stage that waits for one of a higher number of its request, and that one, which it was given before or after it ended.
-fn composed(request: &Request, is_late: bool, ends: impl FnOnce(&Stage<i32>)) -> Stage<i32> {
-    let gate = request.promise::<i32>();
+fn composed(failing: &Request, is_late: bool, ends: impl FnOnce(&Stage<i32>)) -> Stage<i32> {
+    let gate = failing.promise::<i32>();
     let given: Arc<Mutex<Option<Stage<i32>>>> = Arc::default();
     let gives = Arc::clone(&given);
     let composed = gate.clone().compose(move |_| gives.lock().unwrap().take().unwrap());
-    let later = request.promise::<i32>().named("later");
+    let later = failing.promise::<i32>().named("later");
     *given.lock().unwrap() = Some(later.clone());
     if is_late {
         ends(&later);
@@ -118,22 +118,22 @@ fn relays_end_as_what_they_stand_for() {
         ] {
             let text = error.to_string();
             // Of the same request: 0 its gate, 1 the relay, 2 what waits, 3 the stage for which the relay stands.
-            let own = request(&HandClock::new());
+            let own = failing(&HandClock::new());
             let composed = composed(&own, is_late, |later| assert!(later.fail(error.clone())));
             assert_eq!((composed.wait().unwrap_err().to_string(), composed.blamed()), (text.clone(), Some(3)));
             assert!(own.history().report().contains(&format!("stage 1 {raw}\n")));
             // Of another one.
-            let (slow, other) = (request(&HandClock::new()).promise::<i32>(), request(&HandClock::new()));
+            let (slow, other) = (failing(&HandClock::new()).promise::<i32>(), failing(&HandClock::new()));
             let relay = if is_late { None } else { Some(other.adopt(&slow)) };
             assert!(slow.fail(error));
             let relay = relay.unwrap_or_else(|| other.adopt(&slow));
             assert_eq!((relay.wait().unwrap_err().to_string(), relay.blamed()), (text, Some(0)));
             assert!(other.history().report().ends_with(&format!("stage 0 {raw}\n")));
-            for request in [own, other] {
-                let told = told(&request);
+            for failing in [own, other] {
+                let told = told(&failing);
                 let at = told.iter().position(|line| line.starts_with(ends[0]) && line.contains(" relay of ")).expect("it says so");
                 assert!(told[at + 1].ends_with(ends[1]), "{told:?}");
-                is_done_again(&request);
+                is_done_again(&failing);
             }
         }
     }
@@ -143,19 +143,19 @@ fn relays_end_as_what_they_stand_for() {
 #[test]
 fn each_has_the_time_that_ran_out() {
     let clock = HandClock::new();
-    let request = request(&clock);
-    let (a, b, never) = (request.promise::<i32>(), request.promise::<i32>(), request.promise::<i32>());
+    let failing = failing(&clock);
+    let (a, b, never) = (failing.promise::<i32>(), failing.promise::<i32>(), failing.promise::<i32>());
     let (five, three) = ((5, Some(0)), (3, Some(1)));
     let (one, two) = (a.clone().or_timeout(seconds(5)), b.clone().or_timeout(seconds(3)));
     let both = one.clone().combine(&two, |a, b| a + b);
     let last = two.clone().combine(&one, |a, b| a + b).then(|n| n + 1);
     let first = one.clone().either(&two, |n| *n);
-    let all = request.all_of([&never.clone().recover(|_| 1) as &dyn cf::AnyStage, &two, &one]);
-    let any = request.first_of([&never, &one, &two]);
+    let all = failing.all_of([&never.clone().recover(|_| 1) as &dyn cf::AnyStage, &two, &one]);
+    let any = failing.first_of([&never, &one, &two]);
     let own = one.clone().combine(&never, |a, b| a + b).or_timeout(seconds(7));
     let handled = one.clone().inspect(|_| panic!("left aside"));
     let links = two.clone().recover_compose(move |_| a);
-    let composed = request.supply(|| 1).compose(move |_| b);
+    let composed = failing.supply(|| 1).compose(move |_| b);
     let other = request_of_another(&clock, &two);
     clock.turn(seconds(7));
     assert_eq!((timed_out(&both), timed_out(&last), timed_out(&first), timed_out(&any)), (five, three, three, three));
@@ -163,16 +163,16 @@ fn each_has_the_time_that_ran_out() {
     assert_eq!(timed_out(&other), (3, Some(0)));
     // What is attached behind them then.
     assert_eq!((timed_out(&last.clone().then(|n| n + 1)), timed_out(&one.clone().combine(&two, |a, b| a + b))), (three, five));
-    assert_eq!((timed_out(&two.either(&one, |n| *n)), timed_out(&request.gather([&one, &last]))), (three, five));
+    assert_eq!((timed_out(&two.either(&one, |n| *n)), timed_out(&failing.gather([&one, &last]))), (three, five));
     assert!(!all.is_settled());
     assert!(never.fail(Error::BadAnswer));
     assert_eq!(timed_out(&all), three);
-    is_done_again(&request);
+    is_done_again(&failing);
 }
 
 /// What hangs on a stage of another request.
-fn request_of_another(clock: &HandClock, stage: &Stage<i32>) -> Stage<i32> {
-    request(clock).adopt(stage).then(|n| n + 1)
+fn request_of_another(clock: &HandClock, failed_stage: &Stage<i32>) -> Stage<i32> {
+    failing(clock).adopt(failed_stage).then(|n| n + 1)
 }
 
 /// Jobs that wait until a test runs them.
@@ -190,15 +190,15 @@ impl Spawn for Later {
 #[test]
 fn each_function_is_called_with_its_own() {
     let (clock, later) = (HandClock::new(), Later::default());
-    let request = Request::with_clock("functions", Arc::new(later.clone()), Arc::new(clock.clone()));
+    let failing = Request::with_clock("functions", Arc::new(later.clone()), Arc::new(clock.clone()));
     let behind: Vec<Stage<String>> = [5, 3, 4]
         .into_iter()
         .map(|wait| {
-            let slow = request.promise::<i32>().or_timeout(seconds(wait));
+            let slow = failing.promise::<i32>().or_timeout(seconds(wait));
             slow.then(|n| n + 1).handle(|told| told.map_or_else(Error::to_string, |n| n.to_string()))
         })
         .collect();
-    let bad = request.promise::<i32>();
+    let bad = failing.promise::<i32>();
     let told = bad.clone().handle(|told| told.map_or_else(Error::to_string, |n| n.to_string()));
     assert!(bad.fail(Error::BadAnswer));
     clock.turn(seconds(5));
@@ -209,18 +209,18 @@ fn each_function_is_called_with_its_own() {
             None => break,
         }
     }
-    let texts: Vec<String> = behind.iter().map(|stage| stage.peek().unwrap().unwrap()).collect();
+    let texts: Vec<String> = behind.iter().map(|failed_stage| failed_stage.peek().unwrap().unwrap()).collect();
     assert_eq!(texts, ["timed out after 5s", "timed out after 3s", "timed out after 4s"]);
     assert_eq!(told.peek().unwrap().unwrap(), Error::BadAnswer.to_string());
-    is_done_again(&request);
+    is_done_again(&failing);
 }
 
 /// A row of stages all of which end at once.
 #[test]
 fn a_long_row_times_out() {
     let clock = HandClock::new();
-    let request = request(&clock);
-    let first = request.promise::<i32>();
+    let failing = failing(&clock);
+    let first = failing.promise::<i32>();
     let mut last = first.clone();
     for _ in 1..4096 {
         last = last.then(|n| n + 1);

@@ -16,17 +16,17 @@ const ODD: &str = "a\n    0.000 ms  caller completes 9 b\r\u{85}\u{2028}\u{2029}
 
 /// A request all of whose texts are this one: its own name and a stage's, errors, a panic, names of relays, and what is said of a value.
 fn with_texts(text: &'static str) -> Request {
-    let request = Request::new(text, Inline);
+    let recorded = Request::new(text, Inline);
     let other = Request::new(text, Inline);
-    let named = request.supply(move || text).named(text);
-    let failed = request.try_supply(move || Err::<i32, _>(text)).named(String::from(text));
-    let panicked: Stage<i32> = request.supply(move || panic_any(text));
-    let relayed = request.adopt(&other.supply(move || String::from(text)));
+    let named = recorded.supply(move || text).named(text);
+    let failed = recorded.try_supply(move || Err::<i32, _>(text)).named(String::from(text));
+    let panicked: Stage<i32> = recorded.supply(move || panic_any(text));
+    let relayed = recorded.adopt(&other.supply(move || String::from(text)));
     let composed = named.compose(move |_| other.supply(move || text.to_owned()));
     let both = failed.handle(move |error| error.is_err()).combine(&relayed, move |_, _| vec![text.to_owned()]);
     panicked.fail(text);
-    assert!(request.promise::<i32>().fail(text) && composed.wait().is_ok() && both.wait().is_ok());
-    request
+    assert!(recorded.promise::<i32>().fail(text) && composed.wait().is_ok() && both.wait().is_ok());
+    recorded
 }
 
 fn has_odd(text: &str) -> bool {
@@ -59,10 +59,10 @@ fn no_text_looks_like_an_event() {
 /// What reads well stays: blanks, a backslash, letters of all scripts. A `;` is one in a line of its own.
 #[test]
 fn what_reads_well_stays() {
-    let request = Request::new("C:\\orders;  17", Inline);
-    let price = request.promise::<i32>().named("prix en €;  日本");
+    let recorded = Request::new("C:\\orders;  17", Inline);
+    let price = recorded.promise::<i32>().named("prix en €;  日本");
     assert!(price.fail("no  stock; \\n"));
-    let history = request.history();
+    let history = recorded.history();
     let told = history.to_string();
     assert!(told.starts_with("C:\\orders;  17: 2 events, 1 stages\n"), "{told}");
     assert!(told.contains("caller fails 0 prix en €;  日本 with no  stock; \\n\n"), "{told}");
@@ -90,18 +90,18 @@ struct Card(#[allow(dead_code)] String);
 
 /// A request whose values and errors hold a secret, described so.
 fn secret(describe: Option<Describe>) -> (Request, Stage<i32>) {
-    let mut request = Request::new("login", Inline);
+    let mut recorded = Request::new("login", Inline);
     if let Some(describe) = describe {
-        request = request.described(describe);
+        recorded = recorded.described(describe);
     }
-    let token = request.supply(|| String::from("secret token")).named("token");
+    let token = recorded.supply(|| String::from("secret token")).named("token");
     let card = token.clone().then(|token| Card(token.clone())).named("card");
     card.clone().then(|_| ()).wait().unwrap();
     drop(card.then(|_| vec![1_u8, 2, 3]).named("bytes"));
     let refused = token.and_then(|_| Err::<i32, _>(Declined("secret card"))).named("refused");
-    let panicked = request.supply(|| -> i32 { panic!("secret {}", 5) }).named("panicked");
+    let panicked = recorded.supply(|| -> i32 { panic!("secret {}", 5) }).named("panicked");
     assert!(refused.clone().then(|n| n + 1).wait().is_err() && panicked.wait().is_err());
-    (request, refused)
+    (recorded, refused)
 }
 
 /// All texts of a history.
@@ -111,7 +111,7 @@ fn texts(history: &History) -> Vec<String> {
 
 fn ends(history: &History) -> Vec<String> {
     let told = history.to_string();
-    told.lines().filter_map(|line| line.split_once(" ends: ")).map(|(stage, end)| format!("{}: {end}", stage.trim())).collect()
+    told.lines().filter_map(|line| line.split_once(" ends: ")).map(|(recorded_stage, end)| format!("{}: {end}", recorded_stage.trim())).collect()
 }
 
 fn member(account: &str, name: &str) -> String {
@@ -122,8 +122,8 @@ fn member(account: &str, name: &str) -> String {
 #[test]
 fn all_is_told_if_nothing_is_said() {
     for describe in [None, Some(Describe::All)] {
-        let (request, refused) = secret(describe);
-        let history = request.history();
+        let (recorded, refused) = secret(describe);
+        let history = recorded.history();
         let told = ends(&history);
         assert_eq!(told[..2], ["0 token: \"secret token\"", "1 card: a value"]);
         assert!(told[2].ends_with(": ()") && told[3] == "3 bytes: a value" && told[4] == "4 refused: secret card", "{told:?}");
@@ -138,8 +138,8 @@ fn all_is_told_if_nothing_is_said() {
 
 #[test]
 fn types_are_told_alone() {
-    let (request, refused) = secret(Some(Describe::Types));
-    let history = request.history();
+    let (recorded, refused) = secret(Some(Describe::Types));
+    let history = recorded.history();
     let told = ends(&history);
     assert_eq!(told[..2], ["0 token: String of 12", "1 card: Card"]);
     assert!(told[2].ends_with(": ()"), "{told:?}");
@@ -153,8 +153,8 @@ fn types_are_told_alone() {
 
 #[test]
 fn nothing_is_told() {
-    let (request, refused) = secret(Some(Describe::Nothing));
-    let history = request.history();
+    let (recorded, refused) = secret(Some(Describe::Nothing));
+    let history = recorded.history();
     let told = ends(&history);
     assert!(told.iter().all(|line| line.trim_end_matches(", passed on").ends_with(": -")) && told.len() == 7, "{told:?}");
     assert_eq!(member(&history.account(), "values"), r#""-","-","","-","","","""#);
@@ -171,8 +171,8 @@ fn a_function_says_what_is_told() {
         Ok(_) => "v".repeat(70),
         Err(error) => error.downcast_ref::<Declined>().map_or(String::from("other"), |_| "declined;".into()),
     });
-    let (request, refused) = secret(Some(describe));
-    let history = request.history();
+    let (recorded, refused) = secret(Some(describe));
+    let history = recorded.history();
     let told = ends(&history);
     assert_eq!(told[..2], [format!("0 token: {}", "v".repeat(70)), "1 card: a\\ncard".into()]);
     assert!(told[2].ends_with(": unit"), "{told:?}");
@@ -182,7 +182,7 @@ fn a_function_says_what_is_told() {
     assert_eq!(format!("{refused:?}"), "Stage(4 refused, error: declined;)");
     assert!(texts(&history).iter().all(|text| !text.contains("secret")));
     // A history stays as it was taken, and the next is told as is wanted then.
-    assert_eq!(ends(&request.clone().described(Describe::Nothing).history())[1], "1 card: -");
+    assert_eq!(ends(&recorded.clone().described(Describe::Nothing).history())[1], "1 card: -");
     assert_eq!(ends(&history)[1], "1 card: a\\ncard");
 }
 
@@ -216,10 +216,10 @@ fn what_cannot_be_told_is_a_question_mark() {
     }
     impl StdError for Fails {}
 
-    let request = Request::new("untold", Inline);
-    let (panics, fails) = (request.try_supply(|| Err::<i32, _>(Panics)), request.try_supply(|| Err::<i32, _>(Fails)));
-    let unread = request.supply(|| -> i32 { panic_any(17_u8) });
-    let history = request.history();
+    let recorded = Request::new("untold", Inline);
+    let (panics, fails) = (recorded.try_supply(|| Err::<i32, _>(Panics)), recorded.try_supply(|| Err::<i32, _>(Fails)));
+    let unread = recorded.supply(|| -> i32 { panic_any(17_u8) });
+    let history = recorded.history();
     let told: Vec<String> = whole(|| ends(&history)).iter().map(|line| line.split_once(": ").unwrap().1.into()).collect();
     assert_eq!(told, ["?", "?", "a function panicked: something that isn't text"]);
     assert_eq!(member(&history.account(), "errors"), r#""?","?","a function panicked: something that isn't text""#);
@@ -229,8 +229,8 @@ fn what_cannot_be_told_is_a_question_mark() {
         other => panic!("{other:?}"),
     }
 
-    let (request, _) = secret(Some(Describe::by(|ended| if ended.is_ok() { panic_any(DropPanics) } else { "told".into() })));
-    let told = ends(&whole(|| request.history()));
+    let (recorded, _) = secret(Some(Describe::by(|ended| if ended.is_ok() { panic_any(DropPanics) } else { "told".into() })));
+    let told = ends(&whole(|| recorded.history()));
     assert_eq!((&told[0][..], &told[4][..]), ("0 token: ?", "4 refused: told"));
 }
 
@@ -242,8 +242,8 @@ fn whole<T>(act: impl FnOnce() -> T) -> T {
     })
 }
 
-fn line_of<T>(stage: &Stage<T>) -> String {
-    let history = stage.request().history();
+fn line_of<T>(recorded_stage: &Stage<T>) -> String {
+    let history = recorded_stage.request().history();
     history.names()[0].rsplit(':').next().unwrap().to_owned()
 }
 
@@ -258,19 +258,19 @@ fn a_function_is_asked_under_no_lock() {
     }
     let (ends, end) = channel();
     let thread = thread::spawn(move || {
-        let request = Request::new("looks", Inline);
-        let price = request.supply(|| 49);
+        let recorded = Request::new("looks", Inline);
+        let price = recorded.supply(|| 49);
         let (calls, looks) = (Arc::new(AtomicUsize::new(0)), Looks(price.clone()));
         let counts = Arc::clone(&calls);
-        let request = request.described(Describe::by(move |_| {
+        let recorded = recorded.described(Describe::by(move |_| {
             counts.fetch_add(1, Ordering::SeqCst);
             format!("{:?}", looks.0.peek().unwrap().unwrap())
         }));
-        assert!(request.history().to_string().contains("ends: 49"));
+        assert!(recorded.history().to_string().contains("ends: 49"));
         let asked = calls.load(Ordering::SeqCst);
         assert!(asked > 0);
         assert!(format!("{price:?}").ends_with("value)"));
-        drop(request.described(Describe::All).history());
+        drop(recorded.described(Describe::All).history());
         assert_eq!(calls.load(Ordering::SeqCst), asked);
         ends.send(()).unwrap();
     });
@@ -283,12 +283,12 @@ fn a_function_is_asked_under_no_lock() {
 fn a_history_holds_what_it_tells() {
     for (describe, holds) in [(Describe::All, 1), (Describe::Types, 0), (Describe::Nothing, 0), (Describe::by(|_| "told".into()), 0)] {
         let alive = Arc::new(());
-        let request = Request::new("holds", Inline).described(describe.clone());
+        let recorded = Request::new("holds", Inline).described(describe.clone());
         let (value, error) = (Arc::clone(&alive), Held(Arc::clone(&alive)));
-        drop(request.supply(move || value));
-        drop(request.try_supply(move || Err::<i32, _>(error)));
-        let history = request.history();
-        drop(request);
+        drop(recorded.supply(move || value));
+        drop(recorded.try_supply(move || Err::<i32, _>(error)));
+        let history = recorded.history();
+        drop(recorded);
         assert_eq!(Arc::strong_count(&alive), 1 + 2 * holds, "{describe:?}");
         let copy = history.clone();
         drop(history);
@@ -313,8 +313,8 @@ impl StdError for Held {}
 #[test]
 fn what_is_late_and_what_never_came_is_told() {
     let alive = Arc::new(());
-    let request = Request::new("late", Inline);
-    let (price, never) = (request.promise::<Arc<()>>().named("price"), request.promise::<i32>().named("never"));
+    let recorded = Request::new("late", Inline);
+    let (price, never) = (recorded.promise::<Arc<()>>().named("price"), recorded.promise::<i32>().named("never"));
     let behind = never.clone().then(|n| n + 1).named("behind");
     price.complete(Arc::new(())).unwrap();
     let late = price.complete(Arc::clone(&alive)).unwrap_err();
@@ -324,7 +324,7 @@ fn what_is_late_and_what_never_came_is_told() {
     assert_eq!(Arc::strong_count(&alive), 1);
     let own: Arc<Mutex<Option<Stage<i32>>>> = Arc::default();
     let of = Arc::clone(&own);
-    let gate = request.promise::<i32>().named("gate");
+    let gate = recorded.promise::<i32>().named("gate");
     let slow = gate.clone().then(move |n| {
         assert!(of.lock().unwrap().take().unwrap().cancel());
         *n
@@ -332,7 +332,7 @@ fn what_is_late_and_what_never_came_is_told() {
     let slow = slow.named("slow");
     *own.lock().unwrap() = Some(slow);
     gate.complete(1).unwrap();
-    let history = request.history();
+    let history = recorded.history();
     let told: Vec<String> = history.to_string().lines().skip(1).map(|line| line[14..].to_owned()).collect();
     assert_eq!(
         told[4..9],
@@ -355,27 +355,27 @@ fn what_is_late_and_what_never_came_is_told() {
     never.complete(1).unwrap();
     assert_eq!(behind.wait().unwrap(), 2);
     assert_eq!(texts(&history), before);
-    assert!(request.history().to_string().contains("2 behind ends: 2"));
+    assert!(recorded.history().to_string().contains("2 behind ends: 2"));
 }
 
 /// A history is taken and told in the midst of what threads do.
 #[test]
 fn histories_are_taken_meanwhile() {
-    let request = Request::new("meanwhile", cf::Pool::new(2)).described(Describe::Types);
-    let by = request.clone();
+    let recorded = Request::new("meanwhile", cf::Pool::new(2)).described(Describe::Types);
+    let by = recorded.clone();
     let does = thread::spawn(move || {
         for k in 0..100 {
-            let stage = by.supply(move || k).named(format!("a\nb{k}"));
-            drop(stage.then(|k| k + 1).wait());
+            let recorded_stage = by.supply(move || k).named(format!("a\nb{k}"));
+            drop(recorded_stage.then(|k| k + 1).wait());
         }
     });
     let mut last = 0;
     while !does.is_finished() {
-        let history = request.history();
+        let history = recorded.history();
         assert!(history.comes_again() && history.words().len() >= last);
         assert!(history.to_string().lines().all(|line| line.starts_with("meanwhile: ") || line.is_char_boundary(14)));
         last = history.words().len();
     }
     does.join().unwrap();
-    assert_eq!(request.history().names().len(), 200);
+    assert_eq!(recorded.history().names().len(), 200);
 }

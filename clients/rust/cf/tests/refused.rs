@@ -20,26 +20,26 @@ fn mapped() -> Option<u64> {
 
 #[test]
 fn what_starts_a_thread_tries_again() {
-    let request = Request::new("refused", Inline);
+    let threadless = Request::new("refused", Inline);
     let is_limited = mapped().map_or(false, |bytes| limit(&(bytes + 1_000_000).to_string()));
     if !is_limited || thread::Builder::new().spawn(|| ()).is_ok() {
         println!("left out: no limit keeps this system from starting threads");
         assert!(!is_limited || limit("unlimited"));
         return;
     }
-    let late = request.promise::<i32>().or_timeout(SHORT);
+    let late = threadless.promise::<i32>().or_timeout(SHORT);
     let pool = Pool::new(2);
     let refused = Request::new("pool", pool.clone()).supply(|| 1);
     assert!(limit("unlimited"));
     assert!(matches!(refused.wait_timeout(LONG), Some(Err(_))), "no thread is there, and none is started");
     // The next call of each starts what was refused.
-    assert!(request.promise::<i32>().or_timeout(SHORT).wait_timeout(LONG).expect("the clock stands").is_err());
+    assert!(threadless.promise::<i32>().or_timeout(SHORT).wait_timeout(LONG).expect("the clock stands").is_err());
     assert!(late.wait_timeout(LONG).expect("its alarm is kept").is_err());
-    let request = Request::new("pool", pool);
+    let threadless = Request::new("pool", pool);
     let meets = std::sync::Arc::new(std::sync::Barrier::new(2));
     let stages = [(); 2].map(|()| {
         let meets = meets.clone();
-        request.supply(move || meets.wait().is_leader())
+        threadless.supply(move || meets.wait().is_leader())
     });
     let told = stages.map(|stage| stage.wait_timeout(LONG).expect("the pool stands").unwrap());
     assert!(told[0] != told[1]);

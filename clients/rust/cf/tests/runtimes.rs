@@ -23,21 +23,21 @@ fn tasks() -> Request {
 
 #[tokio::test(flavor = "multi_thread", worker_threads = 4)]
 async fn stages_are_futures() {
-    for r in [blocking(), tasks()] {
-        let numbers: Vec<Stage<i32>> = (0..40).map(|k| r.supply(move || k)).collect();
+    for on_runtime in [blocking(), tasks()] {
+        let numbers: Vec<Stage<i32>> = (0..40).map(|k| on_runtime.supply(move || k)).collect();
         let told = join_all(numbers.iter().cloned()).await;
         assert_eq!(told.into_iter().map(Result::unwrap).sum::<i32>(), 780);
         assert_eq!(try_join_all(numbers.clone()).await.unwrap().len(), 40);
-        let failed = r.try_supply(|| Err::<i32, _>("no"));
+        let failed = on_runtime.try_supply(|| Err::<i32, _>("no"));
         assert_eq!(try_join_all(numbers.iter().chain([&failed]).cloned()).await.unwrap_err().to_string(), "no");
-        assert!(r.history().comes_again());
+        assert!(on_runtime.history().comes_again());
     }
 }
 
 #[tokio::test(flavor = "multi_thread", worker_threads = 4)]
 async fn they_come_in_the_order_in_which_they_settle() {
-    let r = blocking();
-    let promises: Vec<Stage<usize>> = (0..3).map(|_| r.promise()).collect();
+    let on_runtime = blocking();
+    let promises: Vec<Stage<usize>> = (0..3).map(|_| on_runtime.promise()).collect();
     let mut stream: FuturesUnordered<_> = promises.iter().cloned().collect();
     assert!(stream.next().now_or_never().is_none());
     for k in [1, 0, 2] {
@@ -49,8 +49,8 @@ async fn they_come_in_the_order_in_which_they_settle() {
 
 #[tokio::test(flavor = "multi_thread", worker_threads = 2)]
 async fn select_takes_the_first() {
-    let r = tasks();
-    let (slow, quick) = (r.promise::<i32>(), r.promise::<i32>());
+    let on_runtime = tasks();
+    let (slow, quick) = (on_runtime.promise::<i32>(), on_runtime.promise::<i32>());
     let waits = tokio::spawn(select(slow.clone(), quick.clone()));
     quick.complete(2).unwrap();
     match waits.await.unwrap() {
@@ -61,13 +61,13 @@ async fn select_takes_the_first() {
         }
         Either::Left(_) => panic!("the slow one isn't settled"),
     }
-    let (a, b) = (r.promise::<i32>(), r.promise::<i32>());
+    let (a, b) = (on_runtime.promise::<i32>(), on_runtime.promise::<i32>());
     a.complete(7).unwrap();
     tokio::select! {
         told = a => assert_eq!(told.unwrap(), 7),
         _ = b => panic!("it isn't settled"),
     }
-    let (mut one, mut two) = (r.promise::<i32>().fuse(), r.supply(|| 4).fuse());
+    let (mut one, mut two) = (on_runtime.promise::<i32>().fuse(), on_runtime.supply(|| 4).fuse());
     futures::select! {
         _ = one => panic!("it isn't settled"),
         told = two => assert_eq!(told.unwrap(), 4),
@@ -76,29 +76,29 @@ async fn select_takes_the_first() {
 
 #[tokio::test(flavor = "multi_thread", worker_threads = 2)]
 async fn a_runtimes_timeout_leaves_the_stage() {
-    let r = tasks();
-    let stage = r.promise::<i32>();
-    assert!(timeout(SHORT, stage.clone()).await.is_err());
-    stage.complete(1).unwrap();
-    assert_eq!(timeout(LONG, stage).await.unwrap().unwrap(), 1);
+    let on_runtime = tasks();
+    let runtime_stage = on_runtime.promise::<i32>();
+    assert!(timeout(SHORT, runtime_stage.clone()).await.is_err());
+    runtime_stage.complete(1).unwrap();
+    assert_eq!(timeout(LONG, runtime_stage).await.unwrap().unwrap(), 1);
 }
 
 #[tokio::test(start_paused = true)]
 async fn timeouts_go_by_tokios_clock() {
     let (spawn, clock) = (Tasks::new(Handle::current(), 8), TokioClock::new(Handle::current()));
-    let r = Request::with_clock("paused", Arc::new(spawn), Arc::new(clock));
+    let on_runtime = Request::with_clock("paused", Arc::new(spawn), Arc::new(clock));
     let begun = Instant::now();
-    let stage = r.promise::<i32>().or_timeout(Duration::from_secs(3600));
-    let given = r.promise().complete_on_timeout(5, Duration::from_secs(1800));
+    let runtime_stage = on_runtime.promise::<i32>().or_timeout(Duration::from_secs(3600));
+    let given = on_runtime.promise().complete_on_timeout(5, Duration::from_secs(1800));
     assert_eq!(given.await.unwrap(), 5);
-    assert!(stage.await.unwrap_err().is_timeout());
+    assert!(runtime_stage.await.unwrap_err().is_timeout());
     assert!(begun.elapsed() < Duration::from_secs(60));
 }
 
 #[tokio::test(flavor = "multi_thread", worker_threads = 2)]
 async fn futures_can_be_stages() {
-    let r = tasks();
-    let later = r.spawn(async {
+    let on_runtime = tasks();
+    let later = on_runtime.spawn(async {
         sleep(SHORT).await;
         Ok::<_, Error>(20)
     });
@@ -113,14 +113,14 @@ async fn futures_can_be_stages() {
     assert_eq!(next.clone().await.unwrap(), 21);
     let failed = next.then_async(|_| async { Err::<i32, _>("no") });
     assert_eq!(failed.await.unwrap_err().to_string(), "no");
-    let panics = r.spawn(async {
+    let panics = on_runtime.spawn(async {
         if true {
             panic!("in a future")
         }
         Ok::<i32, Error>(1)
     });
     assert_eq!(panics.await.unwrap_err().to_string(), "a function panicked: in a future");
-    assert!(r.history().comes_again());
+    assert!(on_runtime.history().comes_again());
 }
 
 struct Drops(Arc<AtomicBool>);
@@ -133,11 +133,11 @@ impl Drop for Drops {
 
 #[tokio::test(flavor = "multi_thread", worker_threads = 2)]
 async fn a_cancelled_stage_drops_its_future() {
-    let r = tasks();
+    let on_runtime = tasks();
     for how in 0..3 {
         let (dropped, begun) = (Arc::new(AtomicBool::new(false)), Arc::new(AtomicBool::new(false)));
         let (drops, begins) = (Drops(dropped.clone()), begun.clone());
-        let stage = r.spawn(async move {
+        let runtime_stage = on_runtime.spawn(async move {
             let _drops = drops;
             begins.store(true, Ordering::SeqCst);
             std::future::pending::<()>().await;
@@ -148,11 +148,11 @@ async fn a_cancelled_stage_drops_its_future() {
         }
         sleep(SHORT).await;
         match how {
-            0 => assert!(stage.cancel()),
-            1 => drop(stage.clone().cancel_on_drop()),
-            _ => assert!(stage.clone().or_timeout(SHORT).await.is_err()),
+            0 => assert!(runtime_stage.cancel()),
+            1 => drop(runtime_stage.clone().cancel_on_drop()),
+            _ => assert!(runtime_stage.clone().or_timeout(SHORT).await.is_err()),
         }
-        assert!(stage.await.is_err());
+        assert!(runtime_stage.await.is_err());
         while !dropped.load(Ordering::SeqCst) {
             tokio::task::yield_now().await;
         }
@@ -161,21 +161,21 @@ async fn a_cancelled_stage_drops_its_future() {
 
 #[tokio::test(flavor = "multi_thread", worker_threads = 4)]
 async fn many_tasks_wait_for_one_stage() {
-    let r = blocking();
-    let stage = r.promise::<i32>();
+    let on_runtime = blocking();
+    let runtime_stage = on_runtime.promise::<i32>();
     let told = Arc::new(AtomicUsize::new(0));
     let waiting: Vec<_> = (0..500)
         .map(|_| {
-            let (stage, told) = (stage.clone(), told.clone());
+            let (runtime_stage, told) = (runtime_stage.clone(), told.clone());
             tokio::spawn(async move {
-                assert_eq!(stage.await.unwrap(), 3);
+                assert_eq!(runtime_stage.await.unwrap(), 3);
                 told.fetch_add(1, Ordering::SeqCst);
             })
         })
         .collect();
     sleep(SHORT).await;
     waiting.iter().take(100).for_each(|it| it.abort());
-    stage.complete(3).unwrap();
+    runtime_stage.complete(3).unwrap();
     for it in waiting {
         let _ = it.await;
     }
@@ -184,8 +184,8 @@ async fn many_tasks_wait_for_one_stage() {
 
 #[tokio::test(flavor = "multi_thread", worker_threads = 4)]
 async fn threads_and_tasks_wait_together() {
-    let r = blocking();
-    let source = r.promise::<u64>();
+    let on_runtime = blocking();
+    let source = on_runtime.promise::<u64>();
     let mut last = source.clone();
     for _ in 0..200 {
         last = last.combine(&source, |a, b| a + b);
@@ -200,9 +200,9 @@ async fn threads_and_tasks_wait_together() {
 #[test]
 fn stages_on_rayon() {
     let pool = Arc::new(rayon::ThreadPoolBuilder::new().num_threads(4).build().unwrap());
-    let request = Request::try_new("rayon", pool, Arc::new(SystemClock), 600).unwrap();
-    let numbers: Vec<Stage<u64>> = (0..500).map(|k| request.supply(move || k)).collect();
-    assert_eq!(request.gather(&numbers).then(|all| all.iter().sum::<u64>()).wait().unwrap(), 124_750);
+    let runtime_request = Request::try_new("rayon", pool, Arc::new(SystemClock), 600).unwrap();
+    let numbers: Vec<Stage<u64>> = (0..500).map(|k| runtime_request.supply(move || k)).collect();
+    assert_eq!(runtime_request.gather(&numbers).then(|all| all.iter().sum::<u64>()).wait().unwrap(), 124_750);
 }
 
 /// As many functions as there are threads wait, each for a future that goes on by the runtime's timers.
@@ -212,9 +212,9 @@ fn all_threads_of_a_runtime_wait_for_futures() {
         let runtime = tokio::runtime::Builder::new_multi_thread().worker_threads(threads).enable_all().build().unwrap();
         let all = Arc::new(std::sync::Barrier::new(threads));
         let waits = |_| {
-            let (request, all) = (Request::new("waits", Tasks::new(runtime.handle().clone(), 8)), all.clone());
-            let by = request.clone();
-            request.supply(move || {
+            let (runtime_request, all) = (Request::new("waits", Tasks::new(runtime.handle().clone(), 8)), all.clone());
+            let by = runtime_request.clone();
+            runtime_request.supply(move || {
                 all.wait();
                 let future = by.spawn(async {
                     tokio::task::yield_now().await;
@@ -225,7 +225,7 @@ fn all_threads_of_a_runtime_wait_for_futures() {
             })
         };
         let stages: Vec<Stage<i32>> = (0..threads).map(waits).collect();
-        assert!(stages.iter().all(|stage| stage.wait_timeout(LONG).expect("it rests for good").unwrap() == 3));
+        assert!(stages.iter().all(|runtime_stage| runtime_stage.wait_timeout(LONG).expect("it rests for good").unwrap() == 3));
     }
 }
 
@@ -233,9 +233,9 @@ fn all_threads_of_a_runtime_wait_for_futures() {
 #[test]
 fn a_runtime_of_one_thread_waits_for_functions() {
     let runtime = tokio::runtime::Builder::new_current_thread().enable_all().build().unwrap();
-    let request = Request::new("waits", Tasks::new(runtime.handle().clone(), 8));
-    let by = request.clone();
-    let told = request.supply(move || by.supply(|| 20).then_async(|n| async move { Ok::<_, Error>(*n + 1) }).wait().unwrap());
+    let runtime_request = Request::new("waits", Tasks::new(runtime.handle().clone(), 8));
+    let by = runtime_request.clone();
+    let told = runtime_request.supply(move || by.supply(|| 20).then_async(|n| async move { Ok::<_, Error>(*n + 1) }).wait().unwrap());
     assert_eq!(runtime.block_on(async { timeout(LONG, told).await }).unwrap().unwrap(), 21);
 }
 
@@ -260,9 +260,9 @@ fn functions_and_futures_of_tokio_run_on_its_threads() {
 #[test]
 fn all_threads_of_rayon_wait() {
     let pool = Arc::new(rayon::ThreadPoolBuilder::new().num_threads(1).build().unwrap());
-    let (request, other) = (Request::new("waits", pool.clone()), Request::new("other", pool));
-    let by = request.clone();
-    let told = request.supply(move || {
+    let (runtime_request, other) = (Request::new("waits", pool.clone()), Request::new("other", pool));
+    let by = runtime_request.clone();
+    let told = runtime_request.supply(move || {
         let future = by.spawn(async {
             let mut is_first = true;
             std::future::poll_fn(|cx| {
@@ -286,14 +286,14 @@ fn nothing_waits_for_a_runtime_that_is_gone() {
     let runtime = tokio::runtime::Builder::new_multi_thread().worker_threads(2).enable_all().build().unwrap();
     let handle = runtime.handle().clone();
     let clock = Arc::new(TokioClock::new(handle.clone()));
-    let request = Request::with_clock("gone", Arc::new(Tasks::new(handle.clone(), 8)), clock);
+    let runtime_request = Request::with_clock("gone", Arc::new(Tasks::new(handle.clone(), 8)), clock);
     let blocking = Request::new("blocking", Blocking::new(handle, 8));
-    let sleeping = request.spawn(async {
+    let sleeping = runtime_request.spawn(async {
         sleep(Duration::from_secs(3600)).await;
         Ok::<_, Error>(1)
     });
-    let (gate, ran) = (request.promise::<i32>(), Arc::new(AtomicBool::new(false)));
-    let (timed, given) = (request.promise::<i32>().or_timeout(LONG), request.promise().complete_on_timeout(4, LONG));
+    let (gate, ran) = (runtime_request.promise::<i32>(), Arc::new(AtomicBool::new(false)));
+    let (timed, given) = (runtime_request.promise::<i32>().or_timeout(LONG), runtime_request.promise().complete_on_timeout(4, LONG));
     let runs = ran.clone();
     let behind = gate.clone().then(move |_| runs.store(true, Ordering::SeqCst));
     drop(runtime);
@@ -303,7 +303,7 @@ fn nothing_waits_for_a_runtime_that_is_gone() {
     assert!(matches!(given.wait_timeout(LONG), Some(Err(Error::Refused(Refusal::NoClock)))));
     assert!(matches!(behind.wait_timeout(LONG), Some(Err(Error::Refused(Refusal::Closed)))));
     assert!(matches!(blocking.supply(|| 1).wait_timeout(LONG), Some(Err(Error::Refused(Refusal::Closed)))));
-    let late = request.promise::<i32>().or_timeout(SHORT);
+    let late = runtime_request.promise::<i32>().or_timeout(SHORT);
     assert!(matches!(late.wait_timeout(LONG), Some(Err(Error::Refused(Refusal::NoClock)))));
     assert!(!ran.load(Ordering::SeqCst), "no function begins once its runtime is gone");
 }

@@ -1,17 +1,12 @@
 //! What stages do, by threads and without a runtime.
-use cf::{Error, Inline, Job, Pool, Refusal, Request, Spawn, Stage};
+use cf::{Error, Inline, Pool, Request, Stage};
 use std::sync::atomic::{AtomicUsize, Ordering};
 use std::sync::{mpsc, Arc, Barrier};
 use std::thread;
-use std::time::Duration;
 
 fn request() -> Request {
     Request::new("test", Pool::new(4))
 }
-
-const SHORT: Duration = Duration::from_millis(15);
-/// Longer than a machine at its limit takes; what never comes is ended by who runs the tests.
-const LONG: Duration = Duration::from_secs(200);
 
 #[test]
 fn functions_take_values() {
@@ -126,18 +121,6 @@ fn composing_takes_a_stage_of_this_request_or_another() {
 }
 
 #[test]
-fn timeouts_settle() {
-    let r = request();
-    let slow = r.promise::<i32>().or_timeout(SHORT);
-    assert!(slow.wait().unwrap_err().is_timeout());
-    assert_eq!(r.promise().complete_on_timeout(5, SHORT).wait().unwrap(), 5);
-    let kept = r.supply(|| 1).or_timeout(LONG);
-    assert_eq!(kept.wait().unwrap(), 1);
-    assert!(r.promise::<i32>().wait_timeout(SHORT).is_none());
-    assert_eq!(r.supply(|| 2).wait_timeout(LONG).unwrap().unwrap(), 2);
-}
-
-#[test]
 fn a_cancelled_stage_refuses_its_claim_and_a_late_finish_changes_nothing() {
     let r = Request::new("one thread", Pool::new(1));
     let (begun, waits) = (Arc::new(Barrier::new(2)), Arc::new(Barrier::new(2)));
@@ -159,93 +142,6 @@ fn a_cancelled_stage_refuses_its_claim_and_a_late_finish_changes_nothing() {
     assert_eq!(ran.load(Ordering::SeqCst), 0);
     let text = r.history().to_string();
     assert!(text.contains("too late"), "{text}");
-}
-
-#[test]
-fn a_worker_that_waits_runs_others() {
-    let r = Request::new("one thread", Pool::new(1));
-    let by = r.clone();
-    let deep = r.supply(move || by.supply(|| 20).then(|n| n + 1).wait().unwrap() * 2);
-    assert_eq!(deep.wait_timeout(LONG).unwrap().unwrap(), 42);
-    let (by, gate) = (r.clone(), r.promise::<i32>());
-    let (told, tells) = mpsc::channel();
-    let open = gate.clone();
-    let outer = r.supply(move || {
-        let inner = by.promise_then(open);
-        told.send(()).unwrap();
-        inner.wait().unwrap()
-    });
-    tells.recv().unwrap();
-    thread::sleep(SHORT);
-    gate.complete(4).unwrap();
-    assert_eq!(outer.wait_timeout(LONG).unwrap().unwrap(), 5);
-}
-
-trait More {
-    fn promise_then(&self, gate: Stage<i32>) -> Stage<i32>;
-}
-
-impl More for Request {
-    fn promise_then(&self, gate: Stage<i32>) -> Stage<i32> {
-        gate.then(|n| n + 1)
-    }
-}
-
-#[test]
-fn dropped_functions_and_values_are_freed() {
-    let alive = Arc::new(());
-    {
-        let r = Request::new("dropped", Inline);
-        let never = r.promise::<i32>();
-        let (held, given) = (alive.clone(), alive.clone());
-        let behind = never.then(move |_| held);
-        assert!(behind.cancel());
-        assert_eq!(Arc::strong_count(&alive), 2, "the function of a cancelled stage is dropped");
-        let (source, held) = (r.promise::<i32>(), alive.clone());
-        let consequence = source.clone().then(move |_| drop(held));
-        assert!(source.cancel() && consequence.is_settled());
-        assert_eq!(Arc::strong_count(&alive), 2, "and that of one that fails with its source");
-        let value = r.promise::<Arc<()>>();
-        value.complete(given).unwrap();
-        assert_eq!(Arc::strong_count(&alive), 2);
-        drop(value.complete(alive.clone()).unwrap_err());
-        assert_eq!(Arc::strong_count(&alive), 2, "a value that came too late is given back");
-    }
-    assert_eq!(Arc::strong_count(&alive), 1);
-}
-
-#[test]
-fn a_full_request_refuses_and_goes_on() {
-    let r = Request::new("full", Inline);
-    let first = r.promise::<i32>();
-    let mut last = first.clone();
-    for _ in 1..4096 {
-        last = last.then(|n| n + 1);
-    }
-    let over = last.clone().then(|n| n + 1);
-    assert!(matches!(over.wait(), Err(Error::Refused(Refusal::Full))));
-    assert!(matches!(over.clone().recover(|_| 1).wait(), Err(Error::Refused(Refusal::Full))));
-    assert!(matches!(r.gather([&first, &over]).wait(), Err(Error::Refused(Refusal::Full))));
-    assert_eq!(over.number(), None);
-    first.complete(0).unwrap();
-    assert_eq!(last.wait().unwrap(), 4095, "the stack stays flat");
-    assert!(r.history().comes_again());
-}
-
-#[test]
-fn what_takes_no_jobs_fails_what_is_ready() {
-    struct Closed;
-    impl Spawn for Closed {
-        fn spawn(&self, job: Job) -> Result<(), Job> {
-            Err(job)
-        }
-    }
-    let r = Request::new("closed", Closed);
-    assert!(matches!(r.supply(|| 1).wait(), Err(Error::Refused(Refusal::Closed))));
-    let source = r.promise::<i32>();
-    let behind = source.clone().then(|n| n + 1);
-    source.complete(1).unwrap();
-    assert!(behind.wait().is_err());
 }
 
 #[test]

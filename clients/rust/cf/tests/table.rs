@@ -18,10 +18,10 @@ fn request() -> Request {
     Request::new("table", Tasks::new(Handle::current(), 8))
 }
 
-fn failed(request: &Request, why: &'static str) -> Stage<i32> {
-    let stage = request.promise();
-    assert!(stage.fail(why));
-    stage
+fn failed(our_request: &Request, why: &'static str) -> Stage<i32> {
+    let our_stage = our_request.promise();
+    assert!(our_stage.fail(why));
+    our_stage
 }
 
 fn why<T: std::fmt::Debug>(told: Result<T, Error>) -> String {
@@ -58,14 +58,14 @@ async fn dropped(drops: &AtomicUsize, count: usize) {
 /// `tokio::spawn` and `spawn_blocking`; `abort`, which drops the future.
 #[tokio::test(flavor = "multi_thread", worker_threads = 2)]
 async fn futures_and_functions_are_spawned() {
-    let (request, drops) = (request(), Arc::new(AtomicUsize::new(0)));
-    assert_eq!(tokio::spawn(async { 4 }).await.unwrap(), request.spawn(async { Ok::<_, Error>(4) }).await.unwrap());
-    assert_eq!(tokio::task::spawn_blocking(|| 5).await.unwrap(), request.supply(|| 5).await.unwrap());
+    let (our_request, drops) = (request(), Arc::new(AtomicUsize::new(0)));
+    assert_eq!(tokio::spawn(async { 4 }).await.unwrap(), our_request.spawn(async { Ok::<_, Error>(4) }).await.unwrap());
+    assert_eq!(tokio::task::spawn_blocking(|| 5).await.unwrap(), our_request.supply(|| 5).await.unwrap());
     let theirs = tokio::spawn(endless(&drops));
     theirs.abort();
     assert!(theirs.await.unwrap_err().is_cancelled());
     dropped(&drops, 1).await;
-    let own = request.spawn(endless(&drops));
+    let own = our_request.spawn(endless(&drops));
     own.cancel();
     assert!(own.await.unwrap_err().is_cancelled());
     dropped(&drops, 2).await;
@@ -99,42 +99,45 @@ async fn a_stage_is_shared() {
     tokio::task::yield_now().await;
     assert_eq!(runs.load(Ordering::SeqCst), 0);
     assert_eq!((shared.clone().await.unwrap(), shared.await.unwrap()), (0, 0));
-    let stage = request().spawn(count(&runs));
+    let our_stage = request().spawn(count(&runs));
     dropped(&runs, 2).await;
-    assert_eq!((stage.clone().await.unwrap(), stage.await.unwrap()), (1, 1));
+    assert_eq!((our_stage.clone().await.unwrap(), our_stage.await.unwrap()), (1, 1));
 }
 
 #[tokio::test(flavor = "multi_thread", worker_threads = 2)]
 async fn functions_are_attached() {
-    let request = request();
+    let our_request = request();
     let (four, no) = (|| ready(Ok::<i32, &str>(4)), || ready(Err::<i32, &str>("no")));
-    assert_eq!(four().map_ok(|n| n + 1).await, Ok(request.supply(|| 4).then(|n| n + 1).await.unwrap()));
+    assert_eq!(four().map_ok(|n| n + 1).await, Ok(our_request.supply(|| 4).then(|n| n + 1).await.unwrap()));
     let theirs = four().and_then(|n| ready(Ok(n + 1))).await;
-    let (stage, by) = (request.supply(|| 4), request.clone());
-    assert_eq!(theirs, Ok(stage.clone().then_async(|n| ready(Ok::<_, Error>(*n + 1))).await.unwrap()));
-    assert_eq!(theirs, Ok(stage.clone().compose(move |&n| by.supply(move || n + 1)).await.unwrap()));
+    let (our_stage, by) = (our_request.supply(|| 4), our_request.clone());
+    assert_eq!(theirs, Ok(our_stage.clone().then_async(|n| ready(Ok::<_, Error>(*n + 1))).await.unwrap()));
+    assert_eq!(theirs, Ok(our_stage.clone().compose(move |&n| by.supply(move || n + 1)).await.unwrap()));
     // As a `Result`'s own, this takes what gives a `Result`.
-    let text = request.supply(|| "4");
+    let text = our_request.supply(|| "4");
     assert_eq!(Ok("4").and_then(str::parse::<i32>), Ok(text.and_then(|text| text.parse::<i32>()).await.unwrap()));
-    let by = request.clone();
-    assert_eq!(no().or_else(|_| ready(Ok::<_, &str>(7))).await, Ok(failed(&request, "no").recover_compose(move |_| by.supply(|| 7)).await.unwrap()));
-    assert_eq!(no().unwrap_or_else(|_| 7).await, failed(&request, "no").recover(|_| 7).await.unwrap());
-    assert_eq!(no().map(|told| told.is_err()).await, failed(&request, "no").handle(|told| told.is_err()).await.unwrap());
+    let by = our_request.clone();
+    assert_eq!(
+        no().or_else(|_| ready(Ok::<_, &str>(7))).await,
+        Ok(failed(&our_request, "no").recover_compose(move |_| by.supply(|| 7)).await.unwrap())
+    );
+    assert_eq!(no().unwrap_or_else(|_| 7).await, failed(&our_request, "no").recover(|_| 7).await.unwrap());
+    assert_eq!(no().map(|told| told.is_err()).await, failed(&our_request, "no").handle(|told| told.is_err()).await.unwrap());
 }
 
 /// `try_join_all` ends with the first error that comes, `gather` with the first in its order, once all are settled. `join_all` gives each.
 #[tokio::test(flavor = "multi_thread", worker_threads = 2)]
 async fn all_are_joined() {
-    let request = request();
-    let stages = [request.supply(|| 1), request.supply(|| 2)];
-    assert_eq!(try_join_all(stages.clone()).await.unwrap(), request.gather(&stages).await.unwrap());
+    let our_request = request();
+    let stages = [our_request.supply(|| 1), our_request.supply(|| 2)];
+    assert_eq!(try_join_all(stages.clone()).await.unwrap(), our_request.gather(&stages).await.unwrap());
     let both = futures::try_join!(stages[0].clone(), stages[1].clone()).unwrap();
     assert_eq!(both, stages[0].clone().combine(&stages[1], |a, b| (*a, *b)).await.unwrap());
 
-    let (first, second, third) = (request.promise::<i32>(), failed(&request, "second"), failed(&request, "third"));
+    let (first, second, third) = (our_request.promise::<i32>(), failed(&our_request, "second"), failed(&our_request, "third"));
     let row = [first.clone(), third, second];
     assert_eq!(why(try_join_all(row.clone()).await), "third");
-    let gathered = request.gather(&row);
+    let gathered = our_request.gather(&row);
     assert!(timeout(SHORT, gathered.clone()).await.is_err(), "not all are settled");
     let joined = tokio::spawn(join_all(row.clone()));
     assert!(first.fail("first"));
@@ -147,10 +150,10 @@ async fn all_are_joined() {
 /// stages, too.
 #[tokio::test(flavor = "multi_thread", worker_threads = 2)]
 async fn the_first_is_taken() {
-    let request = request();
-    let (late, bad) = (request.promise::<i32>(), failed(&request, "bad"));
+    let our_request = request();
+    let (late, bad) = (our_request.promise::<i32>(), failed(&our_request, "bad"));
     let row = [late.clone(), bad.clone()];
-    assert_eq!(why(request.first_of(&row).await), "bad");
+    assert_eq!(why(our_request.first_of(&row).await), "bad");
     assert_eq!(why(late.clone().either(&bad, |n| *n).await), "bad");
     tokio::select! {
         _ = late.clone() => panic!("it isn't settled"),
@@ -159,7 +162,7 @@ async fn the_first_is_taken() {
     let ok = tokio::spawn(select_ok(row));
     late.complete(4).unwrap();
     assert_eq!(ok.await.unwrap().unwrap().0, 4);
-    let none = [bad, failed(&request, "worse")];
+    let none = [bad, failed(&our_request, "worse")];
     assert_eq!(why(select_ok(none).await.map(|told| told.0)), "worse");
 }
 
@@ -167,26 +170,26 @@ async fn the_first_is_taken() {
 /// `cancel_on_drop`.
 #[tokio::test(flavor = "multi_thread", worker_threads = 2)]
 async fn those_that_lose_go_on() {
-    let (request, drops) = (request(), Arc::new(AtomicUsize::new(0)));
+    let (our_request, drops) = (request(), Arc::new(AtomicUsize::new(0)));
     tokio::select! {
         _ = endless(&drops) => panic!("it never ends"),
         n = ready(4) => assert_eq!(n, 4),
     }
     assert_eq!(drops.load(Ordering::SeqCst), 1);
 
-    let stage = request.spawn(endless(&drops));
-    let quick = request.supply(|| 4);
+    let our_stage = our_request.spawn(endless(&drops));
+    let quick = our_request.supply(|| 4);
     tokio::select! {
-        _ = stage.clone() => panic!("it never ends"),
+        _ = our_stage.clone() => panic!("it never ends"),
         told = quick.clone() => assert_eq!(told.unwrap(), 4),
     }
-    assert_eq!(request.first_of([&stage, &quick]).await.unwrap(), 4);
-    assert!(!stage.is_settled());
+    assert_eq!(our_request.first_of([&our_stage, &quick]).await.unwrap(), 4);
+    assert!(!our_stage.is_settled());
     tokio::select! {
-        _ = stage.clone().cancel_on_drop() => panic!("it never ends"),
+        _ = our_stage.clone().cancel_on_drop() => panic!("it never ends"),
         told = quick.clone().cancel_on_drop() => assert_eq!(told.unwrap(), 4),
     }
-    assert!(stage.await.unwrap_err().is_cancelled());
+    assert!(our_stage.await.unwrap_err().is_cancelled());
     assert_eq!(quick.await.unwrap(), 4);
     dropped(&drops, 2).await;
 }
@@ -194,14 +197,14 @@ async fn those_that_lose_go_on() {
 /// The runtime's timeout ends the future that it has, which may be a stage's handle alone; `or_timeout` the stage, and what is behind it.
 #[tokio::test(flavor = "multi_thread", worker_threads = 2)]
 async fn timeouts_end_what_they_have() {
-    let (request, drops) = (request(), Arc::new(AtomicUsize::new(0)));
+    let (our_request, drops) = (request(), Arc::new(AtomicUsize::new(0)));
     assert!(timeout(SHORT, endless(&drops)).await.is_err());
     assert_eq!(drops.load(Ordering::SeqCst), 1);
-    let stage = request.spawn(endless(&drops));
-    assert!(timeout(SHORT, stage.clone()).await.is_err());
-    assert!(!stage.is_settled());
-    let behind = stage.clone().then(|n| n + 1);
-    assert!(stage.or_timeout(SHORT).await.unwrap_err().is_timeout());
+    let our_stage = our_request.spawn(endless(&drops));
+    assert!(timeout(SHORT, our_stage.clone()).await.is_err());
+    assert!(!our_stage.is_settled());
+    let behind = our_stage.clone().then(|n| n + 1);
+    assert!(our_stage.or_timeout(SHORT).await.unwrap_err().is_timeout());
     assert!(behind.await.unwrap_err().is_timeout());
     dropped(&drops, 2).await;
 }
@@ -210,16 +213,16 @@ async fn timeouts_end_what_they_have() {
 /// stage hangs on goes on, and so does a function that runs.
 #[tokio::test(flavor = "multi_thread", worker_threads = 2)]
 async fn what_is_dropped_is_cancelled() {
-    let (request, drops) = (request(), Arc::new(AtomicUsize::new(0)));
+    let (our_request, drops) = (request(), Arc::new(AtomicUsize::new(0)));
     let mut outer = endless(&drops).map_ok(|n| n + 1).boxed();
     assert!((&mut outer).now_or_never().is_none());
     drop(outer);
     assert_eq!(drops.load(Ordering::SeqCst), 1);
 
-    let source = request.spawn(endless(&drops));
-    let stage = source.clone().then(|n| n + 1);
-    let (other, behind) = (stage.clone(), stage.clone().then(|n| n + 1));
-    drop(stage);
+    let source = our_request.spawn(endless(&drops));
+    let our_stage = source.clone().then(|n| n + 1);
+    let (other, behind) = (our_stage.clone(), our_stage.clone().then(|n| n + 1));
+    drop(our_stage);
     assert!(timeout(SHORT, other.clone()).await.is_err());
     drop(other.clone().cancel_on_drop());
     assert!(other.await.unwrap_err().is_cancelled() && behind.await.unwrap_err().is_cancelled());

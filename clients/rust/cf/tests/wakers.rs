@@ -2,7 +2,10 @@
 //!
 //! Whatever is done to a stage is one hold of its request's lock, and wakers are called behind it. So all that threads can see are the orders
 //! of their calls, and calls that come between a hold and its wakers: the latter are made by the wakers themselves here.
+mod common;
+
 use cf::{Inline, Request, Stage};
+use common::Counts;
 use std::future::Future;
 use std::pin::Pin;
 use std::sync::atomic::{AtomicBool, AtomicUsize, Ordering};
@@ -195,4 +198,24 @@ fn threads_are_woken() {
             }
         });
     }
+}
+
+/// A stage is polled, dropped and polled again after its end, by clones at once.
+#[test]
+fn a_stage_is_polled_after_its_end() {
+    let polled = Request::new("again", Inline);
+    let (counts, mut first_polled) = (Arc::new(Counts::default()), polled.promise::<i32>());
+    assert!(!counts.polls(&mut first_polled));
+    let mut half = first_polled.clone();
+    assert!(!counts.polls(&mut half));
+    drop(half);
+    first_polled.complete(1).unwrap();
+    assert_eq!(counts.count(), 1);
+    let mut other = polled.promise::<i32>();
+    assert!(!counts.polls(&mut other));
+    // The place of the first one's waker is the other's now.
+    assert!(counts.polls(&mut first_polled) && counts.polls(&mut first_polled));
+    drop(first_polled);
+    other.complete(2).unwrap();
+    assert_eq!(counts.count(), 2);
 }

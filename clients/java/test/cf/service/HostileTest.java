@@ -1,6 +1,6 @@
 package cf.service;
 
-import static cf.service.ServiceTest.is;
+import static cf.service.Checks.is;
 
 import java.lang.reflect.InvocationTargetException;
 import java.lang.reflect.Method;
@@ -64,7 +64,7 @@ public final class HostileTest {
                 stops();
                 break;
             default:
-                LedgerTest.unclosed();
+                FreeingTest.unclosed();
         }
         System.out.println("survived");
         System.exit(0);
@@ -73,37 +73,37 @@ public final class HostileTest {
     /** Requests are whole, whatever went on before. */
     private static void whole() throws Exception {
         for (int k = 0; k < 100; k++) {
-            Request request = SERVICE.request("whole");
-            Stage<Integer> first = request.promise(), last = first;
+            Request hostile = SERVICE.request("whole");
+            Stage<Integer> first = hostile.promise(), last = first;
             for (int n = 0; n < 40; n++) {
                 last = last.thenApply(x -> x + 1);
             }
             first.complete(k);
             is(last.join(), k + 40);
-            is(request.history().events(), 122);
-            is(request.history().report().endsWith("stage 40 value 40\n"), true);
+            is(hostile.history().events(), 122);
+            is(hostile.history().report().endsWith("stage 40 value 40\n"), true);
             if (k % 2 == 0) {
-                request.close();
+                hostile.close();
             }
         }
     }
 
     /** Each native method, also of ledgers that are closed and begun again. */
     private static void uses() throws Exception {
-        Request request = SERVICE.request("used");
-        Stage<Integer> first = request.promise();
+        Request hostile = SERVICE.request("used");
+        Stage<Integer> first = hostile.promise();
         List<Stage<Integer>> behind = new ArrayList<>();
         for (int k = 0; k < 600; k++) {
             behind.add(k % 2 == 0 ? first.copy() : first.thenApply(x -> x + 1));
         }
-        request.close();
+        hostile.close();
         first.complete(1);
         for (int k = 0; k < 600; k++) {
             is(behind.get(k).join(), k % 2 == 0 ? 1 : 2);
         }
-        request.history().account();
-        request.close();
-        is(request.history().toString().split("\n").length, 1 + 601 + 1 + 2 * 300 + 601);
+        hostile.history().account();
+        hostile.close();
+        is(hostile.history().toString().split("\n").length, 1 + 601 + 1 + 2 * 300 + 601);
         Flow flow = new Flow("used");
         Flow.Step<Integer> step = flow.promise(), ready = flow.supplyAsync(() -> 1);
         Flow.Step<Void> all = flow.allOf(step, ready);
@@ -123,7 +123,7 @@ public final class HostileTest {
                 for (int k = 0; k < 100; k++) {
                     sum.addAndGet(first.thenApply(x -> x).join());
                     if (k % 10 == 0) {
-                        request.close();
+                        hostile.close();
                     }
                 }
             }));
@@ -154,14 +154,14 @@ public final class HostileTest {
             }
             for (int k = 0; k < 60; k++) {
                 try {
-                    Request request = SERVICE.request("memory");
-                    Stage<Integer> first = request.promise();
+                    Request hostile = SERVICE.request("memory");
+                    Stage<Integer> first = hostile.promise();
                     first.thenApply(x -> x + 1);
                     first.complete(1);
-                    request.history().toString();
-                    request.close();
+                    hostile.history().toString();
+                    hostile.close();
                     first.thenApply(x -> x + 2);
-                    requests.add(request);
+                    requests.add(hostile);
                 } catch (OutOfMemoryError full) {
                     refused++;
                     if (k % 10 == 9) {
@@ -207,11 +207,11 @@ public final class HostileTest {
             () -> SERVICE.request("deep").completedFuture(1).thenApply(x -> x).request().close(),
             () -> large.history().report(),
             () -> {
-                Request request = SERVICE.request("deep");
+                Request hostile = SERVICE.request("deep");
                 for (int k = 0; k < 70; k++) {
-                    request.promise();
+                    hostile.promise();
                 }
-                request.close();
+                hostile.close();
             },
             () -> {
                 Flow flow = new Flow("deep");
@@ -253,11 +253,11 @@ public final class HostileTest {
             Thread thread = new Thread(() -> {
                 try {
                     while (!over.get()) {
-                        try (Request request = SERVICE.request("stopped")) {
-                            Stage<Integer> first = request.promise();
+                        try (Request hostile = SERVICE.request("stopped")) {
+                            Stage<Integer> first = hostile.promise();
                             first.thenApply(x -> x + 1).thenApply(x -> x + 1);
                             first.complete(1);
-                            request.history().report();
+                            hostile.history().report();
                         }
                     }
                 } catch (Throwable thrown) {

@@ -1,26 +1,16 @@
 package cf.service;
 
-import static cf.service.ServiceTest.is;
-import static cf.service.ServiceTest.thrown;
+import static cf.service.Checks.is;
+import static cf.service.Checks.thrown;
 
-import com.sun.management.GarbageCollectionNotificationInfo;
-import java.lang.management.GarbageCollectorMXBean;
-import java.lang.management.ManagementFactory;
 import java.util.ArrayList;
-import java.util.Arrays;
-import java.util.Collections;
 import java.util.List;
-import java.util.concurrent.CyclicBarrier;
-import java.util.concurrent.ExecutionException;
 import java.util.concurrent.ExecutorService;
 import java.util.concurrent.Executors;
 import java.util.concurrent.Future;
 import java.util.concurrent.TimeUnit;
-import java.util.concurrent.atomic.AtomicInteger;
-import javax.management.NotificationEmitter;
-import javax.management.openmbean.CompositeData;
 
-/** Ledgers and their memory: cores used again, flows, what is freed and when. */
+/** Ledgers and their cores: cores used again, attaches that fail, words, and numbers that would read past an array's end. */
 final class LedgerTest {
     private static final Service SERVICE = new Service(Runnable::run);
     private static final int WHO = Request.FIRST_THREAD;
@@ -166,165 +156,6 @@ final class LedgerTest {
         is(said.contains("main times out 2 source\n") && said.contains("2 source ends: timed out\n"), true);
         is(said.contains("main fails 2 source with a bad answer, too late\n"), true);
         ledger.rest();
-    }
-
-    /** Several threads start a flow that nobody has started yet: it gets one plan, and each request is whole. */
-    static void startedTogether() throws Exception {
-        int threads = 4;
-        ExecutorService pool = Executors.newFixedThreadPool(threads);
-        for (int round = 0; round < 40; round++) {
-            Flow flow = new Flow("together");
-            Flow.Step<Integer> first = flow.promise();
-            Flow.Step<Integer> last = first;
-            for (int k = 0; k < 400; k++) {
-                last = k % 7 == 0 ? last.thenApply(x -> x + 1).async() : last.thenApply(x -> x + 1);
-            }
-            Flow.Step<Integer> end = last.thenCombine(flow.supplyAsync(() -> 1), Integer::sum);
-            CyclicBarrier together = new CyclicBarrier(threads);
-            List<Ledger.Plan> plans = Collections.synchronizedList(new ArrayList<>());
-            List<Future<?>> ends = new ArrayList<>();
-            for (int t = 0; t < threads; t++) {
-                int who = t;
-                ends.add(pool.submit(() -> {
-                    together.await();
-                    try (Request request = SERVICE.start(flow, who)) {
-                        is(request.stage(end).get(20, TimeUnit.SECONDS), 401 + who);
-                        plans.add(flow.plan());
-                        is(request.history().stages(), 403);
-                    }
-                    thrown(IllegalStateException.class, flow::promise);
-                    return null;
-                }));
-            }
-            for (Future<?> each : ends) {
-                each.get(60, TimeUnit.SECONDS);
-            }
-            is(Collections.frequency(plans, flow.plan()), threads);
-        }
-        pool.shutdown();
-    }
-
-    /** Whatever a function, a supplier or an executor of a flow throws, its stage ends by it, and the others go on. */
-    static void flowErrors() throws Exception {
-        ExecutorService pool = Executors.newFixedThreadPool(2);
-        for (Service service : Arrays.asList(SERVICE, new Service(pool))) {
-            Flow flow = new Flow("errors");
-            Flow.Step<Integer> first = flow.promise();
-            List<Flow.Step<Integer>> fail = new ArrayList<>();
-            List<Class<?>> by = new ArrayList<>();
-            fail.add(flow.supplyAsync(() -> {
-                throw new AssertionError("supplier");
-            }));
-            by.add(AssertionError.class);
-            fail.add(first.thenApply(x -> {
-                throw new StackOverflowError();
-            }));
-            by.add(StackOverflowError.class);
-            fail.add(first.<Integer>thenApply(x -> {
-                throw new LinkageError();
-            }).async());
-            by.add(LinkageError.class);
-            fail.add(first.thenCompose(x -> {
-                throw new ThreadDeath();
-            }));
-            by.add(ThreadDeath.class);
-            fail.add(first.thenCompose(x -> null));
-            by.add(NullPointerException.class);
-            fail.add(first.<Integer>thenApply(x -> x).async(act -> {
-                throw new OutOfMemoryError("no thread");
-            }));
-            by.add(OutOfMemoryError.class);
-            fail.add(flow.<Integer>supplyAsync(() -> 1).async(act -> {
-                throw new InternalError();
-            }));
-            by.add(InternalError.class);
-            Flow.Step<Integer> last = first.thenApply(x -> x + 1), async = first.thenApply(x -> x + 2).async();
-            List<Flow.Step<String>> told = new ArrayList<>();
-            for (Flow.Step<Integer> each : fail) {
-                told.add(each.handle((x, error) -> "told"));
-            }
-            Request request = service.start(flow, 1);
-            is(request.stage(last).get(20, TimeUnit.SECONDS) + request.stage(async).get(20, TimeUnit.SECONDS), 5);
-            for (int k = 0; k < fail.size(); k++) {
-                Stage<Integer> stage = request.stage(fail.get(k));
-                is(thrown(ExecutionException.class, () -> stage.get(20, TimeUnit.SECONDS)).getCause().getClass(), by.get(k));
-                is(request.stage(told.get(k)).get(20, TimeUnit.SECONDS), "told");
-            }
-        }
-        pool.shutdown();
-    }
-
-    static void emptyFlow() {
-        Flow flow = new Flow("empty");
-        Request request = SERVICE.start(flow);
-        is(request.history().events() + request.history().stages(), 0);
-        Stage<Integer> promise = request.promise(), last = promise;
-        for (int k = 0; k < 40; k++) {
-            last = last.thenApply(x -> x + 1);
-        }
-        is(promise.complete(5), true);
-        is(last.join(), 45);
-        request.close();
-        is(SERVICE.start(flow).failedFuture(new IllegalStateException()).isCompletedExceptionally(), true);
-        thrown(IllegalArgumentException.class, () -> SERVICE.start(flow, 1));
-        Flow most = new Flow("most");
-        for (int k = 0; k < 4095; k++) {
-            most.promise();
-        }
-        Flow.Step<Integer> step = most.new Step<>(0);
-        thrown(RequestFullException.class, () -> step.thenCompose(x -> null));
-        is(SERVICE.start(most).history().stages(), 4095);
-    }
-
-    /** However many requests are open, opening one more asks the JVM for no collection. */
-    static void noCollection() throws Exception {
-        AtomicInteger asked = new AtomicInteger(), told = new AtomicInteger();
-        List<GarbageCollectorMXBean> collectors = ManagementFactory.getGarbageCollectorMXBeans();
-        long before = collections(collectors);
-        for (GarbageCollectorMXBean each : collectors) {
-            ((NotificationEmitter) each).addNotificationListener((event, none) -> {
-                if (GarbageCollectionNotificationInfo.from((CompositeData) event.getUserData()).getGcCause().equals("System.gc()")) {
-                    asked.incrementAndGet();
-                }
-                told.incrementAndGet();
-            }, null, null);
-        }
-        List<Request> open = new ArrayList<>();
-        for (int k = 0; k < 9000; k++) {
-            open.add(SERVICE.request("open"));
-        }
-        is(Ledger.live() >= 9000, true);
-        int own = collectors.size();
-        System.gc();
-        for (int k = 0; k < 4000 && (asked.get() == 0 || told.get() < collections(collectors) - before); k++) {
-            Thread.sleep(5);
-        }
-        is(asked.get() >= 1 && asked.get() <= own, true);
-        is(open.get(0).completedFuture(1).join(), 1);
-        for (Request each : open) {
-            each.close();
-        }
-        is(Ledger.live() < 9000, true);
-    }
-
-    private static long collections(List<GarbageCollectorMXBean> collectors) {
-        return collectors.stream().mapToLong(GarbageCollectorMXBean::getCollectionCount).sum();
-    }
-
-    /** Where the heap has much room, what requests that nobody closes have outside of it is bounded all the same. */
-    static void bounded() throws Exception {
-        is(HostileTest.child("bounded", "-Xmx128m", "-Xmn96m", "-XX:+UseSerialGC").contains("survived"), true);
-    }
-
-    /** In a process of its own. */
-    static void unclosed() {
-        int most = 0;
-        for (int k = 0; k < 60_000; k++) {
-            SERVICE.request("unclosed").completedFuture(k);
-            most = Math.max(most, Ledger.live());
-        }
-        System.out.println("at most " + most + " were alive");
-        is(most < 30_000, true);
     }
 
     /** Numbers that are told beside an array or a place don't make the library read past them. */

@@ -1,7 +1,7 @@
 package cf.service;
 
-import static cf.service.ServiceTest.is;
-import static cf.service.ServiceTest.thrown;
+import static cf.service.Checks.is;
+import static cf.service.Checks.thrown;
 
 import java.io.InputStream;
 import java.lang.ref.WeakReference;
@@ -93,12 +93,12 @@ final class LoaderTest {
         loaders.add(used(200, true));
         gone(loaders);
         loaders.clear();
-        long before = ServiceTest.resident();
+        long before = Checks.resident();
         for (int k = 0; k < 6; k++) {
             loaders.add(used(3000, false));
             gone(loaders);
         }
-        long after = ServiceTest.resident();
+        long after = Checks.resident();
         if (Boolean.getBoolean("test.times") || after - before >= 60) {
             System.out.println("           resident before and after 6 loaders of 3,000 requests: " + before + " and " + after + " MB");
         }

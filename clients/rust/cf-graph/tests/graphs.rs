@@ -1,8 +1,9 @@
-//! What each call answers, row by row.
+//! What each call of a graph answers, row by row, on five stages.
 use cf_graph::*;
 use std::thread;
 
 const THROWN: Outcome = fault(Cause::Thrown(4_000_000_000), false);
+
 const TAKEN_OVER: Outcome = fault(Cause::Thrown(4_000_000_000), true);
 
 const fn fault(cause: Cause, wrapped: bool) -> Outcome {
@@ -171,50 +172,6 @@ fn a_sweep_calls_all_functions() {
     let mut graph = sweep.end().unwrap();
     assert_eq!(graph.outcome(4), Ok(Some(Outcome::Value(Value::Nil))));
     assert_eq!((Refused::NOT_OVER.name(), Refused::LOST.name()), ("NotOver".into(), "Lost".into()));
-}
-
-#[test]
-fn builders_refuse() {
-    let mut builder = PlanBuilder::new().unwrap();
-    assert_eq!(builder.stage(Form::Apply, &[0], Some(0)), Err(Refused::SOURCE_NOT_LOWER));
-    assert_eq!(builder.stage(Form::Source, &[], Some(0)), Err(Refused::FUNCTION_UNWANTED));
-    assert_eq!(builder.stage(Form::Supply, &[], None), Err(Refused::FUNCTION_MISSING));
-    assert_eq!(builder.limit(0, 1, Limit::Timeout), Err(Refused::NO_SUCH_STAGE));
-    assert_eq!(builder.stage(Form::Source, &[], None), Ok(0));
-    assert_eq!(builder.stage(Form::Combine, &[0], Some(0)), Err(Refused::WRONG_SOURCE_COUNT));
-    let mut plan = builder.build().unwrap();
-    assert_eq!(plan.graph(4_096).err(), Some(Refused::ROOM));
-    assert_eq!(plan.graph(4_096).err().unwrap().code(), 16);
-}
-
-#[test]
-fn each_form_has_its_number() {
-    for (form, sources, has_function) in [
-        (Form::Source, 0, false),
-        (Form::Supply, 0, true),
-        (Form::RunAsync, 0, true),
-        (Form::Apply, 1, true),
-        (Form::Accept, 1, true),
-        (Form::ThenRun, 1, true),
-        (Form::Combine, 2, true),
-        (Form::AcceptBoth, 2, true),
-        (Form::RunBoth, 2, true),
-        (Form::ApplyEither, 2, true),
-        (Form::AcceptEither, 2, true),
-        (Form::RunEither, 2, true),
-        (Form::Compose, 1, true),
-        (Form::Handle, 1, true),
-        (Form::WhenComplete, 1, true),
-        (Form::Exceptionally, 1, true),
-        (Form::AllOf, 3, false),
-        (Form::AnyOf, 3, false),
-        (Form::ExceptionallyCompose, 1, true),
-    ] {
-        let mut builder = PlanBuilder::new().unwrap();
-        assert_eq!(builder.stage(Form::Source, &[], None), Ok(0));
-        let of = vec![0; sources];
-        assert_eq!(builder.stage(form, &of, has_function.then_some(3)), Ok(1), "{form:?}");
-    }
 }
 
 #[test]

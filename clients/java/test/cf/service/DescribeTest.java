@@ -1,7 +1,8 @@
 package cf.service;
 
-import static cf.service.ServiceTest.is;
-import static cf.service.ServiceTest.thrown;
+import static cf.service.Checks.INLINE;
+import static cf.service.Checks.is;
+import static cf.service.Checks.thrown;
 
 import java.lang.ref.WeakReference;
 import java.nio.file.Files;
@@ -15,71 +16,9 @@ import java.util.concurrent.CompletionException;
 import java.util.concurrent.TimeUnit;
 import java.util.concurrent.atomic.AtomicInteger;
 
-/** What leaves the process as text: histories, texts of stages, messages and recordings. */
-final class TellingTest {
-    private static final Service SERVICE = new Service(Runnable::run);
-    private static final String EVIL = "a\n9 b ends: 1\r\t\u2028\u2029\u0085\u202e\ufeff\ud800 \udb40\udc01;\\ \ud83d\ude00";
-    private static final String ESCAPED = "a\\n9 b ends: 1\\r\\t\\u2028\\u2029\\u0085\\u202e\\ufeff\\ud800 \\udb40\\udc01;\\ \ud83d\ude00";
-
-    private TellingTest() {}
-
-    private static void plain(String text) {
-        text.codePoints().forEach(c -> {
-            int type = Character.getType(c);
-            is(type == Character.CONTROL || type == Character.FORMAT || type == Character.LINE_SEPARATOR || type == Character.PARAGRAPH_SEPARATOR
-                    || type == Character.SURROGATE, false);
-        });
-    }
-
-    /** Names of requests, stages and threads, values and exceptions stay in their line; a backslash and an emoji are told as they are. */
-    static void forged() throws Exception {
-        is(EVIL.length() < 60, true);
-        Request request = SERVICE.request(EVIL);
-        Stage<String> value = request.<String>promise().named(EVIL);
-        Stage<String> failed = value.<String>thenApply(x -> {
-            throw new IllegalStateException(EVIL);
-        }).named(EVIL);
-        Stage<String> open = request.<String>promise().named(EVIL), behind = open.thenApply(x -> x);
-        Thread thread = new Thread(() -> value.complete(EVIL), EVIL);
-        thread.start();
-        thread.join();
-        History history = request.history();
-        String said = history.toString();
-        String[] lines = said.split("\n", -1);
-        is(lines.length, 1 + history.events() + 2 + 1);
-        for (String line : lines) {
-            plain(line);
-        }
-        is(said.startsWith(ESCAPED + ": 7 events, 4 stages\n"), true);
-        is(said.contains(ESCAPED + " completes 0 " + ESCAPED + " with " + ESCAPED + "\n"), true);
-        is(said.contains("0 " + ESCAPED + " ends: " + ESCAPED + "\n"), true);
-        is(said.contains("which threw java.lang.IllegalStateException: a\\n9 b"), true);
-        String line = history.line();
-        plain(line);
-        is(line.split(";", -1).length, 3);
-        is(line.startsWith(ESCAPED.replace(";", "\\u003b") + ": 7 events"), true);
-        is(line.endsWith("; 2 open: 2 " + ESCAPED.replace(";", "\\u003b")), true);
-        for (Stage<?> each : Arrays.asList(value, failed, open, behind)) {
-            plain(each.toString());
-        }
-        is(behind.toString().contains("[" + ESCAPED + ": 3 apply: Not completed, waits for 2 " + ESCAPED + "]"), true);
-        is(failed.toString().contains("Completed exceptionally: "), true);
-        String account = history.account();
-        plain(account);
-        plain(history.script());
-        is(account.contains("\"name\":\"a\\u000a9 b ends: 1\\u000d\\u0009\\u2028\\u2029\\u0085\\u202e\\ufeff\ufffd \\udb40\\udc01;\\u005c \ud83d\ude00\""), true);
-        Flow flow = new Flow(EVIL);
-        while (true) {
-            try {
-                flow.promise();
-            } catch (RequestFullException full) {
-                is(full.getMessage().startsWith("\"" + ESCAPED + "\" has no place"), true);
-                break;
-            }
-        }
-        SERVICE.start(flow).close();
-        is(thrown(IllegalStateException.class, flow::promise).getMessage().contains(ESCAPED), true);
-    }
+/** How much is told of a value or an exception, as Describe says: types, nothing, by a function; values whose text can't be had. */
+final class DescribeTest {
+    private DescribeTest() {}
 
     /** A cut text isn't cut within a character. */
     private static void cut() {
@@ -102,40 +41,41 @@ final class TellingTest {
     }
 
     /** A request with values and exceptions that are secret, in each way in which a history or a stage tells of one. */
-    private static List<String> told(Service service, Request request) throws Exception {
-        Stage<String> first = request.<String>promise().named("first");
-        Stage<Integer> length = first.thenCombine(request.completedFuture("bearer 123"), (a, b) -> a.length() + b.length());
+    private static List<String> told(Service describing, Request described) throws Exception {
+        Stage<String> first = described.<String>promise().named("first");
+        Stage<Integer> length = first.thenCombine(described.completedFuture("bearer 123"), (a, b) -> a.length() + b.length());
         Stage<String> failed = first.<String>thenApply(x -> {
             throw new Secret();
         });
         Stage<String> handled = failed.handle((x, e) -> "bearer 123");
-        Stage<String> relayed = request.adopt(CompletableFuture.completedFuture("bearer 123"));
-        Stage<String> late = request.promise();
+        Stage<String> relayed = described.adopt(CompletableFuture.completedFuture("bearer 123"));
+        Stage<String> late = described.promise();
         late.completeExceptionally(new Secret());
         late.complete("bearer 123");
         first.complete("bearer 123");
         is(length.join() + handled.join() + relayed.join(), "20bearer 123bearer 123");
-        List<String> told = new ArrayList<>(Arrays.asList(request.history().toString(), request.history().line(), request.history().account(),
-                request.history().script(), request.history().report(), first.toString(), failed.toString(), handled.toString(), late.toString()));
+        List<String> told = new ArrayList<>(Arrays.asList(described.history().toString(), described.history().line(), described.history().account(),
+                described.history().script(), described.history().report(), first.toString(), failed.toString(), handled.toString(),
+                late.toString()));
         Flow flow = new Flow("flow");
         Flow.Step<String> given = flow.promise(), doubled = given.thenApply(x -> x + x);
-        Request started = service.start(flow, "bearer 123");
+        Request started = describing.start(flow, "bearer 123");
         is(started.stage(doubled).join(), "bearer 123bearer 123");
         told.add(started.history().toString());
-        told.add(service.supplyAsync(() -> "bearer 123").request().history().toString());
+        told.add(describing.supplyAsync(() -> "bearer 123").request().history().toString());
         return told;
     }
 
     static void described() throws Exception {
         cut();
-        Service types = SERVICE.describing(Describe.TYPES), nothing = SERVICE.describing(Describe.NOTHING);
+        Service types = INLINE.describing(Describe.TYPES), nothing = INLINE.describing(Describe.NOTHING);
         Path file = Files.createTempFile("cf", ".jfr");
         try (jdk.jfr.Recording recording = new jdk.jfr.Recording()) {
             recording.enable("cf.Word");
             recording.enable("cf.Stage");
             recording.start();
-            for (Service service : Arrays.asList(types, nothing)) {
-                for (String told : told(service, service.request("described"))) {
+            for (Service describing : Arrays.asList(types, nothing)) {
+                for (String told : told(describing, describing.request("described"))) {
                     is(told.contains("bearer"), false);
                 }
             }
@@ -152,9 +92,9 @@ final class TellingTest {
             }
         }
         Files.delete(file);
-        is(ends.contains("-") && ends.contains("java.lang.String of 10") && ends.contains("cf.service.TellingTest$Secret"), true);
-        is(told(SERVICE, SERVICE.request("all")).get(0).contains("bearer 123"), true);
-        is(told(SERVICE, SERVICE.request("one", Describe.NOTHING)).get(0).contains("bearer 123"), false);
+        is(ends.contains("-") && ends.contains("java.lang.String of 10") && ends.contains("cf.service.DescribeTest$Secret"), true);
+        is(told(INLINE, INLINE.request("all")).get(0).contains("bearer 123"), true);
+        is(told(INLINE, INLINE.request("one", Describe.NOTHING)).get(0).contains("bearer 123"), false);
         Request goesOn = types.request("goes on").goesOn();
         Stage<String> last = goesOn.completedFuture("bearer 123");
         while (goesOn.next() == null) {
@@ -163,19 +103,19 @@ final class TellingTest {
         is(last.request() == goesOn.next(), true);
         is(last.request().history().toString().contains("bearer"), false);
         is(types.request().name().equals(nothing.request().name()), false);
-        thrown(NullPointerException.class, () -> SERVICE.describing(null));
-        thrown(NullPointerException.class, () -> SERVICE.request("null", null));
+        thrown(NullPointerException.class, () -> INLINE.describing(null));
+        thrown(NullPointerException.class, () -> INLINE.request("null", null));
     }
 
     private static History held(List<WeakReference<Object>> held) {
-        Request request = SERVICE.request("held", Describe.TYPES);
+        Request described = INLINE.request("held", Describe.TYPES);
         Object value = new Object();
         Throwable error = new Secret();
-        request.completedFuture(value);
-        request.failedFuture(error);
+        described.completedFuture(value);
+        described.failedFuture(error);
         held.add(new WeakReference<>(value));
         held.add(new WeakReference<>(error));
-        return request.history();
+        return described.history();
     }
 
     static void describers() throws Exception {
@@ -185,28 +125,28 @@ final class TellingTest {
         is(Text.of(Describe.TYPES, Arrays.asList(1, 2)), "java.util.Arrays$ArrayList of 2");
         is(Text.of(Describe.TYPES, Collections.singletonMap(1, 2)), "java.util.Collections$SingletonMap of 1");
         is(Text.of(Describe.TYPES, 5), "java.lang.Integer");
-        is(Text.of(Describe.TYPES, new Secret()), "cf.service.TellingTest$Secret");
+        is(Text.of(Describe.TYPES, new Secret()), "cf.service.DescribeTest$Secret");
         is(Text.of(Describe.NOTHING, 5), "-");
         // One's own is told as it is, and where it throws, a question mark is.
-        Request own = SERVICE.request("own", value -> value instanceof String ? long_ + "\n" : null);
+        Request own = INLINE.request("own", value -> value instanceof String ? long_ + "\n" : null);
         own.completedFuture("a");
         own.completedFuture(1);
         String said = own.history().toString();
         is(said.contains("with " + long_ + "\\n\n") && said.contains("with null"), true);
         for (Throwable each : Arrays.asList(new IllegalStateException(), new StackOverflowError(), new LinkageError(), new OutOfMemoryError())) {
-            Request request = SERVICE.request("throws", value -> TellingTest.<RuntimeException>thrower(each));
-            Stage<Integer> one = request.completedFuture(1);
-            Stage<Integer> failed = request.failedFuture(new Secret());
+            Request described = INLINE.request("throws", value -> DescribeTest.<RuntimeException>thrower(each));
+            Stage<Integer> one = described.completedFuture(1);
+            Stage<Integer> failed = described.failedFuture(new Secret());
             is(one.join(), 1);
-            said = request.history().toString();
+            said = described.history().toString();
             is(said.contains("0 source ends: ?\n") && said.contains("fails 1 source with ?\n"), true);
-            is(request.history().line().contains("1 source by ?"), true);
+            is(described.history().line().contains("1 source by ?"), true);
             is(failed.toString().contains("Completed exceptionally: ?"), true);
         }
         // It is called under no lock of the request: another thread uses that meanwhile.
         Request[] locked = new Request[1];
         AtomicInteger asked = new AtomicInteger();
-        locked[0] = SERVICE.request("unlocked", value -> {
+        locked[0] = INLINE.request("unlocked", value -> {
             CompletableFuture<Integer> meanwhile = new CompletableFuture<>();
             Thread other = new Thread(() -> meanwhile.complete(locked[0].completedFuture(2).join()));
             other.start();
@@ -237,14 +177,26 @@ final class TellingTest {
         throw thrown;
     }
 
+    private static AutoCloseable recording() {
+        try {
+            jdk.jfr.Recording recording = new jdk.jfr.Recording();
+            recording.enable("cf.Stage");
+            recording.start();
+            return recording;
+        } catch (NoClassDefFoundError none) {
+            return () -> { };
+        }
+    }
+
     /** A value whose text can't be had ends its stage all the same, and what is behind it goes on, with a recording, too. */
     static void unspeakable() throws Exception {
         List<Object> mute = new ArrayList<>();
-        for (Throwable each : Arrays.asList(new IllegalStateException(), new StackOverflowError(), new NoClassDefFoundError(), new OutOfMemoryError())) {
+        for (Throwable each : Arrays.asList(new IllegalStateException(), new StackOverflowError(), new NoClassDefFoundError(),
+                new OutOfMemoryError())) {
             mute.add(new Object() {
                 @Override
                 public String toString() {
-                    return TellingTest.<RuntimeException>thrower(each);
+                    return DescribeTest.<RuntimeException>thrower(each);
                 }
             });
         }
@@ -269,14 +221,14 @@ final class TellingTest {
         });
         try (AutoCloseable recording = recording()) {
             for (Object each : mute) {
-                Request request = SERVICE.request("mute");
-                Stage<Object> first = request.promise();
+                Request described = INLINE.request("mute");
+                Stage<Object> first = described.promise();
                 Stage<String> behind = first.handle((x, e) -> "told");
                 is(each instanceof Throwable ? first.completeExceptionally((Throwable) each) : first.complete(each), true);
                 is(behind.getNow("not told"), "told");
-                is(request.history().toString().split("\n").length, 8);
-                is(request.history().line().contains("mute: 5 events"), true);
-                is(request.history().account().contains("\"name\":\"mute\""), true);
+                is(described.history().toString().split("\n").length, 8);
+                is(described.history().line().contains("mute: 5 events"), true);
+                is(described.history().account().contains("\"name\":\"mute\""), true);
                 is(first.toString().contains("mute: 0 source: Completed"), true);
             }
         }
@@ -292,8 +244,8 @@ final class TellingTest {
                 throw new IllegalStateException();
             }
         }
-        Request request = SERVICE.request("mute");
-        Stage<Integer> first = request.promise();
+        Request described = INLINE.request("mute");
+        Stage<Integer> first = described.promise();
         Stage<Integer> behind = first.thenApply(x -> x + 1), last = behind.thenApply(x -> x + 1), beside = first.exceptionally(e -> 7);
         Mute mute = new Mute();
         is(first.completeExceptionally(mute), true);
@@ -303,35 +255,5 @@ final class TellingTest {
             is(each.exceptionNow() == mute, true);
             is(each.handle((x, e) -> e instanceof CompletionException && e.getCause() == mute).join(), true);
         }
-    }
-
-    private static AutoCloseable recording() {
-        try {
-            jdk.jfr.Recording recording = new jdk.jfr.Recording();
-            recording.enable("cf.Stage");
-            recording.start();
-            return recording;
-        } catch (NoClassDefFoundError none) {
-            return () -> { };
-        }
-    }
-
-    /** A recording has events of requests only where it asks for them. */
-    static void unasked() throws Exception {
-        Path file = Files.createTempFile("cf", ".jfr");
-        try (jdk.jfr.Recording recording = new jdk.jfr.Recording(jdk.jfr.Configuration.getConfiguration("profile"))) {
-            recording.start();
-            SERVICE.request("unasked").completedFuture(1).thenApply(x -> x);
-            is(Recorder.now() != null, true);
-            is(Recorder.hasStages() || Recorder.now().takesWords(), false);
-            recording.stop();
-            recording.dump(file);
-        } catch (NoClassDefFoundError none) {
-            return;
-        }
-        for (jdk.jfr.consumer.RecordedEvent event : jdk.jfr.consumer.RecordingFile.readAllEvents(file)) {
-            is(event.getEventType().getName().startsWith("cf."), false);
-        }
-        Files.delete(file);
     }
 }

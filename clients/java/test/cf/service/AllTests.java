@@ -1,0 +1,106 @@
+package cf.service;
+
+import java.util.Arrays;
+import java.util.LinkedHashSet;
+import java.util.Set;
+
+/** Runs all tests, or those that are named, one after another in one process. They ask what OpenJDK's tests can't know of. */
+public final class AllTests {
+    private static int tests;
+    /** Names of tests that are still to be run; null where all are. */
+    private static Set<String> chosen;
+
+    private AllTests() {}
+
+    /** Runs the tests of these names, or all. */
+    public static void main(String[] args) {
+        chosen = args.length == 0 ? null : new LinkedHashSet<>(Arrays.asList(args));
+        test("Java's own classes", JavasFuturesTest::statics);
+        test("Java's methods that take stages", JavasFuturesTest::takenByJava);
+        test("who only asks", AskingTest::onlyAsks);
+        test("other requests", RelaysTest::acrossRequests);
+        test("stages that can't be asked", RelaysTest::refusedToTell);
+        test("cancellations of one's own", RelaysTest::ownCancellations);
+        test("a full request", FullRequestsTest::full);
+        test("a full request that goes on", FullRequestsTest::goesOn);
+        test("chains through requests", ChainsTest::backAndForth);
+        test("chains of finished futures", ChainsTest::finishedChains);
+        test("chains of links", ChainsTest::linkedChains);
+        test("chains through Java's futures", ChainsTest::foreignChains);
+        test("stacks that end", ChainsTest::deepStacks);
+        test("futures that live long", FreeingTest::longLived);
+        test("many behind one", FreeingTest::manyBehindOne);
+        test("what settled stages keep", FreeingTest::keptBySettled);
+        test("closed requests", ClosingTest::closed);
+        test("requests closed by their users", ClosingTest::closedWithin);
+        test("late answers", TimeoutsTest::late);
+        test("waiting in a pool of one", FunctionsTest::waitsWhileRunning);
+        test("refused tasks", FunctionsTest::refusedTasks);
+        test("errors", FunctionsTest::errors);
+        test("errors of executors", FunctionsTest::executorErrors);
+        test("a row that is broken off", RelaysTest::brokenOff);
+        test("timeouts", TimeoutsTest::timeouts);
+        test("what timed out", TimeoutsTest::timedOut);
+        test("relays of what timed out", TimeoutsTest::timedOutElsewhere);
+        test("functions here", FunctionsTest::here);
+        test("functions of others", FunctionsTest::elsewhere);
+        test("one call", HistoriesTest::oneCall);
+        test("histories", HistoriesTest::histories);
+        test("pages", HistoriesTest::pages);
+        test("what is told now", AskingTest::toldNow);
+        test("texts of stages", HistoriesTest::texts);
+        test("interrupts", AskingTest::interrupts);
+        test("races", RacesTest::races);
+        test("races of relays", RacesTest::relayRaces);
+        test("flows", FlowsTest::flows);
+        test("flows with what goes wrong", FlowsTest::flowFaults);
+        test("many news", AskingTest::manyNews);
+        test("more than 60 threads", FunctionsTest::manyThreads);
+        test("recordings", RecordingsTest::recordings);
+        test("recordings that ask for nothing", RecordingsTest::unasked);
+        test("texts that would forge lines", HistoriesTest::forged);
+        test("what is told of values", DescribeTest::described);
+        test("what describes values", DescribeTest::describers);
+        test("values that can't be shown", DescribeTest::unspeakable);
+        test("exceptions that can't be shown", DescribeTest::unspeakableWrapped);
+        test("cores used again", LedgerTest::usedAgain);
+        test("requests of one plan each have a core", LedgerTest::oneCoreEach);
+        test("attaches that fail", LedgerTest::failedAttach);
+        test("words that fail a stage for a cause", LedgerTest::failedAs);
+        test("flows that several threads start first", FlowsTest::startedTogether);
+        test("flows with errors", FlowsTest::flowErrors);
+        test("a flow without steps", FlowsTest::emptyFlow);
+        test("no collection is asked for", FreeingTest::noCollection);
+        test("memory of what nobody closes", FreeingTest::bounded);
+        test("huge arguments", LedgerTest::huge);
+        test("class loaders", LoaderTest::unloaded);
+        test("a named library in several class loaders", LoaderTest::named);
+        test("no library", LoaderTest::missing);
+        test("hostile code", HostileTest::survived);
+        test("virtual threads", FunctionsTest::virtualThreads);
+        test("what can't be reached", FreeingTest::unreachable);
+        if (chosen != null && !chosen.isEmpty()) {
+            System.err.println("there are no tests " + chosen);
+            System.exit(2);
+        }
+        System.out.println(tests + " tests passed, with " + Native.version() + " on Java " + System.getProperty("java.version"));
+        System.exit(0);
+    }
+
+    private static void test(String name, Checks.Test test) {
+        if (chosen != null && !chosen.remove(name)) {
+            return;
+        }
+        long began = System.nanoTime();
+        try {
+            test.run();
+        } catch (Throwable thrown) {
+            new AssertionError(name, thrown).printStackTrace();
+            System.exit(1); // Threads of the test's mustn't hold the process up.
+        }
+        tests++;
+        if (Boolean.getBoolean("test.times")) {
+            System.out.printf("%6d ms  %s%n", (System.nanoTime() - began) / 1_000_000, name);
+        }
+    }
+}

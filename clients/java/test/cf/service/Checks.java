@@ -1,0 +1,88 @@
+package cf.service;
+
+import java.lang.reflect.Proxy;
+import java.nio.file.Files;
+import java.nio.file.Path;
+import java.nio.file.Paths;
+import java.util.Objects;
+import java.util.concurrent.CompletableFuture;
+import java.util.concurrent.CompletionStage;
+import java.util.concurrent.CountDownLatch;
+import java.util.concurrent.TimeUnit;
+
+/** What tests check by, and odd stages and functions that several tests use: they refuse, break, or stand for another future. */
+final class Checks {
+    /** Its executor is the common pool. */
+    static final Service SERVICE = new Service();
+    /** Its executor calls each function at once, in the thread that hands it over. */
+    static final Service INLINE = new Service(Runnable::run);
+
+    private Checks() {}
+
+    interface Test {
+        void run() throws Exception;
+    }
+
+    static void is(Object found, Object wanted) {
+        if (!Objects.equals(found, wanted)) {
+            throw new AssertionError(found + " and not " + wanted);
+        }
+    }
+
+    static <X extends Throwable> X thrown(Class<X> kind, Test test) {
+        try {
+            test.run();
+        } catch (Throwable thrown) {
+            if (kind.isInstance(thrown)) {
+                return kind.cast(thrown);
+            }
+            throw new AssertionError("another exception", thrown);
+        }
+        throw new AssertionError("no " + kind.getSimpleName());
+    }
+
+    static void await(CountDownLatch latch) {
+        try {
+            is(latch.await(60, TimeUnit.SECONDS), true);
+        } catch (InterruptedException interrupted) {
+            throw new AssertionError(interrupted);
+        }
+    }
+
+    static final class Broken extends Error {
+        Broken() {
+            super("broken");
+        }
+    }
+
+    static <U> U breaks() {
+        throw new Broken();
+    }
+
+    /** Somebody's stage of which each method throws. */
+    @SuppressWarnings("unchecked")
+    static <U> CompletionStage<U> refusing(Throwable thrown) {
+        return (CompletionStage<U>) Proxy.newProxyInstance(Checks.class.getClassLoader(), new Class<?>[] {CompletionStage.class},
+                (proxy, method, given) -> {
+                    throw thrown;
+                });
+    }
+
+    static <U> CompletionStage<U> refusing() {
+        return refusing(new UnsupportedOperationException("not asked"));
+    }
+
+    /** A stage that is neither a Stage nor a CompletableFuture, and ends as that does. */
+    @SuppressWarnings("unchecked")
+    static <U> CompletionStage<U> foreign(CompletableFuture<U> future) {
+        return (CompletionStage<U>) Proxy.newProxyInstance(Checks.class.getClassLoader(), new Class<?>[] {CompletionStage.class},
+                (proxy, method, given) -> method.getDeclaringClass() == Object.class ? method.invoke(future, given)
+                        : future.getClass().getMethod(method.getName(), method.getParameterTypes()).invoke(future, given));
+    }
+
+    /** MB of memory that the process has. */
+    static long resident() throws Exception {
+        Path statm = Paths.get("/proc/self/statm");
+        return Files.exists(statm) ? Long.parseLong(new String(Files.readAllBytes(statm)).split(" ")[1]) * 4096 >> 20 : 0;
+    }
+}

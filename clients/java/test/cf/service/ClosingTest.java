@@ -1,0 +1,104 @@
+package cf.service;
+
+import static cf.service.Checks.is;
+import static cf.service.Checks.SERVICE;
+
+import java.util.ArrayList;
+import java.util.Collections;
+import java.util.List;
+import java.util.concurrent.ExecutorService;
+import java.util.concurrent.Executors;
+import java.util.concurrent.Future;
+import java.util.concurrent.TimeUnit;
+
+/** Requests that are closed, once or twice, by their functions and by threads that race. */
+final class ClosingTest {
+    private ClosingTest() {}
+
+    static void closed() {
+        Request closing = SERVICE.request();
+        Stage<Integer> beforeClosing = closing.completedFuture(1);
+        closing.close();
+        closing.close();
+        is(closing.history().events(), 2);
+        is(beforeClosing.thenApply(x -> x + 1).join(), 2);
+        is(closing.history().stages(), 2);
+        for (int k = 0; k < 100; k++) {
+            closing.close();
+            Stage<Integer> waits = closing.promise();
+            Stage<Integer> next = waits.thenApply(x -> x + 1);
+            closing.close();
+            waits.complete(k);
+            is(next.join(), k + 1);
+        }
+    }
+
+    /** Functions close the request, and so do others meanwhile. */
+    static void closedWithin() throws Exception {
+        Request closing = SERVICE.request();
+        Stage<Object> beforeClosing = closing.promise();
+        List<Stage<Object>> own = new ArrayList<>();
+        own.add(beforeClosing.thenApply(x -> {
+            closing.close();
+            own.get(0).cancel(true);
+            return 1;
+        }));
+        own.add(beforeClosing.thenApply(x -> {
+            closing.close();
+            own.get(1).complete("own");
+            closing.close();
+            return 1;
+        }));
+        beforeClosing.complete(1);
+        is(own.get(0).isCancelled(), true);
+        is(own.get(1).join(), "own");
+        ExecutorService pool = Executors.newFixedThreadPool(8);
+        for (int round = 0; round < 30; round++) {
+            Request closedMeanwhile = SERVICE.request();
+            List<Stage<Integer>> madeMeanwhile = Collections.synchronizedList(new ArrayList<>());
+            Stage<Integer> start = closedMeanwhile.promise();
+            madeMeanwhile.add(start);
+            List<Future<?>> ends = new ArrayList<>();
+            for (int t = 0; t < 8; t++) {
+                int who = t;
+                ends.add(pool.submit(() -> {
+                    for (int k = 0; k < 30; k++) {
+                        Stage<Integer> closingStage = madeMeanwhile.get((7 * who + k) % madeMeanwhile.size());
+                        switch ((who + k) % 5) {
+                            case 0: closedMeanwhile.close(); break;
+                            case 1: madeMeanwhile.add(closingStage.thenApply(x -> x + 1)); break;
+                            case 2: madeMeanwhile.add(closingStage.thenApplyAsync(x -> x + 1)); break;
+                            case 3: closedMeanwhile.history().report(); break;
+                            default: closingStage.complete(1);
+                        }
+                    }
+                }));
+            }
+            for (Future<?> end : ends) {
+                end.get(20, TimeUnit.SECONDS);
+            }
+            start.complete(1);
+            for (Stage<Integer> closingStage : madeMeanwhile) {
+                closingStage.get(20, TimeUnit.SECONDS);
+            }
+            closedMeanwhile.close();
+        }
+        pool.shutdown();
+        Throwable[] wrong = new Throwable[1];
+        Thread odd = new Thread(() -> {
+            try (Request closed = SERVICE.request()) {
+                closed.completedFuture(1);
+            } catch (Throwable thrown) {
+                wrong[0] = thrown;
+            }
+        }) {
+            @Override
+            public long getId() {
+                return -7;
+            }
+        };
+        odd.start();
+        odd.join();
+        is(wrong[0], null);
+    }
+}

@@ -1,0 +1,66 @@
+package cf.service;
+
+import static cf.service.Checks.is;
+import static cf.service.Checks.SERVICE;
+import static cf.service.Checks.thrown;
+
+import java.util.ArrayList;
+import java.util.List;
+import java.util.concurrent.CompletableFuture;
+
+/** A request with no room for one more stage, and one that goes on in further requests. */
+final class FullRequestsTest {
+    private FullRequestsTest() {}
+
+    /** One stage too many throws and changes nothing; what is there goes on to its end. */
+    static void full() {
+        Request fullRequest = SERVICE.request("full");
+        Stage<Integer> firstOfFull = fullRequest.promise();
+        List<Stage<Integer>> stages = new ArrayList<>();
+        stages.add(firstOfFull);
+        while (stages.size() < 4096) {
+            stages.add(stages.get(stages.size() - 1).thenApply(x -> x + 1));
+        }
+        Stage<Integer> lastThatFits = stages.get(4095);
+        int events = fullRequest.history().events();
+        is(thrown(RequestFullException.class, () -> lastThatFits.thenApply(x -> x)).getMessage().contains("\"full\""), true);
+        thrown(RequestFullException.class, fullRequest::promise);
+        thrown(RequestFullException.class, () -> fullRequest.adopt(new CompletableFuture<>()));
+        thrown(RequestFullException.class, () -> lastThatFits.thenCombine(new CompletableFuture<>(), (x, y) -> x));
+        is(fullRequest.history().events(), events);
+        firstOfFull.complete(0);
+        is(lastThatFits.join(), 4095);
+        is(fullRequest.history().stages(), 4096);
+        is(fullRequest.next(), null);
+        Request nearly = SERVICE.request();
+        for (int k = 0; k < 4095; k++) {
+            nearly.promise();
+        }
+        Stage<Integer> done = nearly.completedFuture(1);
+        thrown(RequestFullException.class, () -> done.thenCompose(x -> done));
+        is(nearly.history().stages(), 4096);
+        Request almost = SERVICE.request();
+        Stage<?>[] all = new Stage<?>[4090];
+        for (int k = 0; k < all.length; k++) {
+            all[k] = almost.promise();
+        }
+        thrown(RequestFullException.class, () -> almost.allOf(all));
+        is(almost.history().stages(), 4090);
+    }
+
+    static void goesOn() {
+        Request fullRequest = SERVICE.request().goesOn();
+        Stage<Integer> firstOfFull = fullRequest.promise(), lastThatFits = firstOfFull;
+        for (int k = 0; k < 10_000; k++) {
+            lastThatFits = lastThatFits.thenApply(x -> x + 1);
+        }
+        firstOfFull.complete(0);
+        is(lastThatFits.join(), 10_000);
+        int count = 0;
+        for (Request each = fullRequest; each != null; each = each.next()) {
+            count++;
+        }
+        is(count, 3);
+        is(firstOfFull.thenCombine(lastThatFits, Integer::sum).join(), 10_000);
+    }
+}

@@ -1,0 +1,224 @@
+package cf.service;
+
+import static cf.service.Checks.await;
+import static cf.service.Checks.breaks;
+import static cf.service.Checks.is;
+import static cf.service.Checks.SERVICE;
+import static cf.service.Checks.thrown;
+
+import java.util.ArrayList;
+import java.util.Arrays;
+import java.util.Collections;
+import java.util.List;
+import java.util.concurrent.CompletableFuture;
+import java.util.concurrent.CompletionException;
+import java.util.concurrent.CompletionStage;
+import java.util.concurrent.CountDownLatch;
+import java.util.concurrent.ExecutionException;
+import java.util.concurrent.TimeUnit;
+import java.util.concurrent.TimeoutException;
+
+/** Limits of time: what a stage that timed out ends with, and its relays, what is told of that, and who comes late. */
+final class TimeoutsTest {
+    private TimeoutsTest() {}
+
+    /** What hangs on one timeout, or on a delay, and takes long, delays no other one. */
+    static void timeouts() throws Exception {
+        Request timed = SERVICE.request();
+        CountDownLatch runs = new CountDownLatch(3), go = new CountDownLatch(1);
+        Runnable slow = () -> {
+            runs.countDown();
+            await(go);
+        };
+        Stage<Integer> firstTimed = timed.promise(), secondTimed = timed.promise();
+        Stage<Integer> two = secondTimed.whenComplete((x, e) -> slow.run()), one = firstTimed.exceptionally(error -> {
+            slow.run();
+            return 1;
+        });
+        firstTimed.orTimeout(1, TimeUnit.MILLISECONDS);
+        secondTimed.completeOnTimeout(2, 1, TimeUnit.MILLISECONDS);
+        timed.delayedExecutor(1, TimeUnit.MILLISECONDS, Runnable::run).execute(slow);
+        is(runs.await(20, TimeUnit.SECONDS), true);
+        timed.promise().orTimeout(1, TimeUnit.MILLISECONDS).whenComplete((x, e) -> breaks());
+        CompletableFuture<Throwable> uncaught = new CompletableFuture<>();
+        Thread.UncaughtExceptionHandler usual = Thread.getDefaultUncaughtExceptionHandler();
+        Thread.setDefaultUncaughtExceptionHandler((thread, error) -> uncaught.complete(error));
+        timed.delayedExecutor(1, TimeUnit.MILLISECONDS, Runnable::run).execute(() -> breaks());
+        is(uncaught.get(20, TimeUnit.SECONDS) instanceof Checks.Broken, true);
+        Thread.setDefaultUncaughtExceptionHandler(usual);
+        Stage<Integer> last = timed.<Integer>promise().completeOnTimeout(9, 1, TimeUnit.HOURS);
+        for (int k = 0; k < 5; k++) {
+            is(timed.<Integer>promise().completeOnTimeout(k, 1, TimeUnit.MILLISECONDS).get(20, TimeUnit.SECONDS), k);
+            is(timed.supplyAsync(() -> 1, timed.delayedExecutor(1, TimeUnit.MILLISECONDS)).get(20, TimeUnit.SECONDS), 1);
+        }
+        is(one.isDone() || two.isDone() || last.isDone(), false);
+        go.countDown();
+        is(one.get(20, TimeUnit.SECONDS) + two.get(20, TimeUnit.SECONDS), 3);
+        last.cancel(true);
+    }
+
+    /** A stage that timed out has Java's exception, and the history says why. */
+    static void timedOut() throws Exception {
+        Request timed = SERVICE.request("slow");
+        Stage<Integer> asked = timed.<Integer>promise().named("asked"), behindTimed = asked.thenApply(x -> x).named("behind");
+        List<Throwable> seen = Collections.synchronizedList(new ArrayList<>());
+        Stage<Integer> saved = asked.handle((x, error) -> seen.add(error) ? 1 : 0);
+        Stage<Integer> last = behindTimed.handle((x, error) -> seen.add(error) ? 2 : 0);
+        asked.orTimeout(1, TimeUnit.MILLISECONDS);
+        Throwable why = thrown(ExecutionException.class, () -> asked.get(20, TimeUnit.SECONDS)).getCause();
+        is(why.getClass() == TimeoutException.class && why.getMessage() == null, true);
+        is(saved.get(20, TimeUnit.SECONDS) + last.get(20, TimeUnit.SECONDS), 3);
+        is(seen.get(0) == why && seen.get(1) instanceof CompletionException && seen.get(1).getCause() == why, true);
+        is(thrown(CompletionException.class, asked::join).getCause() == why, true);
+        is(thrown(CompletionException.class, behindTimed::join) == seen.get(1), true);
+        is(asked.isCompletedExceptionally() && !asked.isCancelled(), true);
+        is(asked.exceptionNow() == why && behindTimed.exceptionNow() == why, true);
+        is(asked.toString().endsWith(": 0 asked: Completed exceptionally: java.util.concurrent.TimeoutException]"), true);
+        History history = timed.history();
+        String said = history.toString();
+        is(said.contains("the clock times out 0 asked\n") && said.contains("0 asked ends: timed out\n"), true);
+        is(said.contains("1 behind ends: timed out, wrapped\n"), true);
+        is(said.contains("claims 2 handle and is granted, with a timeout\n"), true);
+        is(history.line().contains("; 2 failed: 0 asked by timed out; 0 open"), true);
+        is(history.script().startsWith("{\"cf\":3,\"room\":4,") && history.script().contains("[\"failAs\",0,\"timeout\"]"), true);
+        String report = history.report();
+        is(report.contains("\ngranted got fault timeout raw\n"), true);
+        is(report.contains("\ngranted got fault timeout wrapped\n"), true);
+        is(report.contains("\nstage 0 fault timeout raw\nstage 1 fault timeout wrapped\n"), true);
+        is(history.account().contains("\"errors\":[]"), true);
+        long word = 0;
+        for (long each : history.words()) {
+            word = Words.kind(each) == Words.FAIL_AS ? each : word;
+        }
+        is(word, 8L << 56);
+        is(Words.name(word), "failAs");
+        // All of a request have one; who comes too late is told so.
+        Request otherTimed = SERVICE.request();
+        Stage<Integer> firstTimed = otherTimed.promise(), secondTimed = otherTimed.promise(), done = otherTimed.completedFuture(1);
+        is(otherTimed.history().script().startsWith("{\"cf\":2,"), true);
+        is(otherTimed.timeOut(firstTimed.number()) && otherTimed.timeOut(secondTimed.number()), true);
+        is(otherTimed.timeOut(done.number()) || otherTimed.timeOut(firstTimed.number()) || firstTimed.complete(1) || firstTimed.cancel(true), false);
+        is(firstTimed.exceptionNow() == secondTimed.exceptionNow() && firstTimed.exceptionNow() != why, true);
+        is(otherTimed.history().toString().contains("the clock times out 2 source, too late\n"), true);
+        is(otherTimed.history().report().endsWith("\ntrue\ntrue\nfalse\nfalse\nfalse\nfalse\n"
+                + "stage 0 fault timeout raw\nstage 1 fault timeout raw\nstage 2 value 0\n"), true);
+        // A flow's stage, and what is behind a minimal one.
+        Flow flow = new Flow("flow");
+        Flow.Step<Integer> given = flow.promise(), next = given.thenApply(x -> x);
+        Request begun = SERVICE.start(flow);
+        begun.stage(given).orTimeout(1, TimeUnit.MILLISECONDS);
+        Throwable cause = thrown(ExecutionException.class, () -> begun.stage(next).get(20, TimeUnit.SECONDS)).getCause();
+        is(cause instanceof TimeoutException && begun.stage(given).exceptionNow() == cause, true);
+        CompletionStage<Integer> minimal = begun.stage(given).minimalCompletionStage();
+        is(thrown(CompletionException.class, () -> minimal.toCompletableFuture().join()).getCause() == cause, true);
+    }
+
+    private static String end(Stage<?> timedStage) {
+        return timedStage.request().history().end(timedStage.number());
+    }
+
+    /** A relay of a stage that timed out ends so, too, where nobody is told another exception for it. */
+    static void timedOutElsewhere() throws Exception {
+        for (int round = 0; round < 4; round++) {
+            boolean wrapped = round % 2 == 1, before = round / 2 == 1;
+            Request otherTimed = SERVICE.request();
+            Stage<Integer> slow = otherTimed.promise(), of = wrapped ? slow.thenApply(x -> x) : slow;
+            if (before) {
+                otherTimed.timeOut(slow.number());
+            }
+            Request three = SERVICE.request();
+            List<Stage<?>> behindTimed = Arrays.asList(SERVICE.request().<Integer>promise().applyToEither(of, x -> x),
+                    SERVICE.request().completedFuture(1).thenCombine(of, Integer::sum),
+                    SERVICE.request().completedFuture(1).thenCompose(x -> of),
+                    SERVICE.request().<Integer>failedFuture(new IllegalStateException()).exceptionallyCompose(error -> of),
+                    three.anyOf(three.promise(), of, three.promise()));
+            Stage<Integer> adopted = SERVICE.request().adopt(of);
+            if (!before) {
+                otherTimed.timeOut(slow.number());
+            }
+            for (Stage<?> each : behindTimed) {
+                is(thrown(CompletionException.class, each::join).getCause().getClass(), TimeoutException.class);
+                is(end(each), "fault timeout wrapped");
+                is(each.request().history().toString().contains("a relay times out "), true);
+            }
+            Throwable told = ((Faults.Fault) of.told).error;
+            is(adopted.handle((x, error) -> wrapped ? error == told : error.getClass() == TimeoutException.class).join(), true);
+            is(end(adopted), wrapped ? "fault thrown 0 raw" : "fault timeout raw");
+            furtherTimedOut(wrapped);
+            linkedTimedOut(wrapped);
+        }
+        // What is somebody's own exception stays that.
+        Request timed = SERVICE.request();
+        TimeoutException why = new TimeoutException("why");
+        CompletableFuture<Integer> foreign = new CompletableFuture<>();
+        Stage<Integer> otherTimed = SERVICE.request().failedFuture(why);
+        List<Stage<Integer>> made = Arrays.asList(timed.adopt(foreign), timed.adopt(otherTimed), timed.failedFuture(why));
+        foreign.completeExceptionally(why);
+        for (Stage<Integer> each : made) {
+            is(each.exceptionNow() == why, true);
+            is(end(each), "fault thrown 0 raw");
+        }
+        is(timed.history().script().startsWith("{\"cf\":2,"), true);
+    }
+
+    /** Functions in a further request are called with what they would be called with in the first one. */
+    private static void furtherTimedOut(boolean wrapped) {
+        Request timed = SERVICE.request().goesOn();
+        Stage<Integer> slow = timed.promise(), of = wrapped ? slow.thenApply(x -> x) : slow;
+        while (timed.next() == null) {
+            timed.promise();
+        }
+        List<Throwable> seen = new ArrayList<>();
+        List<Stage<?>> behindTimed = Arrays.asList(of.handle((x, error) -> seen.add(error)),
+                of.whenComplete((x, error) -> seen.add(error)), of.exceptionally(error -> seen.add(error) ? 1 : 0),
+                of.exceptionallyCompose(error -> seen.add(error) ? of : null));
+        Stage<Integer> passed = of.thenApply(x -> x);
+        timed.timeOut(slow.number());
+        is(seen.size(), behindTimed.size());
+        for (Throwable each : seen) {
+            is(each.getClass(), wrapped ? CompletionException.class : TimeoutException.class);
+        }
+        is(end(passed), "fault timeout wrapped");
+        is(timed.next().history().toString().split("a relay times out ", -1).length - 1, wrapped ? 2 : 6);
+    }
+
+    /** What a function gave stands behind its stage in the request, and is settled later, or by then. */
+    private static void linkedTimedOut(boolean wrapped) {
+        Request timed = SERVICE.request();
+        Stage<Integer> firstTimed = timed.promise(), secondTimed = timed.promise();
+        List<Stage<Integer>> given = new ArrayList<>();
+        Stage<Integer> later = firstTimed.thenCompose(x -> given.get(0)), then = secondTimed.thenCompose(x -> given.get(0));
+        Stage<Integer> slow = timed.promise();
+        given.add(wrapped ? slow.thenApply(x -> x) : slow);
+        firstTimed.complete(1);
+        timed.timeOut(slow.number());
+        secondTimed.complete(2);
+        for (Stage<Integer> each : Arrays.asList(later, then)) {
+            is(each.exceptionNow() == slow.exceptionNow(), true);
+            is(end(each), "fault timeout wrapped");
+        }
+        is(timed.history().toString().split("a relay times out ", -1).length - 1, 2);
+    }
+
+    /** Who finishes behind a timeout is late, and what he gave is in the history alone. */
+    static void late() throws Exception {
+        Request timed = SERVICE.request();
+        CountDownLatch go = new CountDownLatch(1);
+        Stage<String> slow = timed.supplyAsync(() -> {
+            try {
+                go.await();
+            } catch (InterruptedException interrupted) {
+                throw new AssertionError(interrupted);
+            }
+            return "late";
+        }, run -> new Thread(run, "slow").start()).completeOnTimeout("early", 20, TimeUnit.MILLISECONDS);
+        is(slow.join(), "early");
+        go.countDown();
+        while (!timed.history().toString().contains("slow finishes 0 supply, which gave late, too late")) {
+            Thread.sleep(1);
+        }
+        is(slow.join(), "early");
+        ExecutionException told = thrown(ExecutionException.class, () -> timed.promise().orTimeout(1, TimeUnit.MILLISECONDS).get());
+        is(told.getCause() instanceof TimeoutException, true);
+    }
+}

@@ -1,0 +1,223 @@
+#!/usr/bin/env python3
+"""Forks: parent and child go on, while threads run functions, wait, change requests, and while a plan is built.
+
+    CF_LIBRARY=/path/to/libcf.so python3 clients/python/tests/service/test_forks.py [-v] [TEST ..]
+"""
+import os
+import unittest
+
+from case import program
+from cf.service._core import IS_MODULE
+
+
+@unittest.skipUnless(hasattr(os, "fork"), "no fork")
+class Forks(unittest.TestCase):
+    @unittest.skipUnless(hasattr(os, "fork"), "no fork")
+    def test_fork(self):
+        out, err, status = program("""
+            service = Service(2)
+            begun, goes_on = threading.Event(), threading.Event()
+            stage = service.submit(lambda: begun.set() or goes_on.wait(5) or os.getpid())
+            queued = [service.submit(os.getpid) for _ in range(3)]
+            later = service.request().promise().or_timeout(50)
+            begun.wait(5)
+            child = os.fork()
+            if not child:
+                mine = service.submit(os.getpid).result(5) == os.getpid()
+                late = service.request().promise().complete_on_timeout(1, 0.01).result(5)
+                print("child", mine, late, stage.done(), flush=True)
+            else:
+                os.waitpid(child, 0)
+                goes_on.set()
+                print("parent", {it.result(5) for it in queued} == {os.getpid()}, stage.result(5), flush=True)
+        """)
+        self.assertEqual((out, status), ("child True 1 False\nparent True True\n", 0), err)
+
+    @unittest.skipUnless(hasattr(os, "fork"), "no fork")
+    def test_forks_under_load(self):
+        """Children go on with requests that the parent's threads were changing, waiting for and reading as it
+        forked."""
+        out, err, status = program("""
+            import concurrent.futures, random, signal
+            from cf.service import RequestFull
+            FORKS, service, over = int(os.environ.get("CF_FORKS", "20")), Service(3), []
+            known = [service.request(room=64) for _ in range(6)]
+            last = [(request, request.promise()) for request in known]
+
+            def change(k):
+                while not over:
+                    request, rng = known[k], random.random()
+                    try:
+                        promise = request.promise()
+                        last[k] = (request, promise)
+                        behind = [promise.then(lambda x: x), promise.handle(lambda value, error: value)]
+                        both = request.all_of(*behind)
+                        promise.add_done_callback(lambda _: request.promise())
+                        time.sleep(rng / 1000)
+                        settles = promise.complete if rng < 0.6 else promise.fail if rng < 0.8 else promise.or_timeout
+                        settles(0.001 if rng >= 0.8 else KeyError())
+                        both.add_done_callback(lambda _: None)
+                    except RequestFull:
+                        known[k] = service.request(room=64)
+                    if request._stages > 100:
+                        known[k] = service.request(room=64)
+
+            def wait_for(k):
+                while not over:
+                    promise = last[k][1]
+                    concurrent.futures.wait([promise, last[k - 1][1]], 0.0002)
+                    try:
+                        promise.exception(0.0002)
+                    except (concurrent.futures.TimeoutError, concurrent.futures.CancelledError):
+                        pass
+                    known[k].history()
+                    time.sleep(0.0005)
+
+            def child():
+                told = []
+                for request, promise in [*last, *[(request, None) for request in known]]:
+                    if promise is not None:
+                        promise.done(), promise.running()
+                        promise.complete(7)
+                        assert not concurrent.futures.wait([promise], 10).not_done
+                        assert list(concurrent.futures.as_completed([promise], 10)) == [promise]
+                        promise.exception(10)
+                        promise.add_done_callback(told.append)
+                        assert told.pop() is promise
+                    try:
+                        mine = request.promise()
+                        behind = mine.then(lambda x: x + 1)
+                        got = []
+                        waits = threading.Thread(target=lambda: got.append(mine.result(10)))
+                        waits.start()
+                        mine.complete(1)
+                        waits.join(10)
+                        assert (got, behind.result(10)) == ([1], 2)
+                    except RequestFull:
+                        pass
+                    history = request.history()
+                    assert history.report().count("\\n") == len(history.words) + len(history.names)
+                assert service.submit(os.getpid).result(10) == os.getpid()
+
+            threads = [threading.Thread(target=each, args=[k], daemon=True)
+                       for k in range(6) for each in (change, wait_for)]
+            for thread in threads:
+                thread.start()
+            ends = []
+            for _ in range(FORKS):
+                time.sleep(random.random() / 200)
+                pid = os.fork()
+                if not pid:
+                    signal.alarm(30)  # ends a child that hangs
+                    try:
+                        child()
+                        os._exit(0)
+                    except BaseException:
+                        import traceback
+                        traceback.print_exc()
+                    finally:
+                        os._exit(1)
+                ends.append(os.waitpid(pid, 0)[1])
+                if ends[-1]:
+                    break
+            over.append(1)
+            print(len(ends), set(ends), flush=True)
+            os._exit(0)
+        """, timeout=300)
+        self.assertEqual((out, status), (f"{os.environ.get('CF_FORKS', '20')} {{0}}\n", 0), err)
+
+    @unittest.skipUnless(hasattr(os, "fork"), "no fork")
+    def test_fork_while_a_thread_has_a_stage(self):
+        """A thread of the parent's is within a stage's condition, and another waits for it, as the process forks."""
+        out, err, status = program("""
+            import concurrent.futures, signal
+            service, held, goes_on = Service(1), threading.Event(), threading.Event()
+            promise = service.request().promise()
+            waits = threading.Thread(target=concurrent.futures.wait, args=([promise],), daemon=True)
+            waits.start()
+            time.sleep(0.1)
+
+            def hold():
+                with promise._condition:
+                    held.set()
+                    goes_on.wait(20)
+            threading.Thread(target=hold, daemon=True).start()
+            held.wait(5)
+            pid = os.fork()
+            if not pid:
+                signal.alarm(10)  # ends it where it hangs
+                promise.complete(1)
+                print(promise.result(5), len(concurrent.futures.wait([promise], 5).done), promise.running(), flush=True)
+                os._exit(0)
+            status = os.waitpid(pid, 0)[1]
+            goes_on.set()
+            promise.complete(2)
+            waits.join(5)
+            print(status, promise.result(5), waits.is_alive(), flush=True)
+        """)
+        self.assertEqual((out, status), ("1 1 False\n0 2 False\n", 0), err)
+
+    @unittest.skipIf(IS_MODULE or not hasattr(os, "fork"), "the module has no lock")
+    def test_fork_while_a_thread_changes_a_request(self):
+        """The fork waits for it; where that takes too long, the request is the parent's."""
+        out, err, status = program("""
+            import signal
+            from cf.service import _plain
+            service = Service(1)
+            request, other = service.request(), service.request()
+            promise, goes_on = request.promise(), threading.Event()
+
+            def hold(seconds):
+                with request._lock:
+                    goes_on.set()
+                    time.sleep(seconds)
+            for seconds, most in ((0.3, 10), (2, 0.1)):
+                _plain._forks.SECONDS = most
+                goes_on.clear()
+                thread = threading.Thread(target=hold, args=[seconds])
+                thread.start()
+                goes_on.wait(5)
+                pid = os.fork()
+                if not pid:
+                    signal.alarm(10)
+                    try:
+                        print(promise.complete(1), flush=True)
+                    except RuntimeError as error:
+                        print(error, flush=True)
+                    print(other.promise().complete(3), flush=True)
+                    os._exit(0)
+                print(os.waitpid(pid, 0)[1], flush=True)
+                thread.join()
+            print(promise.complete(2), promise.result(5))
+        """)
+        told = "this request was being changed as its process forked: it is the parent's alone"
+        self.assertEqual((out, status), (f"True\nTrue\n0\n{told}\nTrue\n0\nTrue 2\n", 0), err)
+
+    @unittest.skipUnless(hasattr(os, "fork"), "no fork")
+    def test_fork_while_a_plan_is_built(self):
+        out, err, status = program("""
+            import signal
+            from cf.service import Flow, flow as flows
+            service, entered, PlanCore = Service(1), threading.Event(), flows.PlanCore
+
+            def slowly(rows):
+                entered.set()
+                time.sleep(0.3)
+                return PlanCore(rows)
+            flows.PlanCore = slowly
+            flow = Flow()
+            end = flow.promise().then(str)
+            threading.Thread(target=flow.run).start()
+            entered.wait(20)
+            pid = os.fork()
+            if not pid:
+                signal.alarm(20)  # ends it where it hangs
+                print(service.start(flow, 1)[end].result(10), flush=True)
+                os._exit(0)
+            print(os.waitpid(pid, 0)[1], flush=True)
+        """)
+        self.assertEqual((out, status), ("1\n0\n", 0), err)
+
+
+if __name__ == "__main__":
+    unittest.main()

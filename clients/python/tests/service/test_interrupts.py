@@ -1,0 +1,151 @@
+#!/usr/bin/env python3
+"""Interrupts, exits and other exceptions of any kind, and the end of the stack: of functions, of who waits, in the
+midst of a call.
+
+    CF_LIBRARY=/path/to/libcf.so python3 clients/python/tests/service/test_interrupts.py [-v] [TEST ..]
+"""
+import signal
+import unittest
+
+from case import Case, CoreCase, program, Wild
+from cf.service import Request
+from cf.service._core import IS_MODULE
+
+
+class Interrupts(Case):
+    def test_base_exceptions_of_functions(self):
+        for kind in (KeyboardInterrupt, SystemExit, Wild, GeneratorExit):
+            def raises(*_):
+                raise kind("y")
+            self.assertIsInstance(self.service.submit(raises).exception(5), kind)
+            self.assertIsInstance(self.request.supply(str).compose(raises).exception(5), kind)
+        self.assertEqual(self.service.submit(str, 1).result(5), "1")
+
+    @unittest.skipUnless(hasattr(signal, "SIGINT"), "no signals")
+    def test_interrupt_of_who_waits(self):
+        out, err, status = program("""
+            import signal
+            # (where this was begun in the background, it is ignored)
+            signal.signal(signal.SIGINT, signal.default_int_handler)
+            with Service(2) as service:
+                promise = service.request().promise()
+                behind = promise.then(lambda x: x + 1)
+                threading.Timer(0.2, lambda: os.kill(os.getpid(), signal.SIGINT)).start()
+                try:
+                    promise.result(20)
+                except KeyboardInterrupt:
+                    print("interrupted", promise.done())
+                promise.complete(1)
+                print(behind.result(5))
+        """)
+        self.assertEqual((out, status), ("interrupted False\n2\n", 0), err)
+
+    @unittest.skipUnless(IS_MODULE, "by ctypes an interrupt may come between an event and its showing, as within "
+                                    "concurrent.futures")
+    def test_interrupts_lose_nothing(self):
+        """The main thread is interrupted at any point while it attaches and completes; each stage that it was given
+        is settled."""
+        out, err, status = program("""
+            import random, signal
+            seen, lost = 0, 0
+            with Service(2) as service:
+                def interrupt():
+                    while not over:
+                        time.sleep(random.random() / 500)
+                        os.kill(os.getpid(), signal.SIGINT)
+                over = []
+                signal.signal(signal.SIGINT, signal.SIG_IGN)
+                thread = threading.Thread(target=interrupt, daemon=True)
+                thread.start()
+                end = time.monotonic() + 2
+                while time.monotonic() < end:
+                    promise = service.request().promise()
+                    behind = promise.then(lambda x: x)
+                    signal.signal(signal.SIGINT, signal.default_int_handler)
+                    try:
+                        try:
+                            promise.complete(1)
+                            while True:
+                                promise.complete(2)
+                        finally:
+                            signal.signal(signal.SIGINT, signal.SIG_IGN)
+                    except KeyboardInterrupt:
+                        seen += 1
+                    promise.complete(3)
+                    lost += behind.result(5) not in (1, 2, 3)
+                over.append(1)
+                thread.join()
+            print(seen > 20, lost)
+        """)
+        self.assertEqual((out, status), ("True 0\n", 0), err)
+
+
+class InterruptsOfCores(CoreCase):
+    def test_a_put_that_raises_is_done_again(self):
+        class Interrupted:
+            closed, clock = False, None
+
+            def __init__(self):
+                self.calls, self.taken = 0, []
+
+            def refusal(self):
+                return RuntimeError("nobody")
+
+            def put(self, stage):
+                self.calls += 1
+                if self.calls % 2:
+                    raise KeyboardInterrupt
+                self.taken.append(stage.number)
+                return self.calls > 2
+        interrupted = Interrupted()
+        of_interrupted = Request(interrupted, "r", 8)
+        before_interrupt = of_interrupted.promise()
+        ends = [before_interrupt.then(str) for _ in range(3)]
+        with self.assertRaises(KeyboardInterrupt):
+            before_interrupt.complete(1)
+        self.assertEqual((interrupted.taken, str(ends[0].exception(0)), [it.done() for it in ends]),
+                         ([1, 2, 3], "nobody", [True, False, False]))
+
+    @unittest.skipUnless(IS_MODULE,
+                         "by ctypes the stack may end between an event and its showing, as within concurrent.futures")
+    def test_at_the_end_of_the_stack(self):
+        """A stage is settled where Python's stack has no room left: who waits for it wakes, and what is behind it
+        runs."""
+        out, err, status = program("""
+            import concurrent.futures
+            service, told = Service(1), []
+            service.submit(abs, 1).result(9)
+            promises = [service.request().promise() for _ in range(60)]
+            behind = [promise.then(abs) for promise in promises]
+            threads = [threading.Thread(target=lambda it=it: told.append(it.result(20)), daemon=True)
+                       for it in promises[::2]]
+            waits = threading.Thread(target=lambda: told.append(len(concurrent.futures.wait(promises, 20).done)),
+                                     daemon=True)
+            for thread in (*threads, waits):
+                thread.start()
+            while not all(it._condition._waiters for it in promises[::2]) or not all(it._waiters for it in promises):
+                time.sleep(0.001)
+            left = list(promises)
+
+            def deeper():
+                try:
+                    deeper()
+                except RecursionError:
+                    pass
+                if left:
+                    try:
+                        left[-1].complete(-1)
+                    except RecursionError:
+                        pass
+                    if left[-1].done():
+                        left.pop()
+            deeper()
+            for thread in (*threads, waits):
+                thread.join(20)
+            print(len(left), len(told), [it.result(20) for it in behind] == [1] * 60, sys.getrecursionlimit())
+        """)
+        self.assertEqual((out, status), ("0 31 True 1000\n", 0), err)
+
+
+if __name__ == "__main__":
+    unittest.main()

@@ -1,0 +1,198 @@
+#!/usr/bin/env python3
+"""LoopService: coroutines as functions, what a timeout cancels, limits, contexts, names, what leaves the loop and what
+doesn't, threads beside it, a loop that is closed.
+
+    CF_LIBRARY=/path/to/libcf.so python3 clients/python/tests/service/test_loops.py [-v] [TEST ..]
+"""
+import asyncio
+import contextvars
+import math
+import threading
+import unittest
+
+from case import fails, inc, Oops, Thing, Wild
+from cf.service import Flow, flow as flows, LoopService, Service
+
+
+class Loops(unittest.TestCase):
+    def test_coroutines(self):
+        async def load(n):
+            await asyncio.sleep(0)
+            return n
+
+        async def bad(_):
+            await asyncio.sleep(0)
+            raise Oops("co")
+
+        async def main():
+            loop_service = LoopService(asyncio.get_running_loop())
+            on_loop = loop_service.request("r")
+            number = on_loop.supply(load, 17)
+            self.assertEqual(await number.then(load).then(inc), 18)
+            self.assertEqual(await number.then(bad).recover(lambda e: str(e)), "co")
+            self.assertEqual(await number.compose(lambda x: on_loop.supply(load, x + 1)), 18)
+            self.assertEqual(await on_loop.gather(*[on_loop.supply(load, k) for k in range(10)]), list(range(10)))
+            with self.assertRaises(Oops):
+                await number.then(bad)
+            self.assertIn("worker 0 finishes", str(on_loop.history()))
+        asyncio.run(main())
+
+    def test_timeouts_cancel(self):
+        ended = []
+
+        async def slow():
+            try:
+                await asyncio.sleep(10)
+            except asyncio.CancelledError:
+                ended.append("cancelled")
+                raise
+
+        async def main():
+            loop_service = LoopService(asyncio.get_running_loop())
+            on_loop = loop_service.request()
+            self.assertEqual(await on_loop.supply(slow).complete_on_timeout("late", 0.02), "late")
+            with self.assertRaises(TimeoutError):
+                await on_loop.supply(slow).or_timeout(0.02)
+            loop_stage = on_loop.supply(slow)
+            await asyncio.sleep(0.02)
+            self.assertTrue(loop_stage.abandon())
+            await asyncio.sleep(0.02)
+            quick = on_loop.supply(str, 1).or_timeout(50)
+            self.assertEqual(await quick, "1")
+        asyncio.run(main())
+        self.assertEqual(ended, ["cancelled"] * 3)
+
+    def test_limits_of_any_size(self):
+        async def main():
+            on_loop = LoopService(asyncio.get_running_loop()).request()
+            for seconds in (math.inf, 1e10, 1e300):
+                loop_promise = on_loop.promise().or_timeout(seconds)
+                self.assertEqual(await on_loop.promise().complete_on_timeout(1, 0.01), 1)
+                self.assertTrue(loop_promise.complete(1))
+            with self.assertRaises(TimeoutError):
+                await on_loop.promise().or_timeout(-1)
+            with self.assertRaises(ValueError):
+                on_loop.promise().or_timeout(math.nan)
+        asyncio.run(main())
+
+    def test_functions_have_the_context_of_where_they_were_attached(self):
+        tenant, seen = contextvars.ContextVar("tenant", default="-"), []
+
+        async def later(_):
+            first = tenant.get()
+            await asyncio.sleep(0)
+            seen.append((first, tenant.get()))
+
+        def leaks(_):
+            seen.append(tenant.get())
+            tenant.set("leaked")
+
+        async def handler(loop_service, name, cache):
+            tenant.set(name)
+            on_loop = loop_service.request(name)
+            await on_loop.adopt(cache).then(leaks).then(later).then(leaks)
+            seen.append(tenant.get())
+
+        async def main():
+            loop_service = LoopService(asyncio.get_running_loop())
+            for name in ("acme", "umbrella"):
+                cache = loop_service.request("cache").promise()
+                task = asyncio.ensure_future(handler(loop_service, name, cache))
+                await asyncio.sleep(0)
+                tenant.set("loader")
+                cache.complete(1)
+                await task
+                self.assertEqual(seen, [name, (name, name), name, name])
+                seen.clear()
+            flow = Flow()
+            end = flow.promise().then(leaks).then(later)
+            tenant.set("starter")
+            request = loop_service.start(flow)
+            tenant.set("completer")
+            request[flow_promise(flow)].complete(1)
+            await request[end]
+            self.assertEqual(seen, ["starter", ("starter", "starter")])
+
+        def flow_promise(flow):
+            return flows.Step(flow, 0)
+        asyncio.run(main())
+
+    def test_names_of_functions(self):
+        async def main():
+            on_loop = LoopService(asyncio.get_running_loop()).request()
+            self.assertEqual([on_loop.supply(inc).name, on_loop.supply(flows.functools.partial(inc, 1)).name,
+                              on_loop.supply(Thing()).name, on_loop.promise().then(inc).name],
+                             ["inc", "inc", "Thing", "inc"])
+        asyncio.run(main())
+
+    def test_interrupts_and_exits_leave_the_loop(self):
+        """As those of asyncio's tasks do. The stage has it, and what is behind it is run all the same, once the loop
+        goes on."""
+        for kind in (KeyboardInterrupt, SystemExit):
+            async def later():
+                await asyncio.sleep(0)
+                raise kind
+
+            def now():
+                raise kind
+            for raises in (now, later):
+                loop = asyncio.new_event_loop()
+                loop.set_exception_handler(lambda *_: None)
+                on_loop = LoopService(loop).request()
+                loop_stage = on_loop.supply(raises)
+                behind = [loop_stage.recover(lambda error: type(error)), loop_stage.recover(lambda _: 2)]
+                with self.assertRaises(kind):
+                    loop.run_until_complete(asyncio.sleep(20))
+                self.assertIsInstance(loop_stage.exception(0), kind)
+                self.assertEqual(loop.run_until_complete(asyncio.wait_for(on_loop.gather(*behind), 20)), [kind, 2])
+                loop.close()
+
+    def test_other_exceptions_stay_in_the_loop(self):
+        async def main():
+            on_loop = LoopService(asyncio.get_running_loop()).request()
+
+            def wild():
+                raise Wild
+
+            async def later():
+                raise Wild
+            for raises in (wild, later):
+                self.assertEqual(await on_loop.supply(raises).recover(lambda error: type(error)), Wild)
+        asyncio.run(main())
+
+    def test_other_threads_complete(self):
+        async def main():
+            loop_promise = LoopService(asyncio.get_running_loop()).request().promise()
+            behind = loop_promise.then(inc)
+            threading.Timer(0.02, loop_promise.complete, [1]).start()
+            self.assertEqual(await asyncio.wait_for(asyncio.wrap_future(behind), 5), 2)
+        asyncio.run(main())
+
+    def test_threads_stages_are_awaited(self):
+        async def main():
+            with Service(2) as loop_service:
+                self.assertEqual(await loop_service.submit(str, 1), "1")
+                self.assertEqual(await asyncio.get_running_loop().run_in_executor(loop_service, str, 2), "2")
+                with self.assertRaises(Oops):
+                    await loop_service.submit(fails)
+                task = asyncio.ensure_future(asyncio.wrap_future(loop_promise := loop_service.request().promise()))
+                await asyncio.sleep(0)
+                task.cancel()
+                await asyncio.sleep(0.01)
+                self.assertTrue(loop_promise.cancelled())
+        asyncio.run(main())
+
+    def test_closed_loop(self):
+        loop = asyncio.new_event_loop()
+        on_loop = LoopService(loop).request()
+        loop_promise = on_loop.promise()
+        behind = loop_promise.then(inc)
+        loop.close()
+        loop_promise.complete(1)
+        self.assertIsInstance(behind.exception(5), RuntimeError)
+        with self.assertRaises(RuntimeError):
+            on_loop.supply(str)
+
+
+if __name__ == "__main__":
+    unittest.main()

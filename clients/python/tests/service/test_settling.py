@@ -1,0 +1,98 @@
+#!/usr/bin/env python3
+"""Who settles a stage: of complete, fail, cancel and abandon the first one does, also while its function runs.
+
+    CF_LIBRARY=/path/to/libcf.so python3 clients/python/tests/service/test_settling.py [-v] [TEST ..]
+"""
+import threading
+import unittest
+from concurrent.futures import InvalidStateError
+
+from case import Case, CoreCase, Oops
+from cf.service._core import IS_MODULE
+
+
+class Settling(Case):
+    def test_first_wins(self):
+        settling = self.request.promise()
+        self.assertFalse(settling.done())
+        self.assertTrue(settling.complete(1))
+        self.assertFalse(settling.complete(2) or settling.fail(Oops()) or settling.cancel() or settling.abandon())
+        self.assertEqual((settling.result(), settling.done(), settling.cancelled(), settling.running()),
+                         (1, True, False, False))
+        with self.assertRaises(InvalidStateError):
+            settling.set_result(1)
+        with self.assertRaises(InvalidStateError):
+            settling.set_exception(Oops())
+
+    def test_running_stages(self):
+        begun, goes_on = threading.Event(), threading.Event()
+        running = self.request.supply(lambda: begun.set() or goes_on.wait(5) or 1)
+        begun.wait(5)
+        self.assertTrue(running.running())
+        self.assertFalse(running.cancel())
+        self.assertTrue(running.abandon())
+        goes_on.set()
+        self.assertTrue(running.cancelled())
+        self.service.shutdown()
+        self.assertIn("too late", str(self.request.history()))
+
+    def test_promise_of_somebody_else(self):
+        settling = self.request.promise()
+        self.assertTrue(settling.set_running_or_notify_cancel())
+        self.assertFalse(settling.cancel())
+        with self.assertRaises(RuntimeError):
+            settling.set_running_or_notify_cancel()
+        settling.set_result(1)
+        stopped = self.request.promise()
+        stopped.cancel()
+        self.assertFalse(stopped.set_running_or_notify_cancel())
+
+
+class SettlingUnderTheLock(CoreCase):
+    @unittest.skipIf(IS_MODULE, "the module has no lock")
+    def test_who_is_told_that_a_stage_is_settled_finds_it_so(self):
+        """An event and what it settles are shown under one lock: here the first of two stages is long in being
+        shown."""
+        r, begun, goes_on, told = self.request, threading.Event(), threading.Event(), []
+
+        class Slow:
+            def add_result(self, _stage):
+                begun.set()
+                goes_on.wait(30)
+        first = r.promise()
+        second = r.all_of(first)
+        first._waiters.append(Slow())
+        threads = [threading.Thread(target=first.complete, args=[1]),
+                   threading.Thread(target=lambda: told.append((second.complete(2), second.done())))]
+        threads[0].start()
+        self.assertTrue(begun.wait(30))
+        threads[1].start()
+        threads[1].join(0.2)
+        goes_on.set()
+        for thread in threads:
+            thread.join(30)
+        self.assertEqual(told, [(False, True)])
+
+    @unittest.skipIf(IS_MODULE, "the module has no lock")
+    def test_a_cancel_looks_under_the_lock(self):
+        """Another thread begins the stage's function just before the lock is taken."""
+        r = self.request
+        settling, lock = r.promise(), r._lock
+
+        class Before:
+            def __enter__(self):
+                lock.acquire()
+                r._show_running(r._rows[settling.number])
+
+            def __exit__(self, *_cause):
+                lock.release()
+        r._lock = Before()
+        try:
+            self.assertFalse(settling.cancel())
+        finally:
+            r._lock = lock
+        self.assertFalse(settling.done())
+
+
+if __name__ == "__main__":
+    unittest.main()

@@ -1,0 +1,181 @@
+#!/usr/bin/env python3
+"""Time limits: or_timeout and complete_on_timeout of any size, the clock that watches them, how a stage that timed out
+is told, and which exception the stages behind it have; a bad answer, too.
+
+    CF_LIBRARY=/path/to/libcf.so python3 clients/python/tests/service/test_timeouts.py [-v] [TEST ..]
+"""
+import concurrent.futures
+import gc
+import json
+import math
+import threading
+import time
+import unittest
+
+from case import Case, fails, inc, leaves, until
+import cf
+from cf.service import Flow
+from cf.service.words import CLIENT, CLOCK, FAIL_AS
+
+
+class Limits(Case):
+    def test_timeouts(self):
+        timed = self.request
+        late = timed.promise().or_timeout(0.02).named("late")
+        self.assertIsInstance(late.exception(5), TimeoutError)
+        self.assertIn("took longer than 0.02 s", str(late.exception()))
+        self.assertEqual(timed.promise().complete_on_timeout(7, 0.02).result(5), 7)
+        self.assertEqual(timed.supply(str, "x").or_timeout(5).result(), "x")
+        with self.assertRaises(concurrent.futures.TimeoutError):
+            timed.promise().result(0.01)
+        with self.assertRaises(concurrent.futures.TimeoutError):
+            timed.promise().exception(timeout=0)
+
+    def test_limits_of_any_size(self):
+        """An endless limit never fires, one that is over fires at once, one that is none is refused; and the clock
+        goes on."""
+        timed = self.request
+        for seconds in (math.inf, 1e10, 1e300, threading.TIMEOUT_MAX, 10**20):
+            limited = timed.promise().or_timeout(seconds)
+            self.assertIsInstance(timed.promise().or_timeout(0.01).exception(20), TimeoutError)
+            self.assertTrue(limited.complete(1))
+        for seconds in (0, -1, -1e300, -math.inf):
+            self.assertIsInstance(timed.promise().or_timeout(seconds).exception(20), TimeoutError)
+        for seconds, kind in ((math.nan, ValueError), ("1", TypeError), (None, TypeError)):
+            for limited in (timed.promise(), self.service.submit(str)):
+                with self.assertRaises(kind):
+                    limited.or_timeout(seconds)
+                with self.assertRaises(kind):
+                    limited.complete_on_timeout(1, seconds)
+        self.assertEqual(timed.promise().complete_on_timeout(7, 0.01).result(20), 7)
+
+    def test_an_earlier_limit_wakes_the_clock(self):
+        late = [self.request.promise().or_timeout(1000 + k) for k in range(3)]
+        time.sleep(0.05)  # (the clock waits for the first of these)
+        self.assertEqual(self.request.promise().complete_on_timeout(1, 0.01).result(20), 1)
+        self.assertFalse(any(late_stage.done() for late_stage in late))
+
+    def test_slow_functions_hold_up_no_limit(self):
+        """What is behind a limit is called by a thread, and not by the clock."""
+        begun, goes_on = threading.Event(), threading.Event()
+        slow = self.request.promise().or_timeout(0.01).recover(lambda _: begun.set() or goes_on.wait(20))
+        self.assertTrue(begun.wait(20))
+        self.assertEqual(self.request.promise().complete_on_timeout(1, 0.01).result(20), 1)
+        goes_on.set()
+        self.assertTrue(slow.result(20))
+
+    def test_the_clock_outlives_callbacks(self):
+        for raises in (leaves, fails):
+            late = self.request.promise()
+            late.add_done_callback(raises)
+            with self.assertLogs("concurrent.futures", "ERROR"):
+                self.assertIsInstance(late.or_timeout(0.01).exception(20), TimeoutError)
+                self.assertEqual(self.request.promise().complete_on_timeout(1, 0.02).result(20), 1)
+
+    def test_what_a_timer_held_may_use_the_clock(self):
+        """A value that a timer lets go of is freed where no lock is held."""
+        told_late = []
+
+        class Last:
+            def __del__(it):
+                limited = self.request.promise
+                asks = threading.Thread(
+                    target=lambda: told_late.append(limited().complete_on_timeout(1, 0.01).result(20)))
+                asks.start()
+                asks.join(5)
+                told_late.append(asks.is_alive())
+        self.request.promise().complete_on_timeout(Last(), 1000).complete(1)
+        self.assertTrue(until(lambda: len(told_late) == 2))
+        self.assertEqual(told_late, [1, False])
+
+    def test_timer_outlives_all_who_asked(self):
+        done = threading.Event()
+        self.service.request().promise().or_timeout(0.05).recover(lambda error: done.set())
+        gc.collect()
+        self.assertTrue(done.wait(5))
+
+    def test_timers_of_settled_stages_are_let_go(self):
+        for _ in range(1000):
+            self.request = self.service.request()
+            self.request.promise().or_timeout(1000).complete(1)
+        self.assertLess(len(self.service._works.clock._due), 300)
+
+
+class Causes(Case):
+    """A stage that timed out, or had a bad answer, is told as such, and so are those behind it."""
+
+    def test_a_timeout_is_told_as_one(self):
+        """By the history and by the script, which is of version 3 once one is in it."""
+        timed = self.service.request("r")
+        late = timed.promise("late")
+        behind = late.then(inc)
+        late.or_timeout(0.01)
+        self.assertIsInstance(behind.exception(20), TimeoutError)
+        self.assertFalse(timed._change(FAIL_AS, CLOCK, late, TimeoutError()))
+        late_history = timed.history()
+        for part in ("clock times out 0 late\n", "0 late ends: timeout\n", "1 inc ends: timeout, passed on\n",
+                     "clock times out 0 late, too late"):
+            self.assertIn(part, str(late_history))
+        script, before = json.loads(late_history.script()), json.loads(late_history.script(2))
+        self.assertEqual((script["cf"], script["steps"]), (3, before["steps"] + [["failAs", 0, "timeout"]] * 2))
+        self.assertEqual((before["cf"], json.loads(late_history.account())["plan"]["cf"]), (2, 2))
+        self.assertEqual(cf.run_script(late_history.script()), late_history.report())
+
+    def test_a_bad_answer_is_told_as_one(self):
+        timed, bad = self.service.request("r"), cf.BadAnswer("x")
+        late_stage = timed.promise("p")
+        self.assertTrue(timed._change(FAIL_AS, CLIENT, late_stage, bad))
+        self.assertIs(late_stage.then(inc).exception(20), bad)
+        late_history = timed.history()
+        for part in ("caller fails 0 p with a bad answer\n", "0 p ends: a bad answer\n"):
+            self.assertIn(part, str(late_history))
+        self.assertIn('["failAs", 0, "badanswer"]', late_history.script())
+        self.assertEqual(cf.run_script(late_history.script()), late_history.report())
+
+    def test_the_exception_of_a_timeout(self):
+        """All that stand behind a stage which timed out have its exception, whenever they are told."""
+        timed, told_late = self.request, []
+        late, slow = timed.promise("late"), timed.promise("slow")
+        behind_late = [late.then(inc), late.either(slow, inc), timed.first_of(slow, late),
+                       late.when_done(lambda *_: None), late.combine(slow, max), slow.combine(late, max),
+                       timed.all_of(slow, late), timed.gather(slow, late),
+                       timed.supply(str).compose(lambda _: late), self.service.request("other").adopt(late),
+                       self.service.request("other").supply(str).compose(lambda _: late)]
+        calls = [late.recover(told_late.append), late.handle(lambda _, error: told_late.append(error)),
+                 late.recover_compose(lambda error: [told_late.append(error), slow][1])]
+        error = late.or_timeout(0.01).exception(20)
+        self.assertTrue(slow.complete(1))
+        behind_late += [late.then(inc), late.then(inc).then(inc), timed.all_of(slow, late),
+                        timed.supply(str).compose(lambda _: late), late.when_done(lambda *_: None)]
+        calls += [late.then(inc).recover(told_late.append)]
+        self.assertEqual([late_stage.exception(20) for late_stage in behind_late], [error] * len(behind_late))
+        concurrent.futures.wait(calls, 20)
+        self.assertEqual(told_late, [error] * 4)
+
+    def test_the_exception_of_a_timeout_in_a_flow(self):
+        """Stages of any number of sources have that of the first which ended so."""
+        flow = Flow()
+        promises = [flow.promise() for _ in range(5)]
+        after, told_late = flow.all_of(*promises), flow.first_of(*promises[3:]).recover(lambda error: error)
+        timed = self.service.start(flow)
+        errors = [timed[step].or_timeout(0.01).exception(20) for step in promises[3:]]
+        for step in promises[:3]:
+            self.assertTrue(timed[step].complete(1))
+        self.assertIs(timed[after].exception(20), errors[0])
+        self.assertIs(timed[told_late].result(20), errors[0])
+
+    def test_two_timeouts_and_a_stage_that_nobody_runs(self):
+        """What fails as nobody runs it, behind the second that times out, lets a stage have the exception of the
+        first."""
+        timed, service = self.request, self.service
+        first, second = timed.promise(), timed.promise()
+        both = timed.all_of(first, second.recover(str))
+        service.shutdown()
+        errors = TimeoutError("first"), TimeoutError("second")
+        for late_stage, error in zip((first, second), errors):
+            self.assertTrue(timed._change(FAIL_AS, CLOCK, late_stage, error))
+        self.assertIs(both.exception(20), errors[0])
+
+
+if __name__ == "__main__":
+    unittest.main()

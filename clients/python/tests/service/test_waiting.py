@@ -1,0 +1,84 @@
+#!/usr/bin/env python3
+"""Waiting for stages: concurrent.futures.wait, as_completed, result, and threads that begin to wait while stages
+settle.
+
+    CF_LIBRARY=/path/to/libcf.so python3 clients/python/tests/service/test_waiting.py [-v] [TEST ..]
+"""
+import concurrent.futures
+import threading
+import time
+import unittest
+
+from case import Case, CoreCase, Oops
+from cf.service._core import IS_MODULE
+
+
+class Waiting(Case):
+    def test_wait_and_as_completed(self):
+        r = self.request
+        awaited = r.promise()
+        sleeping = [r.supply(time.sleep, 0.01) for _ in range(5)]
+        self.assertEqual(concurrent.futures.wait([*sleeping, awaited], 0.1).not_done, {awaited})
+        first = concurrent.futures.wait([*sleeping, awaited], return_when="FIRST_COMPLETED")
+        self.assertEqual(first.not_done, {awaited})
+        threading.Timer(0.02, awaited.fail, [Oops()]).start()
+        self.assertIn(awaited, concurrent.futures.wait([awaited, r.promise()], return_when="FIRST_EXCEPTION").done)
+        self.assertEqual(set(concurrent.futures.as_completed([*sleeping, awaited])), {*sleeping, awaited})
+
+    def test_waiters_are_never_lost(self):
+        """Stages settle while threads begin to wait for them, in each of four ways."""
+        for k in range(300):
+            awaited = [self.service.request().promise() for _ in range(3)]
+            asks = [lambda: awaited[0].result(10), lambda: concurrent.futures.wait(awaited, 10).not_done,
+                    lambda: list(concurrent.futures.as_completed(awaited, 10)), lambda: heard.wait(10)]
+            heard, woken = threading.Event(), []
+            waiters = [threading.Thread(target=lambda ask=ask: woken.append(ask())) for ask in asks]
+            for waiter in waiters:
+                waiter.start()
+            awaited[0].add_done_callback(lambda _: heard.set())
+            for awaited in awaited:
+                awaited.complete(None)
+            for waiter in waiters:
+                waiter.join(20)
+            self.assertEqual(len(woken), 4)
+            self.assertIn(set(), woken)
+
+    def test_all_of_waits_for_all(self):
+        for _ in range(200):
+            a, b = self.service.request().promise(), self.service.request().promise()
+            threading.Thread(target=lambda: a.complete(1)).start()
+            threading.Thread(target=lambda: b.complete(1)).start()
+            done = concurrent.futures.wait([a, b], 10)
+            self.assertFalse(done.not_done)
+            self.assertTrue(a.done() and b.done())
+
+
+class WaitersThatRaise(CoreCase):
+    def test_waiters_that_raise(self):
+        """One of those who wait raises as it is told, as an interrupt may: the others are told, each once, and who
+        waits for a result wakes."""
+        class Waiter:
+            def __init__(self, error=None):
+                self.told, self.error = 0, error
+
+            def add_result(self, _stage):
+                self.told += 1
+                if self.error is not None and self.told == 1:
+                    raise self.error
+        if not IS_MODULE:
+            self.skipTest("by ctypes an interrupt may lose a waiter, as within concurrent.futures")
+        awaited, got = self.request.promise(), []
+        waits = threading.Thread(target=lambda: got.append(awaited.result(60)), daemon=True)
+        waits.start()
+        while not awaited._condition._waiters:
+            time.sleep(0.001)
+        waiters = [Waiter(), Waiter(KeyboardInterrupt()), Waiter()]
+        awaited._waiters.extend(waiters)
+        with self.assertRaises(KeyboardInterrupt):
+            awaited.complete(5)
+        waits.join(30)
+        self.assertEqual((got, [it.told for it in waiters], awaited._state), ([5], [1, 1, 1], "FINISHED"))
+
+
+if __name__ == "__main__":
+    unittest.main()

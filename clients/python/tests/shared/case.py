@@ -1,0 +1,88 @@
+"""What the tests of cf.shared stand on: services and workers over a store in a temporary folder, which are ended.
+
+All of them:
+
+    CF_LIBRARY=/path/to/libcf.so python3 -m unittest discover -s clients/python/tests/shared
+
+They are over SQLite in a temporary folder. With CF_STORES="postgresql://.. etcd://.." those of stores and services are
+over these, too, which have to be empty.
+"""
+import os
+import subprocess
+import sys
+import tempfile
+import time
+import unittest
+from pathlib import Path
+
+HERE = Path(__file__).resolve().parent
+CLIENT = HERE.parents[1]
+sys.path.insert(0, str(HERE))
+if not os.environ.get("CF_INSTALLED"):
+    sys.path.insert(0, str(CLIENT))
+import shared_functions as f  # noqa: E402
+from cf.shared import DurableService, Functions, connect, new_session  # noqa: E402
+from cf.shared.plans import text_of  # noqa: E402
+
+STORES = os.environ.get("CF_STORES", "").split()
+EMPTY = text_of(None, Functions())
+
+
+class Case(unittest.TestCase):
+    lease = 10
+
+    def setUp(self):
+        self.folder = tempfile.TemporaryDirectory()
+        self.address = f"sqlite:///{self.folder.name}/db"
+        self.services, self.processes = [], []
+        self.name = f"{self.id()} {new_session():x}"
+
+    def tearDown(self):
+        for process in self.processes:
+            process.kill()
+            process.wait()
+            process.stderr.close()
+        for service in self.services:
+            service.shutdown()
+        self.folder.cleanup()
+
+    def service(self, address=None, **more):
+        made = DurableService(connect(address or self.address), 2, functions=f.functions, lease=self.lease, **more)
+        self.services.append(made)
+        return made
+
+    def worker(self, address=None, lease=None):
+        head = "import sys; sys.path[:0] = %r; from cf import worker; sys.exit(worker.main(sys.argv[1:]))"
+        paths = [str(HERE)] + ([] if os.environ.get("CF_INSTALLED") else [str(CLIENT)])
+        process = subprocess.Popen([sys.executable, "-c", head % paths, "--store", address or self.address, "--lease",
+                                    str(lease or self.lease), "shared_functions"], stderr=subprocess.PIPE)
+        self.processes.append(process)
+        return process
+
+    def until(self, ask, seconds=20):
+        end = time.monotonic() + seconds
+        while not ask():
+            self.assertLess(time.monotonic(), end, "it takes too long")
+            time.sleep(0.01)
+
+    def each(self):
+        """A service over each store, with a name for a request."""
+        for address in [self.address, "memory://", *STORES]:
+            with self.subTest(address):
+                yield self.service(address), self.name + address
+
+
+class Watched(list):
+    """A list that lets others look after each change."""
+
+    def __init__(self, things, look):
+        super().__init__(things)
+        self._look = look
+
+    def append(self, thing):
+        super().append(thing)
+        self._look()
+
+    def __setitem__(self, at, thing):
+        super().__setitem__(at, thing)
+        self._look()

@@ -1,0 +1,199 @@
+#!/usr/bin/env python3
+"""Requests that are over are closed and let go, opened again by whoever goes on, dropped, and begun anew under their
+name.
+
+    CF_LIBRARY=/path/to/libcf.so python3 clients/python/tests/shared/test_closing.py [-v] [TEST ..]
+"""
+import contextlib
+import threading
+import unittest
+import unittest.mock
+
+from case import Case, Watched
+import shared_functions as f
+from cf.service import Flow
+from cf.service.words import ATTACH, CANCEL, CLAIM, COMPLETE
+from cf.shared import (Broken, connect, DurableService, Memory, new_session, RowView, service as shared_service,
+                       Timer, Unknown)
+from cf.shared.plans import text_of
+from cf.shared.request import DurableRequest
+
+
+class Closing(Case):
+    def test_what_is_over_is_closed(self):
+        """A process is gone between a flow's last word and its closing, or with a claim: another closes the request."""
+        closing_service = self.service(takes_all=True)
+        closing_service._lease = 0.5
+        closing_service._watcher._seconds = 0.5
+        flow = Flow("two")
+        one, two = flow.promise("one"), flow.supply(f.nothing)
+        store = connect(self.address)
+        for name, claims in (("last", False), ("claimed", True)):
+            view = RowView(store, store.open(name, text_of(flow, f.functions)), new_session())
+            words = [(CLAIM << 56 | 1 << 36, None)] if claims else []
+            view.act(lambda view: [(word | view.who << 48, None)
+                                   for word in [it for it, _ in words] + [COMPLETE << 56, CANCEL << 56 | 1 << 36]])
+            self.assertTrue(view.is_settled(one.number) and view.is_settled(two.number))
+        self.until(lambda: not store.ends())
+        store.close()
+
+    def test_a_word_that_comes_as_its_request_is_closed(self):
+        """One thread reads the word of a stage while another finds that all are settled: the request isn't closed."""
+        closing_service = self.service(takes_all=True)
+        flow = Flow("one")
+        flow.promise()
+        reopened = closing_service.start(flow, 1, name="r")
+        self.until(lambda: not closing_service.store.ends())
+        closers = []
+
+        def close():
+            if not closers:
+                closers.append(threading.Thread(target=reopened._end_if_done))
+                closers[0].start()
+                closers[0].join(0.5)
+        reopened._view.words = Watched(reopened._view.words, close)
+        store = connect(self.address)
+        store.reopen("r")
+        other = RowView(store, store.find("r"), new_session())
+        other.catch_up()
+        other.make_room(1)
+        other.act(lambda view: [(ATTACH << 56 | view.who << 48, b'{"name": "late"}')])
+        self.until(lambda: len(reopened._view.forms) == 2)
+        closers[0].join()
+        self.assertIn("r", store.ends())
+        store.close()
+
+    def test_a_request_that_goes_on_as_it_is_let_go(self):
+        """Who attaches to a closed request opens it again, and nobody forgets it who has seen it closed before."""
+        store = Memory()
+        closing_service = DurableService(store, 1, functions=f.functions, lease=1)
+        self.services.append(closing_service)
+        flow = Flow("order")
+        step = flow.promise("p")
+        reopened = closing_service.start(flow, 1, name="r")
+        self.until(lambda: "r" not in store.ends())
+        kept = reopened.kept
+        late = reopened.promise("late").or_timeout(0.3)
+        self.assertIn("r", store.ends())
+        closing_service._let_go(reopened, kept)
+        self.assertIs(closing_service._requests.get("r"), reopened)
+        self.assertIsInstance(late.exception(20), TimeoutError)
+        self.assertEqual(reopened[step].result(5), 1)
+
+    def test_a_request_that_others_open_again(self):
+        """It was let go here, and who waits for one of its stages is told all the same. A plain request that was
+        ended is opened again, too."""
+        store = Memory()
+        asks, works = DurableService(store, 0, functions=f.functions,
+                                     lease=0.5), DurableService(store, 1, functions=f.functions, lease=0.5,
+                                                                takes_all=True)
+        self.services += [asks, works]
+        reopened = asks.request("r")
+        promise = reopened.promise("p")
+        reopened.end()
+        self.until(lambda: "r" not in asks._requests and "r" not in works._requests)
+        self.assertIs(asks.open("r"), reopened)
+        self.until(lambda: "r" not in asks._requests)
+        other = works.open("r")
+        self.assertEqual(reopened.supply(f.inc, 1).result(20), 2)
+        self.assertIn("r", store.ends())
+        reopened.end()
+        self.until(lambda: "r" not in asks._requests and "r" not in works._requests)
+        other.promise()
+        other["p"].complete(17)
+        self.assertEqual(promise.result(20), 17)
+
+    def test_a_reopening_that_the_store_is_silent_about(self):
+        """It is done later: the stage stands."""
+        class Away(Memory):
+            left = 0
+
+            def reopen(self, name, number=0):
+                self.left -= 1
+                if self.left >= 0:
+                    raise Unknown("away")
+                super().reopen(name, number)
+        store, flow = Away(), Flow("order")
+        flow.promise("p")
+        closing_service = DurableService(store, 1, functions=f.functions, lease=0.5)
+        self.services.append(closing_service)
+        with unittest.mock.patch.object(shared_service, "PATIENCE", 0):
+            reopened = closing_service.start(flow, 1, name="r")
+            self.until(lambda: "r" not in store.ends())
+            store.left = 2
+            with self.assertRaises(Unknown):
+                reopened.supply(f.inc, 1)
+            self.assertEqual(reopened[1].result(20), 2)
+            self.until(lambda: store.left < 0 and "r" not in store.ends())
+
+
+class NamesUsedAgain(Case):
+    def test_a_name_that_is_used_again(self):
+        """Who has a request that was dropped is told so, and another of its name is worked on."""
+        for closing_service, name in self.each():
+            worker = DurableService(closing_service.store, 1, functions=f.functions, takes_all=True, lease=1)
+            old = closing_service.request(name)
+            stage = old.promise("p")
+            self.until(lambda: name in worker._requests)
+            closing_service.store.drop(name)
+            new = closing_service.request(name)
+            self.assertIsInstance(stage.exception(5), Broken)
+            with self.assertRaises(Broken) as told:
+                old.promise()
+            self.assertIn("no such request", str(told.exception))
+            self.assertEqual(new.seen, 0)
+            self.assertEqual(worker.open(name).supply(f.inc, 1).result(20), 2)
+            self.assertEqual(new[0].result(20), 2)
+            self.assertNotIn(name, {**closing_service.broken, **worker.broken})
+            worker._stops.set()
+            worker._pump.join()
+
+    def test_what_is_late_for_a_name_that_is_used_again(self):
+        """A timer that was due, and a look-up, of a request that was dropped meanwhile do nothing to the next one of
+        its name."""
+        closing_service = DurableService(Memory(), 0, functions=f.functions)
+        self.services.append(closing_service)
+        first = closing_service.request("r")
+        first.promise().complete(1)
+        found, timer = closing_service.store.find("r"), Timer("r", 0, 0, b"V2", first._view.opened.number)
+        closing_service.store.drop("r")
+        stage = closing_service.request("r").promise()
+        closing_service._fire(timer)
+        view = RowView(closing_service.store, found, closing_service.session)
+        kept = closing_service._kept(DurableRequest(closing_service, view))
+        self.assertIs(kept, stage.request)
+        self.assertFalse(stage.done())
+        self.assertTrue(stage.complete(3))
+
+    def test_a_name_that_began_anew_with_fewer_words(self):
+        """A worker that has seen more words of an earlier request of the name works on the new one; who has the old
+        one is told."""
+        store = Memory()
+        asks, works = DurableService(store, 0, functions=f.functions,
+                                     lease=0.5), DurableService(store, 1, functions=f.functions, lease=0.5,
+                                                                takes_all=True)
+        self.services += [asks, works]
+        old = asks.request("r")
+        other = old.promise()
+
+        def ends(_):
+            raise SystemExit("of a callback")
+        other.add_done_callback(ends)
+        waits, done = old.promise(), [old.supply(f.inc, k).result(20) for k in range(3)]
+        self.assertEqual(done, [1, 2, 3])
+        store.drop("r")
+        with contextlib.suppress(SystemExit):  # (or a worker has seen it, which logs it)
+            asks.request("r")
+        new = asks.request("r")
+        self.assertEqual(new.supply(f.inc, 16).result(20), 17)
+        self.assertIsInstance(waits.exception(5), Broken)
+        for call in (lambda: old[0], old.history, old.end, old.promise):
+            with self.assertRaises(Broken):
+                call()
+        self.assertIn("r", store.ends())
+        self.assertIs(asks._kept(old), new)
+        self.assertIs(asks.open("r"), new)
+
+
+if __name__ == "__main__":
+    unittest.main()

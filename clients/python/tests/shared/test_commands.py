@@ -1,0 +1,71 @@
+#!/usr/bin/env python3
+"""The commands python3 -m cf.requests and python3 -m cf.worker.
+
+    CF_LIBRARY=/path/to/libcf.so python3 clients/python/tests/shared/test_commands.py [-v] [TEST ..]
+"""
+import contextlib
+import io
+import json
+import os
+import sqlite3
+import subprocess
+import sys
+import unittest
+from pathlib import Path
+
+from case import Case, CLIENT, HERE
+import shared_functions as f
+from cf import requests
+
+
+class Commands(Case):
+    def run_it(self, *words):
+        out, err = io.StringIO(), io.StringIO()
+        with contextlib.redirect_stdout(out), contextlib.redirect_stderr(err):
+            status = requests.main(["--store", self.address, *words])
+        return status, out.getvalue(), err.getvalue()
+
+    def test_requests(self):
+        service = self.service()
+        ordered = service.request("order 17")
+        ordered.supply(f.load, 17).result(20)
+        ordered.promise("answer")
+        service.request("order 18").promise()
+        self.assertRegex(self.run_it("list")[1], r"order 17  \d+ s  4 words  1 of 2 stages wait: 1 answer pending\n")
+        self.assertIn("0 load ends: {'number': 17, 'extra': 0}", self.run_it("show", "order 17")[1])
+        self.assertEqual(len(json.loads(self.run_it("show", "order 17", "--account")[1])["events"]), 4)
+        (program := Path(self.folder.name, "cf_look")).write_text("#!/bin/sh\ntest $1 = page && cat\n")
+        program.chmod(0o755)
+        self.assertEqual(len(json.loads(self.run_it("show", "order 17", "--page", str(program))[1])["events"]), 4)
+        self.assertEqual(self.run_it("show", "order 17", "--page", str(program) + "?")[0], 1)
+        self.assertEqual(self.run_it("end", "order 17", "--cancel")[:2],
+                         (0, "order 17 is closed, 1 stages were cancelled\n"))
+        self.assertNotIn("order 17", self.run_it("list")[1])
+        self.assertIn("order 17", self.run_it("list", "--closed")[1])
+        self.assertEqual(self.run_it("drop", "--days", "1")[1], "0 dropped\n")
+        self.assertEqual(self.run_it("drop", "--days", "0")[1], "1 dropped\n")
+        self.assertEqual(self.run_it("show", "order 17")[0], 1)
+        self.assertEqual(self.run_it("end", "order 17")[0], 1)
+        service.shutdown()
+        db = sqlite3.connect(f"{self.folder.name}/db", isolation_level=None)
+        db.execute("insert into cf_word (request, at, word, token) values (2, 5, 77, 7)")
+        db.close()
+        self.assertIn("order 18", self.run_it("list")[1])
+        self.assertRegex(self.run_it("list")[1], "broken at place 2: no word stands there")
+        self.assertEqual(self.run_it("end", "order 18", "--cancel")[0], 1)
+        self.assertEqual(self.run_it("end", "order 18")[0], 0)
+        self.assertEqual(self.run_it("drop", "--days", "0")[1], "1 dropped\n")
+        with self.assertRaises(SystemExit):
+            self.run_it("what")
+
+    def test_the_worker_command(self):
+        for words in (["--store", "nothing://", "shared_functions"], ["--store", self.address, "json"],
+                      ["--store", self.address, "no.such.module"]):
+            done = subprocess.run([sys.executable, "-m", "cf.worker", *words], stderr=subprocess.PIPE, timeout=60,
+                                  env=dict(os.environ, PYTHONPATH=os.pathsep.join([str(HERE), str(CLIENT)])))
+            self.assertEqual(done.returncode, 2, done.stderr)
+            self.assertTrue(done.stderr.startswith(b"cf.worker: "), done.stderr)
+
+
+if __name__ == "__main__":
+    unittest.main()

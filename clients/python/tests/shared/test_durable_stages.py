@@ -1,0 +1,226 @@
+#!/usr/bin/env python3
+"""Stages in a store: each form, settling, composing, flows, callbacks, who waits or looks.
+
+    CF_LIBRARY=/path/to/libcf.so python3 clients/python/tests/shared/test_durable_stages.py [-v] [TEST ..]
+"""
+import asyncio
+import threading
+import unittest
+import unittest.mock
+from concurrent.futures import CancelledError
+
+from case import Case, Watched
+import shared_functions as f
+from cf.service import Flow, RequestFull
+from cf.service.words import VALUE
+from cf.shared import Broken, DurableService, Memory
+
+
+class DurableStages(Case):
+    def test_forms(self):
+        for service, name in self.each():
+            durable = service.request(name)
+            order = durable.supply(f.load, 17, extra=2)
+            self.assertEqual(order.result(20), {"number": 17, "extra": 2})
+            number = order.then(f.number)
+            self.assertEqual(number.then(f.inc).result(20), 18)
+            self.assertEqual(number.combine(durable.supply(f.load, 3).then(f.number), f.add).result(20), 20)
+            self.assertEqual(number.either(durable.promise(), f.inc).result(20), 18)
+            failed = number.then(f.fails)
+            self.assertIsInstance(failed.exception(20), PermissionError)
+            self.assertEqual(str(failed.exception()), "card declined")
+            self.assertEqual(failed.recover(f.text).result(20), "sorry, card declined")
+            self.assertEqual(failed.handle(f.both).result(20), [None, "PermissionError"])
+            self.assertIsInstance(failed.when_done(f.nothing).then(f.inc).exception(20), PermissionError)
+            self.assertIsNone(number.then(f.nothing).result(20))
+            self.assertEqual(durable.gather(number, number, number.then(f.inc)).result(20), [17, 17, 18])
+            self.assertIsNone(durable.all_of(number, order).result(20))
+            self.assertEqual(durable.first_of(durable.promise(), number).result(20), 17)
+            self.assertIsInstance(durable.supply(f.odd).exception(20), TypeError)
+
+    def test_settling(self):
+        for service, name in self.each():
+            durable = service.request(name)
+            promise = durable.promise("answer")
+            self.assertTrue(promise.complete([1, None]))
+            self.assertFalse(promise.complete(2) or promise.fail(KeyError("x")) or promise.cancel())
+            self.assertEqual(durable["answer"].result(5), [1, None])
+            stopped = durable.promise()
+            behind = stopped.then(f.inc)
+            self.assertTrue(stopped.cancel() and stopped.cancelled())
+            self.assertIsInstance(behind.exception(20), CancelledError)
+            self.assertIsInstance(durable.promise().or_timeout(0.05).exception(20), TimeoutError)
+            self.assertEqual(durable.promise().complete_on_timeout({"a": 1}, 0.05).result(20), {"a": 1})
+            stage = service.submit(f.load, 4, extra=1)
+            self.assertEqual(stage.result(20), {"number": 4, "extra": 1})
+            self.until(lambda: stage.request.name not in service.store.ends())
+
+    def test_compose(self):
+        """What a function gives is a stage of the request, which may be settled later, by anybody."""
+        for service, name in self.each():
+            durable = service.request(name)
+            number = durable.supply(f.load, 17).then(f.number)
+            self.assertEqual(number.compose(f.loading).then(f.number).result(20), 17)
+            self.assertIsInstance(number.compose(f.failing).exception(20), PermissionError)
+            self.assertIsInstance(number.compose(f.both).exception(20), TypeError)
+            self.assertIsInstance(durable.supply(f.fails).compose(f.loading).exception(20), PermissionError)
+            late = number.compose(f.waiting)
+            self.until(lambda durable=durable: any(it["name"] == "late" for it in
+                                                   map(durable._view.said, range(len(durable._view.forms)))))
+            self.assertFalse(late.done())
+            durable["late"].complete(None)
+            self.assertIsNone(late.result(20))
+            again = number.compose(f.waiting)
+            self.until(lambda durable=durable: [it["name"] for it in map(
+                durable._view.said, range(len(durable._view.forms)))].count("late") == 2)
+            names = [it["name"] for it in map(durable._view.said, range(len(durable._view.forms)))]
+            self.assertTrue(durable[len(names) - 1 - names[::-1].index("late")].cancel())
+            self.assertIsInstance(again.exception(20) if not again.cancelled() else CancelledError(), CancelledError)
+            with self.assertRaises(TypeError):
+                late.again()
+            self.until(lambda durable=durable: not durable._view.links and not durable._view.unlinked)
+
+    def test_a_promise_that_nothing_comes_of(self):
+        """Where a stage that composes fails, its promise is cancelled: a flow's request is closed all the same."""
+        for service, name in self.each():
+            flow = Flow("one")
+            number = flow.promise("number")
+            durable = service.start(flow, name=name)
+            fails, given = durable[number].compose(f.inc), durable[number].compose(f.loading)
+            source = durable[number].then(f.fails).compose(f.loading)
+            durable[number].complete(1)
+            self.assertIsInstance(fails.exception(20), TypeError)
+            self.assertIsInstance(source.exception(20), PermissionError)
+            self.assertEqual(given.result(20)["number"], 1)
+            self.until(lambda: name not in service.store.ends())
+
+    def flow(self):
+        flow = Flow("order")
+        number = flow.promise("number")
+        total = number.then(f.load).then(f.number).named("total").combine(flow.supply(f.inc, 4), f.add)
+        return flow, total, flow.gather(total, total), total.then(f.fails).recover(f.text)
+
+    def test_flows(self):
+        for service, name in self.each():
+            flow, total, both, sorry = self.flow()
+            durable = service.start(flow, 10, name=name)
+            self.assertEqual((durable[total].result(20), durable[both].result(20), durable[sorry].result(20)),
+                             (15, [15, 15], "sorry, card declined"))
+            self.until(lambda: name not in service.store.ends())
+            same = service.start(flow, 99, name=name)
+            self.assertEqual(same[total].result(5), 15)
+            with self.assertRaises(Broken):
+                other = Flow("other")
+                other.promise()
+                service.start(other, name=name)
+
+    def test_a_further_try_of_what_was_settled_by_hand(self):
+        """Its sources may be open then: the further try passes the error on, and asks nothing of them."""
+        for service, name in self.each():
+            durable = service.request(name)
+            one, two = durable.promise(), durable.promise()
+            for stage in (one.either(two, f.inc), one.combine(two, f.add), one.handle(f.both)):
+                last = stage.again(2)
+                self.assertTrue(stage.fail(PermissionError("by hand")))
+                self.assertIsInstance(last.exception(20), PermissionError)
+
+    def test_what_a_finish_makes_ready(self):
+        """Its process goes on with it at once, also where it has two sources, or came of what was composed."""
+        service = DurableService(Memory(), 1, functions=f.functions, lease=1000)
+        self.services.append(service)
+        durable = service.request("r")
+        first, second = durable.promise(), durable.promise()
+        stage = first.then(f.inc).combine(second, f.add).compose(f.loading).then(f.number)
+        second.complete(3)
+        first.complete(1)
+        self.assertEqual(stage.result(20), 5)
+
+    def test_callbacks_that_raise_anything(self):
+        """The other callbacks are called all the same, and a worker goes on with what it has claimed."""
+        service, heard = self.service(), []
+
+        def ends(stage):
+            heard.append(stage)
+            raise SystemExit("of a callback")
+        durable = service.request("r")
+        promise, other = durable.promise(), durable.promise()
+        first = promise.then(f.inc)
+        stages = [promise, first, other, first.then(f.inc)]  # (who finishes the first claims the last with that)
+        for stage in stages * 2:
+            stage.add_done_callback(ends)
+        with self.assertRaises(SystemExit):
+            other.complete(0)
+        self.assertEqual(heard, [other, other])
+        with self.assertLogs("cf.shared", "CRITICAL") as logs:
+            with self.assertRaises(SystemExit):
+                promise.complete(1)
+            self.until(lambda: len(heard) == 8 and logs.output)
+        self.assertEqual(stages[3].result(20), 3)
+        self.assertFalse(durable._view.claims)
+        waits = [durable.promise() for _ in range(3)]
+        waits[0].add_done_callback(ends)
+        with self.assertRaises(SystemExit):
+            durable._fail_all(KeyError("all"))
+        self.assertEqual([repr(it.exception(0)) for it in waits], ["KeyError('all')"] * 3)
+
+    def test_who_looks_while_a_word_is_read(self):
+        """Another thread sees no stage that isn't there yet, and none settled whose outcome isn't there yet."""
+        service = DurableService(Memory(), 0, functions=f.functions)
+        self.services.append(service)
+        durable = service.request("r")
+        promise, view, seen = durable.promise(), durable._view, []
+
+        def look():
+            seen.extend((view.is_settled(k), view.told[k].kind == VALUE) for k in range(len(view.forms)))
+        for name in ("forms", "kinds", "told", "places"):
+            setattr(view, name, Watched(getattr(view, name), look))
+        promise.complete(1), durable.promise()
+        self.assertEqual({(False, False), (True, True)}, set(seen) - {(False, True)})
+
+    def test_two_threads_that_show_a_stage(self):
+        """Both have found it cancelled: none raises."""
+        from concurrent.futures import Future
+        durable, both, wrong = self.service().request("r"), threading.Barrier(2), []
+        stage, cancel = durable.promise(), Future.cancel
+
+        def meets(future):
+            both.wait(20)
+            told = cancel(future)
+            both.wait(20)
+            return told
+
+        def show():
+            try:
+                stage._show(None, None, True)
+            except BaseException as error:
+                wrong.append(error)
+        with unittest.mock.patch.object(Future, "cancel", meets):
+            threads = [threading.Thread(target=show) for _ in range(2)]
+            for thread in threads:
+                thread.start()
+            for thread in threads:
+                thread.join(20)
+        self.assertEqual((wrong, stage.cancelled(), stage._state), ([], True, "CANCELLED_AND_NOTIFIED"))
+
+    def test_it_is_awaited(self):
+        service = self.service()
+
+        async def main():
+            return await service.request().supply(f.load, 1)
+        self.assertEqual(asyncio.run(main())["number"], 1)
+
+    def test_a_full_request(self):
+        service = DurableService(Memory(), 0, functions=f.functions)
+        self.services.append(service)
+        flow = Flow()
+        for _ in range(4094):
+            flow.promise()
+        durable = service.start(flow, name="full")
+        durable.promise(), durable.promise()
+        with self.assertRaises(RequestFull):
+            durable.promise()
+        self.assertEqual(durable.seen, 2)
+
+
+if __name__ == "__main__":
+    unittest.main()

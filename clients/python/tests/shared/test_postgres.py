@@ -1,0 +1,57 @@
+#!/usr/bin/env python3
+"""The store in PostgreSQL alone, without a server: what one says, and notices that can't be sent.
+
+    CF_LIBRARY=/path/to/libcf.so python3 clients/python/tests/shared/test_postgres.py [-v] [TEST ..]
+"""
+import contextlib
+import importlib.util
+import sys
+import threading
+import unittest
+import unittest.mock
+
+from case import Case
+from cf.shared import StoreError, Unknown
+
+
+class PostgreSQL(Case):
+    @unittest.skipIf(importlib.util.find_spec("psycopg2") is None, "no psycopg2")
+    def test_what_a_server_of_postgresql_says(self):
+        """One that can only be read for now is away; what it refuses for good is told as such, also at a commit."""
+        from cf.shared import postgres
+        said = {"ReadOnlySqlTransaction": Unknown, "AdminShutdown": Unknown, "UniqueViolation": StoreError,
+                "DataError": StoreError, "ProgramLimitExceeded": StoreError, "InFailedSqlTransaction": StoreError}
+        for name, kind in said.items():
+            with self.assertRaises(kind), postgres.Postgres._telling(None):
+                raise getattr(postgres.errors, name, getattr(postgres.psycopg2, name, None))("why")
+
+    def test_a_notice_that_cant_be_sent(self):
+        """It is sent later, whatever was in its way: no thread, or a server that is refused for now."""
+        absent = {it: unittest.mock.MagicMock() for it in ("psycopg2", "psycopg2.errors")}
+        is_absent = importlib.util.find_spec("psycopg2") is None
+        with unittest.mock.patch.dict(sys.modules, absent) if is_absent else contextlib.nullcontext():
+            from cf.shared import postgres
+        postgres_store, sent = postgres.Postgres.__new__(postgres.Postgres), threading.Event()
+        left = [StoreError("refused"), ValueError("odd"), Unknown("away")]
+        postgres_store._changes, postgres_store._notifier = threading.Event(), None
+        postgres_store._lock, postgres_store._is_closed = threading.Lock(), False
+        db = unittest.mock.MagicMock(closed=0)
+        db.cursor().__enter__().execute = lambda *_: sent.set()
+
+        def connected():
+            if left:
+                raise left.pop()
+            return db
+        postgres_store._connected = connected
+        with unittest.mock.patch.object(threading.Thread, "start", side_effect=RuntimeError("can't start new thread")):
+            postgres_store._notify()
+        with unittest.mock.patch.object(postgres, "BETWEEN_TRIES", 0.01):
+            postgres_store._notify()
+            self.assertTrue(sent.wait(20))
+        postgres_store._is_closed = True
+        postgres_store._changes.set()
+        postgres_store._notifier.join(20)
+
+
+if __name__ == "__main__":
+    unittest.main()

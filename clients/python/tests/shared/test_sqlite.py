@@ -1,0 +1,139 @@
+#!/usr/bin/env python3
+"""The store in SQLite alone: its file and the line before it, its settings, transactions that can't be undone, rows
+that somebody changed.
+
+    CF_LIBRARY=/path/to/libcf.so python3 clients/python/tests/shared/test_sqlite.py [-v] [TEST ..]
+"""
+import fcntl
+import os
+import sqlite3
+import threading
+import unittest
+import unittest.mock
+from pathlib import Path
+
+from case import Case
+from cf.shared import Broken, connect, Put, sqlite as shared_sqlite, StoreError, Unknown
+
+
+class SQLite(Case):
+    def test_files_that_are_let_go(self):
+        """A store that is closed, or that couldn't be opened, keeps no file."""
+        Path(self.folder.name, "text").write_text("no database, but a text that is long enough to be one" * 100)
+        before = len(os.listdir("/proc/self/fd"))
+        for _ in range(20):
+            sqlite_store = connect(self.address)
+            sqlite_store.open("r", "plan")
+            sqlite_store.close()
+            sqlite_store.close()
+            with self.assertRaises(StoreError):
+                connect(f"sqlite:///{self.folder.name}/text")
+        self.assertLess(len(os.listdir("/proc/self/fd")), before + 5)
+        with self.assertRaises(StoreError):
+            sqlite_store.append(Put("r", 0, [(1, 1)], {}))
+
+    def test_a_process_that_is_stopped_in_the_line(self):
+        """Others are told so after some time, keep their place in the line, and go on once it does."""
+        sqlite_store = connect(self.address)
+        sqlite_store.open("r", "plan")
+        stopped = os.open(f"{self.folder.name}/db-line", os.O_RDWR)
+        fcntl.flock(stopped, fcntl.LOCK_EX)
+        told = []
+
+        def puts():
+            for _ in range(3):
+                try:
+                    sqlite_store.append(Put("r", 0, [(1, 1)], {}))
+                except Unknown as error:
+                    told.append(str(error))
+        with unittest.mock.patch.object(shared_sqlite, "LONGEST_WAIT", 0.1):
+            threading.Thread(target=puts, daemon=True).start()
+            self.until(lambda: len(told) == 3)
+        self.assertTrue(all("another process has the file" in it for it in told), told)
+        fcntl.flock(stopped, fcntl.LOCK_UN)
+        for at in range(3):
+            self.assertIsNone(sqlite_store.append(Put("r", at, [(1, at)], {})))
+        fcntl.flock(stopped, fcntl.LOCK_EX)
+        thread = threading.Thread(target=sqlite_store.append, args=[Put("r", 3, [(1, 3)], {})])
+        thread.start()
+        self.until(lambda: sqlite_store._line._waits)
+        fcntl.flock(stopped, fcntl.LOCK_UN)
+        thread.join(20)
+        self.until(lambda: not sqlite_store._line._waits)
+        fcntl.flock(stopped, fcntl.LOCK_EX | fcntl.LOCK_NB)  # nobody kept it
+        os.close(stopped)
+        self.assertEqual(len(sqlite_store.read("r")), 4)
+        sqlite_store.close()
+
+    def test_an_undoing_that_fails(self):
+        """A connection whose transaction can't be undone is let go, so that others can put."""
+        sqlite_store = connect(self.address)
+        sqlite_store.open("r", "plan")
+
+        def act(db):
+            db.execute("insert into cf_beat values (1, 1)")
+            db.set_authorizer(lambda *_: sqlite3.SQLITE_DENY)
+            raise KeyError("what the act raises")
+        with self.assertRaises((KeyError, StoreError)):
+            sqlite_store._in_turn(act)
+        self.assertIsNone(connect(self.address).append(Put("r", 0, [(1, 1)], {})))
+        self.assertIsNone(sqlite_store.append(Put("r", 1, [(2, 2)], {})))
+        self.assertEqual(sqlite_store.beats(), {})
+        sqlite_store.close()
+
+    def test_rows_with_gaps(self):
+        """A word that somebody took out is missed by whoever reads, at its place."""
+        sqlite_store = connect(self.address)
+        sqlite_store.open("r", "plan")
+        sqlite_store.append(Put("r", 0, [(k, k) for k in range(1, 6)], {}))
+        db = sqlite3.connect(f"{self.folder.name}/db", isolation_level=None)
+        db.execute("delete from cf_word where at = 2")
+        self.assertEqual(sqlite_store.read("r", 3), [(4, 4), (5, 5)])
+        with self.assertRaises(Broken) as told:
+            sqlite_store.read("r")
+        self.assertEqual((told.exception.request, told.exception.place), ("r", 3))
+        with self.assertRaises(Broken):
+            sqlite_store.append(Put("r", 2, [(6, 6), (7, 7)], {}))
+        for word in ("'text'", "-1"):
+            db.execute(f"update cf_word set word = {word}, token = {word} where at = 4")
+            with self.assertRaises(Broken) as told:
+                sqlite_store.read("r", 3)
+            self.assertIn("'r', place 5", str(told.exception))
+        db.execute("update cf_word set word = 5 where at = 4")
+        self.assertEqual([it for it, in db.execute("select word from cf_word order by at")], [1, 2, 4, 5])
+        db.close()
+        sqlite_store.close()
+
+    def test_words_and_payloads_together(self):
+        """Where a payload can't be put its word doesn't stand, nor does its group."""
+        sqlite_store = connect(self.address)
+        sqlite_store.open("r", "plan")
+        db = sqlite3.connect(f"{self.folder.name}/db", isolation_level=None)
+        db.execute("insert into cf_large values (1, 2, 'in the way')")
+        with self.assertRaises(StoreError):
+            sqlite_store.append(Put("r", 0, [(1, 1), (2, 2)], {2: b"x" * 5000}))
+        self.assertEqual(sqlite_store.read("r"), [])
+        db.close()
+        sqlite_store.close()
+
+    def test_settings(self):
+        """What is answered is on disk: each thread's connection has a write-ahead log and syncs it."""
+        sqlite_store, told = connect(self.address), []
+
+        def ask():
+            told.append([sqlite_store._db.execute(f"pragma {it}").fetchone()[0]
+                         for it in ("journal_mode", "synchronous")])
+            sqlite_store._db.close()
+        ask()
+        thread = threading.Thread(target=ask)
+        thread.start()
+        thread.join()
+        self.assertEqual(told, [["wal", 2]] * 2)
+        with self.assertRaises(StoreError) as refused:
+            connect("sqlite:///:memory:")
+        self.assertIn("journal_mode is memory", str(refused.exception))
+        os.unlink(":memory:-line")
+
+
+if __name__ == "__main__":
+    unittest.main()

@@ -1,0 +1,125 @@
+#!/usr/bin/env python3
+"""Which service works on which request: claims, signs of life, threads that can't be started, functions that it
+doesn't know.
+
+    CF_LIBRARY=/path/to/libcf.so python3 clients/python/tests/shared/test_working.py [-v] [TEST ..]
+"""
+import threading
+import time
+import unittest
+import unittest.mock
+
+from case import Case, EMPTY
+import shared_functions as f
+from cf.service import Flow
+from cf.service.words import CLAIM
+from cf.shared import connect, DurableService, Functions, Memory
+
+
+class Working(Case):
+    def test_who_is_there_is_let_be(self):
+        """A stage whose function runs elsewhere isn't failed by one that looks, as long as who has it is there."""
+        functions, goes, store = Functions(), threading.Event(), Memory()
+        waits = functions.function("waits")(lambda: goes.wait(20))
+        first, second = DurableService(store, 1,
+                                       functions=functions), DurableService(store, 0, functions=functions,
+                                                                            takes_all=True)
+        stage = first.request("r").supply(waits)
+        seen = second.open("r")
+        self.until(lambda: seen._view.claims)
+        second._work(seen)
+        goes.set()
+        self.assertTrue(stage.result(20))
+        first.shutdown(), second.shutdown()
+
+    def test_a_long_start(self):
+        """Who reads many long rows for the first time says meanwhile that he is there."""
+        class Slow(Memory):
+            def read(self, name, at=0, number=0):
+                time.sleep(0.02)
+                return super().read(name, at, number)
+
+            def beat(self, session):
+                times.append(time.monotonic())
+                super().beat(session)
+        store, times = Slow(), []
+        for k in range(100):
+            store.open(f"r{k}", EMPTY)
+        working = DurableService(store, 1, functions=f.functions, takes_all=True, lease=1)
+        self.services.append(working)
+        self.until(lambda: len(working._requests) == 100)
+        self.assertLess(max(b - a for a, b in zip(times, times[1:])), 1)
+        self.assertGreater(len(times), 4)
+
+    def test_a_thread_that_cant_be_started(self):
+        """What it was to do is done once one can be: stages, timers, and forgetting what is closed."""
+        working = DurableService(Memory(), 2, functions=f.functions, lease=0.5)
+        self.services.append(working)
+        submit, refused = working._pool.submit, []
+
+        def submits(call, name, act, *given):
+            if act.__name__ not in refused:
+                refused.append(act.__name__)
+                raise RuntimeError("can't start new thread")
+            return submit(call, name, act, *given)
+        with unittest.mock.patch.object(working._pool, "submit", submits), self.assertLogs("cf.shared", "WARNING"):
+            worked_on = working.request("r")
+            self.assertEqual(worked_on.supply(f.inc, 1).result(20), 2)
+            self.assertIsInstance(worked_on.promise().or_timeout(0.05).exception(20), TimeoutError)
+            working.store.end("r", worked_on.seen)
+            self.until(lambda: "r" not in working._requests)
+        self.assertEqual(sorted(refused), ["_fire", "_let_go", "_work"])
+
+    def test_a_claim_that_is_found_late(self):
+        """It is finished late, and what is claimed with that is run."""
+        working = DurableService(Memory(), 0, functions=f.functions, lease=1000)
+        self.services.append(working)
+        worked_on = working.request("r")
+        first, second = worked_on.supply(f.inc, 1), worked_on.supply(f.inc, 2)
+        done = worked_on._act(lambda view: [(CLAIM << 56 | view.who << 48, None)])  # as by a put whose reply was lost
+        self.assertTrue(first.abandon())
+        working._pool.submit(int).result(20)  # (so that the one thread has nothing to do)
+        worked_on._view.found[0] = done[0]
+        working._workers = 1
+        working._serve(worked_on)
+        self.assertEqual(second.result(20), 3)
+        self.until(lambda: not worked_on._view.claims)
+
+    def test_functions_that_nobody_knows(self):
+        """However many stages wait for such, others behind them are found."""
+        more = Functions()
+        more.add(f.functions)
+        strange = more.function("strange")(lambda: 1)
+        flow = Flow("many")
+        for _ in range(100):
+            flow.supply(strange)
+        known = flow.supply(f.inc, 1)
+        asks = DurableService(Memory(), 0, functions=more)
+        worked_on = asks.start(flow, name="r")
+        with self.assertLogs("cf.shared", "WARNING"):
+            works = DurableService(asks.store, 1, functions=f.functions, takes_all=True)
+            self.assertEqual(worked_on[known].result(20), 2)
+        works.shutdown(), asks.shutdown()
+
+
+class UnknownFunctions(Case):
+    lease = 2
+
+    def test_a_function_that_nobody_knows(self):
+        """It waits, and other stages and requests go on."""
+        more = Functions()
+        more.add(f.functions)
+        strange = more.function("strange", version=2)(lambda: 1)
+        first = DurableService(connect(self.address), 0, functions=more)
+        self.services.append(first)
+        worked_on = first.request("r")
+        waits, runs = worked_on.supply(strange), worked_on.supply(f.load, 1)
+        with self.assertLogs("cf.shared", "WARNING") as logs:
+            working = self.service(takes_all=True)
+            self.assertEqual(working.open("r")[runs.number].result(20)["number"], 1)
+        self.assertIn("'r', stage 0: function strange, version 2 isn't known here", "\n".join(logs.output))
+        self.assertFalse(waits.done())
+
+
+if __name__ == "__main__":
+    unittest.main()

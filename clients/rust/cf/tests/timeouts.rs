@@ -1,0 +1,70 @@
+//! Timeouts and alarms of stages: they settle, ring in their order, and are swept once they aren't needed.
+mod common;
+
+use cf::{HandClock, Inline, Pool, Request};
+use common::{comes_back, LONG, SHORT};
+use std::panic::{catch_unwind, AssertUnwindSafe};
+use std::sync::{Arc, Mutex};
+use std::time::Duration;
+
+#[test]
+fn timeouts_settle() {
+    let timed = Request::new("timed", Pool::new(4));
+    let slow = timed.promise::<i32>().or_timeout(SHORT);
+    assert!(slow.wait().unwrap_err().is_timeout());
+    assert_eq!(timed.promise().complete_on_timeout(5, SHORT).wait().unwrap(), 5);
+    let kept = timed.supply(|| 1).or_timeout(LONG);
+    assert_eq!(kept.wait().unwrap(), 1);
+    assert!(timed.promise::<i32>().wait_timeout(SHORT).is_none());
+    assert_eq!(timed.supply(|| 2).wait_timeout(LONG).unwrap().unwrap(), 2);
+}
+
+#[test]
+fn alarms_ring_in_their_order() {
+    let clock = HandClock::new();
+    let timed = Request::with_clock("by hand", Arc::new(Inline), Arc::new(clock.clone()));
+    let order = Arc::new(Mutex::new(Vec::new()));
+    for seconds in [3, 1, 2, 1] {
+        let order = order.clone();
+        let timed_stage = timed.promise().complete_on_timeout(seconds, Duration::from_secs(seconds));
+        drop(timed_stage.then(move |n| order.lock().unwrap().push(*n)));
+    }
+    clock.turn(Duration::from_millis(1999));
+    assert_eq!(*order.lock().unwrap(), [1, 1]);
+    clock.turn(Duration::from_secs(5));
+    assert_eq!(*order.lock().unwrap(), [1, 1, 2, 3]);
+    let times: Vec<Duration> = timed.history().times().collect();
+    assert_eq!(times.last(), Some(&Duration::from_secs(3)));
+    assert!(timed.history().comes_again());
+}
+
+#[test]
+fn many_timeouts_are_swept() {
+    let timed = Request::new("swept", Inline);
+    for k in 0..1000 {
+        let timed_stage = timed.promise().or_timeout(Duration::from_secs(3600));
+        assert_eq!(timed_stage.complete(k), Ok(()));
+    }
+    assert!(timed.promise::<i32>().or_timeout(Duration::from_millis(2)).wait().unwrap_err().is_timeout());
+}
+
+/// Values whose drops panic would have been given later.
+#[test]
+fn alarms_are_swept_whatever_their_values_do() {
+    struct Drops(bool);
+    impl Drop for Drops {
+        fn drop(&mut self) {
+            assert!(!self.0, "in a drop");
+        }
+    }
+    comes_back(|| {
+        let timed = Request::new("swept", Inline);
+        let late = timed.promise::<i32>().or_timeout(Duration::from_millis(300));
+        for k in 0..300 {
+            let timed_stage = timed.promise().complete_on_timeout(Drops(k % 5 == 0), Duration::from_secs(3600));
+            assert_eq!(catch_unwind(AssertUnwindSafe(|| timed_stage.cancel())).is_err(), k % 5 == 0);
+            assert!(timed_stage.is_settled());
+        }
+        assert!(late.wait().unwrap_err().is_timeout());
+    });
+}
