@@ -127,6 +127,8 @@ fn a_job_that_is_dropped_leaves_the_rest_to_the_other() {
     assert!(stages.iter().all(|stage| !stage.is_settled()));
     jobs.pop().unwrap().run();
     assert_eq!(stages.map(|stage| stage.wait().unwrap()), [1, 2, 3]);
+    // What is kept there keeps its request, and that its executor.
+    drop(std::mem::take(&mut *two.0.lock().unwrap()));
 }
 
 /// The job that was to poll a future is dropped, and so is one that was to poll it again.

@@ -2,7 +2,7 @@
 //! request while it drops them, and chains of requests that are longer than a stack.
 use cf::{Alarm, Clock, Error, HandClock, Inline, Job, Pool, Refusal, Request, Spawn, Stage};
 use std::cell::RefCell;
-use std::future::Future;
+use std::future::{pending, Future};
 use std::panic::{catch_unwind, AssertUnwindSafe};
 use std::pin::Pin;
 use std::sync::atomic::{AtomicBool, AtomicUsize, Ordering};
@@ -522,7 +522,11 @@ fn a_long_row_of_requests_that_hold_one_another_is_dropped() {
                 match how {
                     0 => assert!(next.promise().complete(Some(before)).is_ok()),
                     1 => drop(last.clone().then(move |_| before.is_settled())),
-                    _ => drop(next.spawn(async move { before.await.map(|n| n + 1) })),
+                    // One that waited for the one before would be kept by the waker that this one has of it.
+                    _ => drop(next.spawn(async move {
+                        pending::<()>().await;
+                        before.await
+                    })),
                 }
             }
             drop(last);
