@@ -27,9 +27,9 @@ SCHEMA = """
 NOW = "extract(epoch from clock_timestamp())::double precision"
 MARK = "select pg_snapshot_xmin(pg_current_snapshot())::text::bigint"
 SET_UP = 6_318_042  # the number of the lock under which tables are made
-# Beside the request's number, that of the lock under which it is closed and opened again. It is taken by a statement of
-# its own, so that the next one sees all that stands by then: who closes sees the words of those that have opened it, and
-# who opens it sees that it was closed.
+# With the request's number, that of the lock under which it is closed and opened again. A statement of its own takes
+# it, so that the next one sees all that stands by then: who closes it sees the words of all that have opened it again,
+# and who opens it again sees that it was closed.
 CLOSING = 6_318_043
 PREPARED = """
     prepare cf_put(bigint, int, bigint, bigint, bytea) as
