@@ -152,12 +152,12 @@ class Client(Process):
         self.note("timer", request.name, self.number_of(request), stage)
 
     def attach(self, request, rng):
-        """Attaches a stage; a flow's request that is closed later has it settled."""
-        stage = self.attached(request, rng)
-        if request._view.plan.rows and request.name not in self.services[0].store.ends():
-            request._catch_up()
-            if not request._view.is_settled(stage.number):
-                self.note("closed early", request.name, self.number_of(request), stage.number)
+        """Attaches a stage. Where a flow's request is closed behind that, its row says whether the stage was settled by then: what this
+        process reads of it may be stale, while a listing isn't."""
+        stage, name, store = self.attached(request, rng), request.name, self.services[0].store
+        if request._view.plan.rows and name not in store.ends():
+            for words in [it.words for it in store.listing() if it.name == name and it.closed is not None]:
+                self.note("closed behind", name, self.number_of(request), stage.number, words)
 
     def attached(self, request, rng):
         """A stage more, with or without further tries: what it is behind stands in any place."""
@@ -315,7 +315,7 @@ class Client(Process):
         number, left = self.number_of(request), self.open_stages(request)
         if left and listed.closed is not None and (not request._view.plan.rows or self.waited(alarms, (name, number), CLOSED)):
             if request._view.plan.rows:
-                self.note("closed", name, number, request.seen)
+                self.note("closed", name, number, listed.words)
             self.store.reopen(name)  # (others may have attached to it while it was ended)
         for stage in self.promises(request):
             self.settle(request, stage, rng)

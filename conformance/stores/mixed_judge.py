@@ -13,6 +13,7 @@ function was called with, and so what it had to give. It also checks that:
 import collections
 import glob
 import json
+import math
 import os
 import re
 import sys
@@ -135,7 +136,7 @@ class MixedJudge(Judge):
         dropped, labels = {it[0] for it in self.notes["drops"]}, set()
         self.names.update(name for name, _ in set(self.rows) | set(self.said))
         self.told = collections.defaultdict(list)
-        for kind in ("answered", "shown", "history", "timer", "called back", "again"):
+        for kind in ("answered", "shown", "history", "timer", "called back", "again", "closed behind", "closed"):
             for name, number, *rest in self.notes[kind]:
                 self.told[kind, name, number].append(rest)
         with open(f"{self.folder}/histories", "w") as out:
@@ -165,6 +166,7 @@ class MixedJudge(Judge):
         entries, plan, payloads = self.rows[key]
         self.key, self.payloads, self.entries = key, payloads, entries
         self.stages = list(plan["stages"])
+        self.came = [(0, None)] * len(self.stages)  # where each was attached, and by which session
         self.places, self.failed = {}, {}  # where each was settled, and by which word each timed out, itself or what it has it from
         self.claimed, self.finished, self.open, self.links = [], {}, {}, {}
         self.tokens, self.labels = {}, {it["kwargs"]["where"] for it in self.stages if "kwargs" in it}
@@ -178,6 +180,7 @@ class MixedJudge(Judge):
         self.groups()
         self.answers_of()
         self.shown_of()
+        self.closed_of()
         self.put_to()
         self.has |= {"shared"} if len({token >> 23 for _, token in entries}) > 1 else set()
         for kind in self.has:
@@ -195,6 +198,7 @@ class MixedJudge(Judge):
         self.count["payloads"] += names
         if kind == ATTACH:
             self.stages.append(json.loads(payloads[place]))
+            self.came.append((place, token >> 23))
             self.labels |= {self.stages[-1].get("kwargs", {}).get("where")} - {None}
         if kind == CLAIM and reply.startswith("granted"):
             granted.add((stage, token >> 23))
@@ -400,6 +404,24 @@ class MixedJudge(Judge):
             elif zlib.crc32(json.dumps(said).encode()) != values:
                 self.wrong.append(f"{self.key}: a history of {many} words has other values")
 
+    def closed_of(self):
+        """Whether it was closed with stages left, by how many words stood there. Who attaches may be killed before it opens it again."""
+        if self.key not in self.live:
+            return
+        for stage, words in self.told[("closed behind", *self.key)]:
+            self.count["closed behind an attach"] += 1
+            if self.is_left(stage, words):
+                self.wrong.append(f"{self.key}: was closed at {words} words with stage {stage} left, which was attached before")
+        for words, in self.told[("closed", *self.key)]:
+            left = [stage for stage in range(len(self.came)) if self.is_left(stage, words)]
+            kept = [stage for stage in left if self.came[stage][1] in self.ended | {None}]
+            self.wrong += [f"{self.key}: was closed at {words} words with stage {stage} left, of which nobody was killed" for stage in kept[:1]]
+            self.count["closed as who attached was killed"] += bool(left) and not kept
+
+    def is_left(self, stage, words):
+        """Whether a stage was there after so many words, and wasn't settled."""
+        return stage < len(self.came) and self.came[stage][0] <= words < self.places.get(stage, math.inf)
+
     # All of them.
 
     def outside(self, labels):
@@ -410,16 +432,6 @@ class MixedJudge(Judge):
         for name, number, stage in self.notes["late"]:
             if (name, number) in self.live and (name, number, stage) in timed:
                 self.wrong.append(f"{(name, number)}: stage {stage} waits, and a timer was set for it")
-        for name, number, stage in self.notes["closed early"]:
-            if (name, number) in self.live:
-                self.wrong.append(f"{(name, number)}: was closed with stage {stage} left, which was attached before")
-        for name, number, seen in self.notes["closed"]:
-            if (name, number) in self.live:
-                last = max(place for place, (word, _) in enumerate(self.rows[name, number][0][:seen], 1) if word >> 56 == ATTACH)
-                if self.rows[name, number][0][last - 1][1] >> 23 in self.ended:
-                    self.wrong.append(f"{(name, number)}: was closed with stages left, of which one was attached at place {last}")
-                else:
-                    self.count["closed as who attached was killed"] += 1
 
     def kinds(self):
         """Counts what stood in the requests."""

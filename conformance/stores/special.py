@@ -155,6 +155,13 @@ def silent_network(address, folder):
     return done == 0, told.read_text() if told.exists() else "it ended before"
 
 
+def stale_reads(address, folder):
+    """What a process of mixed requests reads may be stale: the judge finds a request that was closed too early, and no other."""
+    done = subprocess.run([sys.executable, HERE / "stale.py", address, folder])
+    told = Path(folder, "told")
+    return done.returncode == 0, told.read_text() if told.exists() else "it ended before"
+
+
 def many_timers(address, folder):
     """500 timers: those that are due are found at once."""
     store = connect(address)
@@ -207,7 +214,8 @@ def many_open(address, folder):
     return len(ends) == 3000 and told == {"7": 1, "another": 0}, f"all in {1000 * whole:.1f} ms, what changed in {1000 * few:.2f} ms"
 
 
-ALL = [many_sessions, one_session_twice, full_disk, jumping_clock, store_away, silent_network, many_timers, many_open, unsafe_servers, loss_of_power]
+ALL = [many_sessions, one_session_twice, full_disk, jumping_clock, store_away, silent_network, stale_reads, many_timers, many_open, unsafe_servers,
+       loss_of_power]
 
 
 def run(folder):

@@ -27,6 +27,10 @@ SCHEMA = """
 NOW = "extract(epoch from clock_timestamp())::double precision"
 MARK = "select pg_snapshot_xmin(pg_current_snapshot())::text::bigint"
 SET_UP = 6_318_042  # the number of the lock under which tables are made
+# With the request's number, that of the lock under which it is closed and opened again. A statement of its own takes
+# it, so that the next one sees all that stands by then: who closes it sees the words of all that have opened it again,
+# and who opens it again sees that it was closed.
+CLOSING = 6_318_043
 PREPARED = """
     prepare cf_put(bigint, int, bigint, bigint, bytea) as
         insert into cf_word select id, $2, $3, $4, $5 from cf_request where id = $1 on conflict do nothing;
@@ -157,17 +161,19 @@ class Postgres(TableStore):
 
     def end(self, name: str, at: int, number: int = 0) -> None:
         number = number or self._id(name)
-        if not self._ask(f"with closed as (update cf_request set closed = {NOW} "
+        if not self._ask(f"select pg_advisory_xact_lock({CLOSING}, %s); "
+                         f"with closed as (update cf_request set closed = {NOW} "
                          f"where id = %s and closed is null and {HAS} returning id), "
                          "timers as (delete from cf_timer where request in (select id from closed)) "
-                         "select 1 from cf_request where id = %s", number, at, number):
+                         "select 1 from cf_request where id = %s", number % 2**31, number, at, number):
             raise self._gone(name)
 
     def reopen(self, name: str, number: int = 0) -> None:
         number = number or self._id(name)
-        if not self._ask("with opened as (update cf_request set closed = null, made_by = pg_current_xact_id() "
+        if not self._ask(f"select pg_advisory_xact_lock({CLOSING}, %s); "
+                         "with opened as (update cf_request set closed = null, made_by = pg_current_xact_id() "
                          "where id = %s and closed is not null returning id) select 1 from cf_request where id = %s",
-                         number, number):
+                         number % 2**31, number, number):
             raise self._gone(name)
 
     def drop(self, name: str, at: Optional[int] = None) -> bool:

@@ -202,7 +202,7 @@ class Store(abc.ABC):
 
     @abc.abstractmethod
     def reopen(self, name: str, number: int = 0) -> None:
-        """Takes that back."""
+        """Takes that back, also where another is ending it meanwhile, who has seen fewer words than stand."""
 
     @abc.abstractmethod
     def drop(self, name: str, at: Optional[int] = None) -> bool:

@@ -234,6 +234,29 @@ class Stores(Case):
             store.drop(self.name)
             other.close(), store.close()
 
+    def test_who_attaches_while_another_closes(self):
+        """A request isn't closed once a word stands that wasn't seen, and who has put that has opened it again."""
+        for store in self.stores():
+            other = store.again()
+            for k in range(40):
+                name = f"{self.name} {k}"
+                number = store.open(name, "plan").number
+                store.append(Put(name, 0, [(1, 11)], {}))
+                both = threading.Barrier(2)
+
+                def closes(name=name, number=number, both=both):
+                    both.wait()
+                    other.end(name, 1, number)
+                closing = threading.Thread(target=closes)
+                closing.start()
+                both.wait()
+                store.append(Put(name, 1, [(2, 12)], {}))
+                store.reopen(name, number)
+                closing.join()
+                self.assertEqual(store.ends().get(name), 2, store)
+                store.drop(name)
+            other.close(), store.close()
+
     def test_waiting(self):
         for store in self.stores():
             with self.subTest(type(store).__name__):

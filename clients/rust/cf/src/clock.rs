@@ -1,10 +1,10 @@
 //! What time it is, and who rings when it is later.
 use crate::core::Core;
 use crate::error::Refusal;
-use crate::spawn::{quietly, CLOCK};
+use crate::spawn::{guarded, quietly, CLOCK};
 use std::collections::BTreeMap;
 use std::fmt;
-use std::panic::{catch_unwind, AssertUnwindSafe};
+use std::panic::{catch_unwind, resume_unwind, AssertUnwindSafe};
 use std::sync::{Arc, Condvar, Mutex, MutexGuard, PoisonError, Weak};
 use std::thread;
 use std::time::{Duration, Instant};
@@ -343,11 +343,13 @@ impl HandClock {
         HandClock(Arc::new(Mutex::new((Duration::ZERO, Due::new()))))
     }
 
-    /// Lets it be so much later, and rings what is due by then, one after another, on this thread.
+    /// Lets it be so much later, and rings what is due by then, one after another, on this thread. A waker or a `Drop` of somebody's that
+    /// panics keeps no other timeout from being told.
     ///
     /// # Panics
     ///
-    /// Where a waker of somebody's does, and where it would be later than a `Duration` can say.
+    /// Where such a waker or `Drop` does, once all are told, with what the first of them panicked with; and where it would be later than a
+    /// `Duration` can say.
     ///
     /// ```
     /// use cf::{Clock, HandClock};
@@ -358,6 +360,7 @@ impl HandClock {
     /// ```
     pub fn turn(&self, by: Duration) {
         let end = self.now() + by;
+        let mut panicked = None;
         loop {
             let mut held = self.lock();
             let (now, due) = &mut *held;
@@ -366,9 +369,12 @@ impl HandClock {
             let next = due.take(*now);
             drop(held);
             match next {
-                Ok(alarm) => alarm.ring(),
-                Err(_) => return,
-            }
+                Ok(alarm) => guarded(&mut panicked, || alarm.ring()),
+                Err(_) => break,
+            };
+        }
+        if let Some(payload) = panicked {
+            resume_unwind(payload);
         }
     }
 

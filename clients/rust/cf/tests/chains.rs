@@ -3,6 +3,7 @@ mod common;
 
 use cf::{Error, HandClock, Inline, Job, Refusal, Request, Spawn, Stage};
 use common::comes_back;
+use std::future::pending;
 use std::sync::Arc;
 
 /// Requests that each take over a stage of the one before.
@@ -40,7 +41,11 @@ fn a_long_row_of_requests_that_hold_one_another_is_dropped() {
                 match how {
                     0 => assert!(next.promise().complete(Some(before)).is_ok()),
                     1 => drop(last_link.clone().then(move |_| before.is_settled())),
-                    _ => drop(next.spawn(async move { before.await.map(|n| n + 1) })),
+                    // One that waited for the one before would be kept by the waker that this one has of it.
+                    _ => drop(next.spawn(async move {
+                        pending::<()>().await;
+                        before.await
+                    })),
                 }
             }
             drop(last_link);

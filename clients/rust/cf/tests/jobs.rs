@@ -56,6 +56,8 @@ fn a_job_that_is_dropped_leaves_the_rest_to_the_other() {
     assert!(behind_jobs.iter().all(|behind_job| !behind_job.is_settled()));
     jobs.pop().unwrap().run();
     assert_eq!(behind_jobs.map(|behind_job| behind_job.wait().unwrap()), [1, 2, 3]);
+    // What is kept there keeps its request, and that its executor.
+    drop(std::mem::take(&mut *two.0.lock().unwrap()));
 }
 
 /// The job that was to poll a future is dropped, and so is one that was to poll it again.

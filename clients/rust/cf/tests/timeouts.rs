@@ -1,10 +1,11 @@
 //! Timeouts and alarms of stages: they settle, ring in their order, and are swept once they aren't needed.
 mod common;
 
-use cf::{HandClock, Inline, Pool, Request};
-use common::{comes_back, LONG, SHORT};
-use std::panic::{catch_unwind, AssertUnwindSafe};
+use cf::{Clock, HandClock, Inline, Pool, Request, Stage};
+use common::{comes_back, poll, LONG, SHORT};
+use std::panic::{catch_unwind, panic_any, AssertUnwindSafe};
 use std::sync::{Arc, Mutex};
+use std::task::{Wake, Waker};
 use std::time::Duration;
 
 #[test]
@@ -36,6 +37,30 @@ fn alarms_ring_in_their_order() {
     let times: Vec<Duration> = timed.history().times().collect();
     assert_eq!(times.last(), Some(&Duration::from_secs(3)));
     assert!(timed.history().comes_again());
+}
+
+#[test]
+fn a_turn_tells_all_timeouts_though_wakers_panic() {
+    struct Numbered(u64);
+    impl Wake for Numbered {
+        fn wake(self: Arc<Self>) {
+            panic_any(self.0);
+        }
+    }
+    let clock = HandClock::new();
+    let request = Request::with_clock("by hand", Arc::new(Inline), Arc::new(clock.clone()));
+    let timed: Vec<Stage<i32>> = (1..4).map(|seconds| request.promise().or_timeout(Duration::from_secs(seconds))).collect();
+    let mut handles = timed.clone();
+    for (handle, number) in handles.iter_mut().zip(1..3) {
+        assert!(!poll(handle, &Waker::from(Arc::new(Numbered(number)))));
+    }
+    let panicked = catch_unwind(AssertUnwindSafe(|| clock.turn(Duration::from_secs(5)))).expect_err("the panic goes on");
+    assert_eq!(panicked.downcast_ref(), Some(&1_u64), "the first one");
+    assert_eq!(clock.now(), Duration::from_secs(5));
+    assert!(timed.into_iter().all(|stage| stage.wait_timeout(Duration::ZERO).expect("it was told").unwrap_err().is_timeout()));
+    let times: Vec<Duration> = request.history().times().collect();
+    assert_eq!(times[times.len() - 3..], [1, 2, 3].map(Duration::from_secs));
+    clock.turn(Duration::from_secs(1));
 }
 
 #[test]
