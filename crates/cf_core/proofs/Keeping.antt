@@ -27,3 +27,6 @@ pub mod AttachSound
 pub mod Takes
 pub mod Resting
 pub mod Changes
+pub mod Above
+pub mod Flags
+pub mod Written

@@ -51,8 +51,10 @@
 //! edges and one, so the bound above holds for the plan as it has grown.
 //!
 //! How a call tells what it changed (`Graph::answer_telling`): where no turn is left, what is kept is the state. An
-//! event moves its own stage alone, and a turn moves the stage that it treats; neither moves one back (`rank`). So it
-//! is enough to look at these stages before and after, and to set their flags.
+//! event moves its own stage alone, and a turn moves the stage that it treats; neither moves one back (`rank`). A turn is
+//! that of the lowest marked stage, and marks stages above it alone. So the stages that have moved are written as they
+//! move, and rise. A tick fires several limits, which may move one stage several times: it sets flags, and writes the
+//! stages whose flags are set at its end.
 //!
 //! How a graph starts again (`Graph::restart`): the attached stages are taken out, the stages of the opening are kept as ones
 //! that were never treated, and sets and lists are emptied, all of it in place. By `cf_model::laws::grown_plans_reopen_as_they_were`

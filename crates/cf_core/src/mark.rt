@@ -9,6 +9,7 @@ use cf_bits::BitSet;
 use cf_plan::AttachedDependents;
 
 /// Marks a stage, if it waits.
+#[inline(always)]
 pub fn mark(kept: &Cells, marks: &mut BitSet, i: u16)
     requires stage { i < length kept.now.items }
     requires all { length marks.old ≡ length kept.now.items }
@@ -20,6 +21,7 @@ pub fn mark(kept: &Cells, marks: &mut BitSet, i: u16)
 }
 
 /// Marks those of these stages that wait.
+#[inline(always)]
 pub fn mark_each(kept: &Cells, marks: &mut BitSet, stages: &[u16])
     requires stages { All (λ i. i < length kept.now.items) stages.now }
     requires all { length marks.old ≡ length kept.now.items }
@@ -32,6 +34,7 @@ pub fn mark_each(kept: &Cells, marks: &mut BitSet, stages: &[u16])
 }
 
 /// Marks those of these stages that wait, one after another.
+#[inline(always)]
 pub fn mark_attached_dependents(kept: &Cells, marks: &mut BitSet, stages: AttachedDependents<'_>)
     requires stages { All (λ i. i < length kept.now.items) stages }
     requires all { length marks.old ≡ length kept.now.items }
@@ -45,6 +48,7 @@ pub fn mark_attached_dependents(kept: &Cells, marks: &mut BitSet, stages: Attach
 }
 
 /// Marks those of the stages linked to `target` that wait, and empties its list.
+#[inline(always)]
 pub fn mark_linked(kept: &Cells, marks: &mut BitSet, links: &mut Links, target: u16)
     requires target { target < length kept.now.items }
     requires all { length marks.old ≡ length kept.now.items }

@@ -3,18 +3,18 @@ mod attaching;
 mod restarting;
 mod sweeping;
 
-ghost use Rattle.std.specs.Prelude.{◌≡◌, ◌+◌, ◌<◌, ◌≤◌, [], All, IfNone, IfOk, IfSome, None, Some, drop, false, length, position, slice_set, true, if◌then◌else◌, ℕ};
+ghost use Rattle.std.specs.Prelude.{◌≡◌, ◌+◌, ◌<◌, ◌≤◌, [], All, IfNone, IfOk, IfSome, None, Some, drop, false, length, position, slice_set, true, vec_capacity, if◌then◌else◌, ℕ};
 ghost use Rattle.cf_forms.specs.declared.forms.Landing.TheVariants.{Links as LinksTo};
 ghost use Rattle.cf_forms.specs.Forms.{composes, starts};
 ghost use Rattle.cf_forms.specs.Plans.{form_at};
 ghost use Rattle.cf_model.specs.declared.stage.Stage.TheVariants.{Claimed};
 ghost use Rattle.cf_model.specs.Graphs.{NoneLeftFor, NoneLeftUpTo, NoneReady, rank, stage_in};
 ghost use Rattle.cf_model.specs.States.{is_ready, outcome_of};
-ghost use Rattle.cf_core.specs.Keeping.Changes.{TellOn};
+ghost use Rattle.cf_core.specs.Keeping.Changes.{HasPlaces, TellOn, WriteOn};
 ghost use Rattle.cf_core.specs.Keeping.Landings.{first_source};
 ghost use Rattle.cf_core.specs.Keeping.Links.{list_at};
 ghost use Rattle.cf_core.specs.Keeping.Sound.{AreTreated, HasLists, ReadyIsTreated, StayTaken, StayTakenBut, is_taken, kept_at, links_after};
-ghost use Rattle.cf_core.specs.Keeping.SoundStages.{AreSound, HasListRoom, HasRoom, KeptMovesAlone, SameRoom, SameView, lowest_ready_in, marks_once_noted, marks_once_put, marks_once_settled, settled_view_of};
+ghost use Rattle.cf_core.specs.Keeping.SoundStages.{AreSound, HasListRoom, HasRoom, KeptMovesAlone, KeptMovesFurther, SameRoom, SameView, lowest_marked_in, lowest_ready_in, marks_once_noted, marks_once_put, marks_once_settled, settled_view_of};
 ghost use Rattle.cf_core.specs.Keeping.Sweeps.{AreSwept};
 ghost use Rattle.cf_core.specs.Keeping.Turns.{TurnsBelowReady, TurnsUpTo, turned};
 ghost use Rattle.cf_core.specs.Keeping.Starts.{mark_starts, mark_those};
@@ -121,7 +121,6 @@ impl Stages {
     }
 
     /// Marks the dependents of a stage that settled, and the stages linked to it, of which there are none then.
-    #[inline(always)]
     fn mark_after(&mut self, plan: &GrowingPlan, d: u16)
         requires stage { d < length plan.now.stages }
         requires all_kept { length self.old.kept.items ≡ length plan.now.stages }
@@ -141,6 +140,7 @@ impl Stages {
 
     /// Treats the lowest marked stage: this is a turn. Nothing else is called a turn. It says whether the stage is ready
     /// then.
+    #[inline(always)]
     fn turn(&mut self, plan: &GrowingPlan, m: u16) -> bool
         requires sound { AreSound plan.now.stages self.old }
         requires lowest { position (λ b. b) self.old.marks ≡ Some m }
@@ -148,6 +148,7 @@ impl Stages {
         ensures counted { self.new.turns ≡ self.old.turns + 1 }
         ensures ready { result ≡ true → self.new.ready ≡ slice_set self.old.ready m true }
         ensures marks { result ≡ true → self.new.marks ≡ slice_set self.old.marks m false }
+        ensures above { NoneLeftUpTo m (lowest_marked_in self.new) }
         ensures same { SameView plan.now.stages self.old self.new }
         ensures taken { StayTaken self.old.kept.items self.new.kept.items }
         ensures room { SameRoom self.old self.new }
@@ -271,7 +272,8 @@ impl Stages {
         taken
     }
 
-    /// Takes all turns that are left, each of the lowest marked stage, and sets the flags of the stages that they change.
+    /// Takes all turns that are left, each of the lowest marked stage, and sets the flags of the stages that they change. A
+    /// tick calls it once for each of its limits.
     pub fn tell_rest(&mut self, plan: &GrowingPlan, changed: &mut BitSet)
         requires sound { AreSound plan.now.stages self.old }
         requires flags { length plan.now.stages ≤ length changed.old }
@@ -289,6 +291,52 @@ impl Stages {
             self.turn(plan, m);
             if self.rank(plan, m) > before {
                 changed.insert(m);
+            }
+        }
+    }
+
+    /// Takes all turns that are left, each of the lowest marked stage, and writes the stages that they change behind those
+    /// of a row. These rise, since a turn marks stages above its own alone.
+    #[inline(always)]
+    pub fn write_rest(&mut self, plan: &GrowingPlan, news: &mut Vec<u16>)
+        requires sound { AreSound plan.now.stages self.old }
+        requires places { HasPlaces (length plan.now.stages) (lowest_marked_in self.old)
+            (length news.old.items) (vec_capacity news.old) }
+        ensures told { WriteOn (stages_of self.old.kept.items) (lowest_marked_in self.old) news.old.items
+            (stages_of self.new.kept.items) (lowest_marked_in self.new) news.new.items }
+        ensures none { lowest_marked_in self.new ≡ None }
+        ensures places { vec_capacity news.new ≡ vec_capacity news.old }
+        ensures same { SameView plan.now.stages self.old self.new }
+        ensures taken { StayTaken self.old.kept.items self.new.kept.items }
+        ensures counted { self.old.turns ≤ self.new.turns }
+        ensures room { SameRoom self.old self.new }
+        ensures sound { AreSound plan.now.stages self.new }
+    {
+        if self.marks.lowest().is_some() {
+            self.write_marked(plan, news);
+        }
+    }
+
+    /// The same in a call of its own.
+    fn write_marked(&mut self, plan: &GrowingPlan, news: &mut Vec<u16>)
+        requires sound { AreSound plan.now.stages self.old }
+        requires places { HasPlaces (length plan.now.stages) (lowest_marked_in self.old)
+            (length news.old.items) (vec_capacity news.old) }
+        ensures told { WriteOn (stages_of self.old.kept.items) (lowest_marked_in self.old) news.old.items
+            (stages_of self.new.kept.items) (lowest_marked_in self.new) news.new.items }
+        ensures none { lowest_marked_in self.new ≡ None }
+        ensures places { vec_capacity news.new ≡ vec_capacity news.old }
+        ensures same { SameView plan.now.stages self.old self.new }
+        ensures taken { StayTaken self.old.kept.items self.new.kept.items }
+        ensures counted { self.old.turns ≤ self.new.turns }
+        ensures room { SameRoom self.old self.new }
+        ensures sound { AreSound plan.now.stages self.new }
+    {
+        while let Some(m) = self.marks.lowest() {
+            let before = self.rank(plan, m);
+            self.turn(plan, m);
+            if self.rank(plan, m) > before {
+                news.push_reserved(m);
             }
         }
     }
@@ -352,6 +400,7 @@ impl Stages {
         requires unsettled { outcome_of ((kept_at self.old.kept.items d).stage) ≡ None }
         ensures after { StageSettles plan.now.stages d o self.old self.new }
         ensures alone { KeptMovesAlone d self.old self.new }
+        ensures further { KeptMovesFurther d self.old self.new }
         ensures taken { StayTaken self.old.kept.items self.new.kept.items }
         ensures turns { self.new.turns ≡ self.old.turns }
         ensures room { SameRoom self.old self.new }
@@ -389,6 +438,7 @@ impl Stages {
         requires ready { is_ready ((kept_at self.old.kept.items d).stage) ≡ true }
         ensures claimed { StageIsClaimed plan.now.stages d self.old self.new }
         ensures alone { KeptMovesAlone d self.old self.new }
+        ensures marks { self.new.marks ≡ self.old.marks }
         ensures here { is_taken ((kept_at self.new.kept.items d).stage) ≡ true }
         ensures taken { StayTaken self.old.kept.items self.new.kept.items }
         ensures turns { self.new.turns ≡ self.old.turns }
@@ -418,6 +468,7 @@ impl Stages {
         requires unsettled { outcome_of ((kept_at self.old.kept.items j).stage) ≡ None }
         ensures linked { StageIsLinked plan.now.stages d j self.old self.new }
         ensures alone { KeptMovesAlone d self.old self.new }
+        ensures further { KeptMovesFurther d self.old self.new }
         ensures taken { StayTakenBut d self.old.kept.items self.new.kept.items }
         ensures turns { self.new.turns ≡ self.old.turns }
         ensures room { SameRoom self.old self.new }
@@ -457,6 +508,7 @@ impl Stages {
     }
 
     /// A claimed stage lands. No stage up to it waits for treatment.
+    #[inline(always)]
     pub fn land(&mut self, plan: &GrowingPlan, d: u16, at: Landing)
         requires sound { AreSound plan.now.stages self.old }
         requires stage { d < length plan.now.stages }
@@ -466,6 +518,7 @@ impl Stages {
         requires composes { (j : ℕ) → at ≡ LinksTo j → composes (form_at plan.now.stages d) ≡ true }
         ensures landed { StageLands plan.now.stages d at self.old self.new }
         ensures alone { KeptMovesAlone d self.old self.new }
+        ensures further { KeptMovesFurther d self.old self.new }
         ensures taken { StayTakenBut d self.old.kept.items self.new.kept.items }
         ensures turns { self.new.turns ≡ self.old.turns }
         ensures room { SameRoom self.old self.new }
@@ -473,10 +526,29 @@ impl Stages {
     {
         match at {
             Landing::Settles(o) => self.settle(plan, d, o),
-            Landing::Links(j) => match self.outcome(j) {
-                Some(o) => self.settle(plan, d, wrap(o)),
-                None => self.link(plan, d, j),
-            },
+            Landing::Links(j) => self.land_at(plan, d, j),
+        }
+    }
+
+    /// A claimed stage of a form that composes lands at a lower one: it settles as that one has settled, or is linked to it.
+    fn land_at(&mut self, plan: &GrowingPlan, d: u16, j: u16)
+        requires sound { AreSound plan.now.stages self.old }
+        requires stage { d < length plan.now.stages }
+        requires treated { AreTreated (d + 1) self.old.marks }
+        requires claimed { (kept_at self.old.kept.items d).stage ≡ Claimed }
+        requires target { j < d }
+        requires composes { composes (form_at plan.now.stages d) ≡ true }
+        ensures landed { StageLands plan.now.stages d (LinksTo j) self.old self.new }
+        ensures alone { KeptMovesAlone d self.old self.new }
+        ensures further { KeptMovesFurther d self.old self.new }
+        ensures taken { StayTakenBut d self.old.kept.items self.new.kept.items }
+        ensures turns { self.new.turns ≡ self.old.turns }
+        ensures room { SameRoom self.old self.new }
+        ensures sound { AreSound plan.now.stages self.new }
+    {
+        match self.outcome(j) {
+            Some(o) => self.settle(plan, d, wrap(o)),
+            None => self.link(plan, d, j),
         }
     }
 }

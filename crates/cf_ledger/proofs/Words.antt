@@ -2,11 +2,10 @@
 use Rattle.std.proofs.Common.{◌≡◌, ℕ, zero, suc, ◌+◌, ◌<◌, List, [], ◌∷◌, ◌++◌, length, length-append, map, refl, ap, sym, ◌∙◌, arith, subst, take, Bool}
 use Rattle.std.specs.Prelude.{Option, Some, None, position, slice_get}
 use Rattle.cf_forms.specs.Plans.{Planned, PlannedStage}
-use Rattle.cf_model.specs.Graphs.{AreChanges, Graph}
+use Rattle.cf_model.specs.Graphs.{AreNews, Graph}
 use Rattle.cf_model.proofs.Histories.{state_after-append}
 use Rattle.cf_model.proofs.Shape.{answered-grows}
-use Rattle.cf_ledger.specs.News.{AreNews, AreNoted, EndsIn}
-use Rattle.cf_ledger.proofs.Flags.{flagged_news}
+use Rattle.cf_ledger.specs.News.{AreNoted, WritesList}
 use Rattle.cf_model.specs.declared.events.Event.{Event}
 use Rattle.cf_model.specs.declared.events.Reply.{Reply}
 use Rattle.cf_model.specs.States.{State, start}
@@ -61,11 +60,10 @@ noted_at s (e ∷ es) (x ∷ lists) (suc k) news h is =
     subst (λ n. AreNews (state_after ((answered s e).1) (take k es)).stages (state_after s (take n (e ∷ es))).stages news) (sym next) (noted_at ((answered s e).1) es lists k news h.1 is)
 
 -- what is kept, once one more word is done and written with its news
-pub kept_push : (plan : Planned) (ws : List ℕ) (g h : Graph) (w : ℕ) (e : Event) (reply : Reply) (flags down set : List Bool) (lists more : List (List ℕ)) → IsKept plan ws g flags lists →
-    length g.state.stages ≡ length g.state.plan.stages → length h.state.stages ≡ length h.state.plan.stages →
+pub kept_push : (plan : Planned) (ws : List ℕ) (g h : Graph) (w : ℕ) (e : Event) (reply : Reply) (flags down : List Bool) (lists more : List (List ℕ)) → IsKept plan ws g flags lists →
     event_of w ≡ Some e → word_of e ≡ w → IsTaken g.state e → (reply, h.state) ≡ answered g.state e →
-    h.left ≡ None → position (λ b. b) down ≡ None → length down ≡ length flags → length set ≡ length flags → AreChanges g.state.stages h.state.stages set → EndsIn set lists more → IsKept plan (ws ++ w ∷ []) h down more
-kept_push plan ws g h w e reply flags down set lists more kept all_before all_after is word taken told none unset same all changes ends =
+    h.left ≡ None → position (λ b. b) down ≡ None → length down ≡ length flags → WritesList g.state.stages h.state.stages lists more → IsKept plan (ws ++ w ∷ []) h down more
+kept_push plan ws g h w e reply flags down lists more kept is word taken told none unset same new =
     let pushed = decoded_push ws w e kept.written is in
     let next : h.state ≡ (answered g.state e).1 = ap (λ p. p.1) told in
     let grows = answered-grows g.state e in
@@ -75,7 +73,6 @@ kept_push plan ws g h w e reply flags down set lists more kept all_before all_af
     let here = ap (λ (x : State). x.plan.room) next in
     omega (arith, stages, room, here)) in
     let was = kept.flags in
-    let news = flagged_news g.state.stages h.state.stages set ends.xs (omega (arith, all_before, all, was)) (omega (arith, all_after, all, was, total)) changes ends.flagged in
     record {
       place = kept.place;
       written = ap (λ (xs : List ℕ). xs ++ w ∷ []) kept.written ∙ ap (λ (x : ℕ). map word_of (decoded ws) ++ x ∷ []) (sym word) ∙ sym (map_push (decoded ws) e) ∙ ap (map word_of) (sym pushed);
@@ -84,9 +81,9 @@ kept_push plan ws g h w e reply flags down set lists more kept all_before all_af
       worked_out = none;
       unset = unset;
       flags = omega (arith, same, was, total);
-      noted = subst (λ es. AreNoted (start plan) es more) (sym pushed) (subst (AreNoted (start plan) (decoded ws ++ e ∷ [])) (sym ends.written)
-          (noted_push (start plan) (decoded ws) e lists ends.xs kept.noted
-          (subst (λ (x : State). AreNews x.stages ((answered x e).1).stages ends.xs) kept.left (subst (λ (x : State). AreNews g.state.stages x.stages ends.xs) next news))));
+      noted = subst (λ es. AreNoted (start plan) es more) (sym pushed) (subst (AreNoted (start plan) (decoded ws ++ e ∷ [])) (sym new.written)
+          (noted_push (start plan) (decoded ws) e lists new.xs kept.noted
+          (subst (λ (x : State). AreNews x.stages ((answered x e).1).stages new.xs) kept.left (subst (λ (x : State). AreNews g.state.stages x.stages new.xs) next new.news))));
     }
 
 -- and so the word is done

@@ -1,21 +1,10 @@
 -- Which stages an event changed, and the row of these lists.
-use Rattle.std.specs.Prelude.{◌≡◌, ◌≢◌, ℕ, zero, suc, ◌-◌, ◌<◌, ◌≤◌, Bool, true, Some, List, [], ◌∷◌, ◌++◌, All, Contains, drop, slice_get, take}
+use Rattle.std.specs.Prelude.{◌≡◌, ℕ, zero, suc, ◌-◌, ◌≤◌, List, [], ◌∷◌, ◌++◌, drop, take}
 use Rattle.cf_model.specs.declared.events.Event.{Event}
 use Rattle.cf_model.specs.declared.stage.Stage.{Stage}
 use Rattle.cf_model.specs.Events.{answered}
-use Rattle.cf_model.specs.Graphs.{stage_in}
+use Rattle.cf_model.specs.Graphs.{AreNews}
 use Rattle.cf_model.specs.States.{State}
-
--- each number is above those before it
-abbrev pub IsClimbing : List ℕ → Type 0
-IsClimbing [] = Unit {0}
-IsClimbing (x ∷ xs) = All (λ later. x < later) xs × IsClimbing xs
-
--- these are the stages whose states differ, rising; one that wasn't there was pending
-pub record AreNews (old new : List Stage) (news : List ℕ) : Type 0 where
-  pub rising : IsClimbing news
-  pub differ : All (λ i. stage_in new i ≢ stage_in old i) news
-  pub all : (i : ℕ) → stage_in new i ≢ stage_in old i → Contains news i
 
 -- there is such a list for each event
 abbrev pub AreNoted : State → List Event → List (List ℕ) → Type 0
@@ -46,20 +35,8 @@ abbrev pub AreEnds : ℕ → ℕ → List ℕ → Type 0
 AreEnds from end [] = from ≡ end
 AreEnds from end (e ∷ ends) = (from ≤ e) × AreEnds e end ends
 
--- these are the numbers whose flags are set, rising
-pub record AreFlagged (flags : List Bool) (xs : List ℕ) : Type 0 where
-  pub rising : IsClimbing xs
-  pub set : All (λ i. slice_get flags i ≡ Some true) xs
-  pub all : (i : ℕ) → slice_get flags i ≡ Some true → Contains xs i
-
--- they are written behind others
-pub record Drains (flags : List Bool) (old new : List ℕ) : Type 0 where
+-- the stages that differ are written behind others, as the last list
+pub record WritesList (old new : List Stage) (lists lists' : List (List ℕ)) : Type 0 where
   pub xs : List ℕ
-  pub written : new ≡ old ++ xs
-  pub flagged : AreFlagged flags xs
-
--- and are the last list then
-pub record EndsIn (flags : List Bool) (old new : List (List ℕ)) : Type 0 where
-  pub xs : List ℕ
-  pub written : new ≡ old ++ xs ∷ []
-  pub flagged : AreFlagged flags xs
+  pub written : lists' ≡ lists ++ xs ∷ []
+  pub news : AreNews old new xs

@@ -1,23 +1,25 @@
 //! The ledger.
-ghost use Rattle.std.specs.Prelude.{◌≡◌, ◌+◌, ◌<◌, ◌≤◌, ◌↔◌, [], IfErr, IfNone, IfOk, IfSome, IsTrue, None, OnErr, OnOk, false, length, map, get_or, replicate, take, true};
+ghost use Rattle.std.specs.Prelude.{◌≡◌, ◌+◌, ◌<◌, ◌≤◌, ◌↔◌, [], IfErr, IfNone, IfOk, IfSome, IsTrue, None, OnErr, OnOk, Some, false, length, map, get_or, replicate, take, true};
 ghost use Rattle.cf_forms.specs.Plans.{function_at, has_place, reopened, with_room};
-ghost use Rattle.cf_model.specs.Graphs.{NoneReady, stage_in};
+ghost use Rattle.cf_model.specs.Graphs.{AreNews, NoneReady, stage_in};
 ghost use Rattle.cf_model.specs.States.{claim_at, is_ready, lowest_ready_of, outcome_at, start};
+ghost use Rattle.cf_model.specs.declared.events.Event.TheVariants.{Claim as Claims, Finish as FinishesAs};
+ghost use Rattle.cf_model.specs.declared.events.Reply.TheVariants.{Claim as ToldClaim, Finish as ToldFinish};
 ghost use Rattle.cf_event.specs.Words.{word_of};
 ghost use Rattle.cf_ledger.specs.Ledgers.{Does, DoesAll, HasRoomFor, IsFirstMisfit, LedgerRefuses, state_at, state_of, with_more};
-ghost use Rattle.cf_ledger.specs.News.{AreNews};
 ghost use Rattle.cf_ledger.specs.Steps.{IsNoStep, NoneReadyFrom, Steps};
-ghost use Rattle.cf_event.specs.Decoding.{decoded};
+ghost use Rattle.cf_event.specs.Decoding.{decoded, event_of};
 
 use crate::faults::{LedgerFault, Misfit, StepFault};
 use crate::news::News;
 use crate::rows::make_room;
 use crate::step::{Held, Step};
-use crate::writing::{finish, take, write};
+use crate::writing::{finish, take, write, write_claim, write_finish};
 use cf_bits::BitSet;
 use cf_core::Graph;
-use cf_event::{LAST_CALLER, decode};
-use cf_model::{Event, Reply, Stage};
+use cf_event::{LAST_CALLER, claim_of, decode, giving_of};
+use cf_forms::Answer;
+use cf_model::{Claimed, Event, Finished, Reply, Stage};
 use cf_outcome::Outcome;
 use cf_plan::{MAX_STAGES, Plan};
 use std::alloc::{AllocError, Global};
@@ -27,7 +29,7 @@ use std::mem;
 /// A graph, with the words of all that was done to it and the stages that each word changed.
 ///
 /// A contract sees the plan with its room, and the events of the words. The graph is in the state that these events
-/// leave, and no turn is left.
+/// leave, and no turn is left. A flag of `changed` is set only while a tick is done.
 #[derive(Drop)]
 pub struct Ledger {
     plan: Plan,
@@ -44,7 +46,7 @@ impl Model for Ledger {
     ghost Value = { Ledger };
 
     ghost use Rattle.cf_forms.specs.Plans.{with_room};
-    ghost use Rattle.cf_event.specs.Decoding.{decoded};
+    ghost use Rattle.cf_event.specs.Decoding.{decoded, event_of};
     ghost use Rattle.cf_ledger.specs.Ledgers.{IsKept};
 
     ghost view = { λ l. record { plan = with_room l.plan l.room; events = decoded l.words.items } };
@@ -80,6 +82,85 @@ impl Ledger {
     /// as it was written, part by part.
     #[inline(always)]
     pub fn apply(&mut self, word: u64) -> Result<Reply, LedgerFault>
+        ensures done { IfOk result (λ reply. Does word self.old reply self.new) }
+        ensures refused { OnErr result (self.new ≡ self.old) }
+        ensures why { IfErr result (λ fault. LedgerRefuses (state_of self.old) word fault) }
+    {
+        // A claim, and a finish that gives a value, are nearly all words. Each has code of its own, in which its kind is
+        // known.
+        if let Some((who, stage)) = claim_of(word) {
+            return Ok(Reply::Claim(self.claim(who, stage, word)?));
+        }
+        if let Some((who, stage, v)) = giving_of(word) {
+            return Ok(Reply::Finish(self.finish(who, stage, Answer::Give(v), word)?));
+        }
+        self.apply_other(word)
+    }
+
+    /// Does a claim, whose word this is.
+    #[inline(always)]
+    fn claim(&mut self, who: u8, stage: u16, word: u64) -> Result<Claimed, LedgerFault>
+        requires read { event_of word ≡ Some (Claims who stage) }
+        requires named { word_of (Claims who stage) ≡ word }
+        ensures done { IfOk result (λ told. Does word self.old (ToldClaim told) self.new) }
+        ensures refused { OnErr result (self.new ≡ self.old) }
+        ensures why { IfErr result (λ fault. LedgerRefuses (state_of self.old) word fault) }
+    {
+        if stage >= self.graph.stages() {
+            return Err(LedgerFault::NoStage);
+        }
+        make_room(&mut self.words, 1)?;
+        self.news.reserve(1, self.changed.bound() as usize)?;
+        Ok(write_claim(
+            &self.plan,
+            self.room,
+            &mut self.graph,
+            &mut self.words,
+            &self.changed,
+            &mut self.news,
+            who,
+            stage,
+            word,
+        ))
+    }
+
+    /// Does a finish, whose word this is.
+    #[inline(always)]
+    fn finish(
+        &mut self,
+        who: u8,
+        stage: u16,
+        answer: Answer,
+        word: u64,
+    ) -> Result<Finished, LedgerFault>
+        requires read { event_of word ≡ Some (FinishesAs who stage answer) }
+        requires named { word_of (FinishesAs who stage answer) ≡ word }
+        ensures done { IfOk result (λ told. Does word self.old (ToldFinish told) self.new) }
+        ensures refused { OnErr result (self.new ≡ self.old) }
+        ensures why { IfErr result (λ fault. LedgerRefuses (state_of self.old) word fault) }
+    {
+        if stage >= self.graph.stages() {
+            return Err(LedgerFault::NoStage);
+        }
+        make_room(&mut self.words, 1)?;
+        self.news.reserve(1, self.changed.bound() as usize)?;
+        Ok(write_finish(
+            &self.plan,
+            self.room,
+            &mut self.graph,
+            &mut self.words,
+            &self.changed,
+            &mut self.news,
+            who,
+            stage,
+            answer,
+            word,
+        ))
+    }
+
+    /// Does a word of any kind, in a call of its own.
+    #[inline(never)]
+    fn apply_other(&mut self, word: u64) -> Result<Reply, LedgerFault>
         ensures done { IfOk result (λ reply. Does word self.old reply self.new) }
         ensures refused { OnErr result (self.new ≡ self.old) }
         ensures why { IfErr result (λ fault. LedgerRefuses (state_of self.old) word fault) }
@@ -140,7 +221,7 @@ impl Ledger {
                 self.room,
                 &mut self.graph,
                 &mut self.words,
-                &mut self.changed,
+                &self.changed,
                 &mut self.news,
                 who,
                 held,
@@ -151,7 +232,7 @@ impl Ledger {
             self.room,
             &mut self.graph,
             &mut self.words,
-            &mut self.changed,
+            &self.changed,
             &mut self.news,
             who,
             from,
@@ -224,12 +305,12 @@ impl Ledger {
     }
 
     /// A stage's state.
-    pub fn stage(&mut self, i: u16) -> Stage
-        requires { i < length (state_of self.old).plan.stages }
-        ensures told { result ≡ stage_in (state_of self.old).stages i }
-        ensures same { self.new ≡ self.old }
+    #[inline(always)]
+    pub fn stage(&self, i: u16) -> Stage
+        requires { i < length (state_of self.now).plan.stages }
+        ensures { result ≡ stage_in (state_of self.now).stages i }
     {
-        self.graph.stage(i)
+        self.graph.stage_now(i)
     }
 
     /// The caller whose claim of a stage is open, if there is one.

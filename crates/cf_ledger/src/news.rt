@@ -1,9 +1,14 @@
 //! Which stages each event changed, as lists of one row.
-ghost use Rattle.std.specs.Prelude.{◌≡◌, ◌+◌, ◌<◌, ◌≤◌, ◌∷◌, ◌++◌, [], Bool, List, None, OnErr, OnOk, Some, length, position, slice_get, vec_capacity};
-ghost use Rattle.cf_ledger.specs.News.{AreEnds, Drains, EndsIn, begin_of, parts};
+ghost use Rattle.std.specs.Prelude.{◌≡◌, ◌+◌, ◌<◌, ◌≤◌, [], None, OnOk, Some, length, position, slice_get};
+ghost use Rattle.cf_model.specs.Events.{answered, claiming, finishing};
+ghost use Rattle.cf_model.specs.Ranges.{EventFits};
+ghost use Rattle.cf_ledger.specs.News.{AreEnds, WritesList, begin_of, parts};
 
 use crate::rows::make_room;
 use cf_bits::BitSet;
+use cf_core::Graph;
+use cf_forms::Answer;
+use cf_model::{Claimed, Event, Finished, Reply};
 use std::alloc::{AllocError, Global};
 use std::marker::Model;
 
@@ -65,20 +70,69 @@ impl News {
         self.ends.clear();
     }
 
-    /// Writes the stages whose flags are set behind the others, as a list of its own, and takes the flags down.
+    /// Has a graph do an event, and writes the stages that differ then behind the others, as a list of their own.
     #[inline(always)]
-    pub fn push(&mut self, changed: &mut BitSet)
-        requires free { length changed.old ≤ self.old.free }
+    pub fn note(&mut self, graph: &mut Graph, event: &Event, flags: &mut BitSet) -> Reply
+        requires fits { EventFits (length graph.old.state.plan.stages) event.now }
+        requires worked_out { graph.old.left ≡ None }
+        requires unset { position (λ b. b) flags.old ≡ None }
+        requires flags { length flags.old ≡ length graph.old.state.plan.stages + graph.old.state.plan.room }
+        requires free { length flags.old ≤ self.old.free }
         requires more { 0 < self.old.more }
-        ensures lists { EndsIn changed.old self.old.lists self.new.lists }
-        ensures down { position (λ b. b) changed.new ≡ None }
-        ensures flags { length changed.new ≡ length changed.old }
-        ensures free { self.old.free ≤ self.new.free + length changed.old }
+        ensures told { (result, graph.new.state) ≡ answered graph.old.state event.now }
+        ensures lists { WritesList graph.old.state.stages graph.new.state.stages self.old.lists self.new.lists }
+        ensures free { self.old.free ≤ self.new.free + length flags.old }
         ensures more { self.old.more ≤ self.new.more + 1 }
+        ensures unset { position (λ b. b) flags.new ≡ None }
+        ensures flags { length flags.new ≡ length flags.old }
+        ensures worked_out { graph.new.left ≡ None }
     {
-        drain(changed, &mut self.all);
+        let reply = graph.answer_telling(event, flags, &mut self.all);
         let end = self.all.len();
         self.ends.push_reserved(end);
+        reply
+    }
+
+    /// The same of a claim.
+    #[inline(always)]
+    pub fn note_claim(&mut self, graph: &mut Graph, who: u8, stage: u16) -> Claimed
+        requires there { stage < length graph.old.state.plan.stages }
+        requires worked_out { graph.old.left ≡ None }
+        requires free { 0 < self.old.free }
+        requires more { 0 < self.old.more }
+        ensures told { (result, graph.new.state) ≡ claiming graph.old.state who stage }
+        ensures lists { WritesList graph.old.state.stages graph.new.state.stages self.old.lists self.new.lists }
+        ensures worked_out { graph.new.left ≡ None }
+    {
+        let told = graph.claim_telling(who, stage, &mut self.all);
+        let end = self.all.len();
+        self.ends.push_reserved(end);
+        told
+    }
+
+    /// The same of a finish.
+    #[inline(always)]
+    pub fn note_finish(
+        &mut self,
+        graph: &mut Graph,
+        who: u8,
+        stage: u16,
+        answer: Answer,
+    ) -> Finished
+        requires there { stage < length graph.old.state.plan.stages }
+        requires worked_out { graph.old.left ≡ None }
+        requires free { length graph.old.state.plan.stages ≤ self.old.free }
+        requires more { 0 < self.old.more }
+        ensures told { (result, graph.new.state) ≡ finishing graph.old.state who stage answer }
+        ensures free { self.old.free ≤ self.new.free + length graph.old.state.plan.stages }
+        ensures more { self.old.more ≤ self.new.more + 1 }
+        ensures lists { WritesList graph.old.state.stages graph.new.state.stages self.old.lists self.new.lists }
+        ensures worked_out { graph.new.left ≡ None }
+    {
+        let told = graph.finish_telling(who, stage, answer, &mut self.all);
+        let end = self.all.len();
+        self.ends.push_reserved(end);
+        told
     }
 
     /// The list at a place.
@@ -87,21 +141,6 @@ impl News {
         ensures { slice_get self.now.lists place ≡ Some result.now }
     {
         part(&self.all, &self.ends, place)
-    }
-}
-
-/// Writes the stages whose flags are set behind others, rising, and takes the flags down.
-fn drain(changed: &mut BitSet, all: &mut Vec<u16>)
-    requires { length all.old.items + length changed.old ≤ vec_capacity all.old }
-    ensures drained { Drains changed.old all.old.items all.new.items }
-    ensures down { position (λ b. b) changed.new ≡ None }
-    ensures flags { length changed.new ≡ length changed.old }
-    ensures room { vec_capacity all.new ≡ vec_capacity all.old }
-    ensures few { length all.new.items ≤ length all.old.items + length changed.old }
-{
-    while let Some(i) = changed.lowest() {
-        changed.remove(i);
-        all.push_reserved(i);
     }
 }
 

@@ -3,7 +3,9 @@
 //! Room for the word and for the stages that it changes was found before, so nothing here is refused.
 ghost use Rattle.std.specs.Prelude.{◌≡◌, ◌+◌, ◌<◌, ◌≤◌, Some, length, vec_capacity};
 ghost use Rattle.cf_forms.specs.Plans.{with_room};
-ghost use Rattle.cf_model.specs.Events.{answered};
+ghost use Rattle.cf_model.specs.declared.events.Event.TheVariants.{Claim as Claims, Finish as FinishesAs};
+ghost use Rattle.cf_model.specs.declared.events.Reply.TheVariants.{Claim as ToldClaim, Finish as ToldFinish};
+ghost use Rattle.cf_model.specs.Events.{answered, claiming, finishing};
 ghost use Rattle.cf_model.specs.States.{claim_at};
 ghost use Rattle.cf_event.specs.Words.{word_of};
 ghost use Rattle.cf_event.specs.Decoding.{event_of};
@@ -15,6 +17,7 @@ use crate::step::{Finish, Held, Taken};
 use cf_bits::BitSet;
 use cf_core::Graph;
 use cf_event::encode;
+use cf_forms::Answer;
 use cf_model::{Claimed, Event, Finished, Reply};
 use cf_plan::Plan;
 
@@ -49,11 +52,77 @@ pub(crate) fn write(
 {
     // There is a state for each stage, before and after.
     let _known_before = graph.stages();
-    let reply = graph.answer_telling(event, changed);
+    let reply = news.note(graph, event, changed);
     let _known_after = graph.stages();
     words.push_reserved(word);
-    news.push(changed);
     reply
+}
+
+/// The same of a claim, whose word this is.
+#[inline(always)]
+pub(crate) fn write_claim(
+    plan: &Plan,
+    room: u16,
+    graph: &mut Graph,
+    words: &mut Vec<u64>,
+    changed: &BitSet,
+    news: &mut News,
+    who: u8,
+    stage: u16,
+    word: u64,
+) -> Claimed
+    requires kept { IsKept (with_room plan.now room) words.old.items graph.old changed.now news.old.lists }
+    requires read { event_of word ≡ Some (Claims who stage) }
+    requires named { word_of (Claims who stage) ≡ word }
+    requires there { stage < length graph.old.state.plan.stages }
+    requires place { length words.old.items < vec_capacity words.old }
+    requires free { length changed.now ≤ news.old.free }
+    requires more { 0 < news.old.more }
+    ensures kept { IsKept (with_room plan.now room) words.new.items graph.new changed.now news.new.lists }
+    ensures does { Does word (opened_with plan.now room words.old.items)
+        (ToldClaim result) (opened_with plan.now room words.new.items) }
+    ensures told { (result, graph.new.state) ≡ claiming graph.old.state who stage }
+{
+    let _changed = changed;
+    let told = news.note_claim(graph, who, stage);
+    words.push_reserved(word);
+    told
+}
+
+/// The same of a finish, whose word this is.
+#[inline(always)]
+pub(crate) fn write_finish(
+    plan: &Plan,
+    room: u16,
+    graph: &mut Graph,
+    words: &mut Vec<u64>,
+    changed: &BitSet,
+    news: &mut News,
+    who: u8,
+    stage: u16,
+    answer: Answer,
+    word: u64,
+) -> Finished
+    requires kept { IsKept (with_room plan.now room) words.old.items graph.old changed.now news.old.lists }
+    requires read { event_of word ≡ Some (FinishesAs who stage answer) }
+    requires named { word_of (FinishesAs who stage answer) ≡ word }
+    requires there { stage < length graph.old.state.plan.stages }
+    requires place { length words.old.items < vec_capacity words.old }
+    requires free { length changed.now ≤ news.old.free }
+    requires more { 0 < news.old.more }
+    ensures kept { IsKept (with_room plan.now room) words.new.items graph.new changed.now news.new.lists }
+    ensures does { Does word (opened_with plan.now room words.old.items)
+        (ToldFinish result) (opened_with plan.now room words.new.items) }
+    ensures told { (result, graph.new.state) ≡ finishing graph.old.state who stage answer }
+    ensures one { length words.new.items ≡ length words.old.items + 1 }
+    ensures place { vec_capacity words.new ≡ vec_capacity words.old }
+    ensures free { news.old.free ≤ news.new.free + length changed.now }
+    ensures more { news.old.more ≤ news.new.more + 1 }
+{
+    let _changed = changed;
+    let told = news.note_finish(graph, who, stage, answer);
+    words.push_reserved(word);
+    told
 }
 
 /// Finishes a stage that the caller has claimed.
@@ -62,39 +131,49 @@ pub(crate) fn finish(
     room: u16,
     graph: &mut Graph,
     words: &mut Vec<u64>,
-    changed: &mut BitSet,
+    changed: &BitSet,
     news: &mut News,
     who: u8,
     held: Held,
 ) -> Finish
-    requires kept { IsKept (with_room plan.now room) words.old.items graph.old changed.old news.old.lists }
+    requires kept { IsKept (with_room plan.now room) words.old.items graph.old changed.now news.old.lists }
     requires caller { who ≤ 63 }
     requires there { held.stage < length graph.old.state.plan.stages }
     requires held { claim_at graph.old.state held.stage ≡ Some who }
     requires place { length words.old.items < vec_capacity words.old }
-    requires free { length changed.old ≤ news.old.free }
+    requires free { length changed.now ≤ news.old.free }
     requires more { 0 < news.old.more }
-    ensures kept { IsKept (with_room plan.now room) words.new.items graph.new changed.new news.new.lists }
+    ensures kept { IsKept (with_room plan.now room) words.new.items graph.new changed.now news.new.lists }
     ensures does { Finishes who (Some held) (opened_with plan.now room words.old.items)
         (Some result) (opened_with plan.now room words.new.items) }
     ensures one { length words.new.items ≡ length words.old.items + 1 }
     ensures place { vec_capacity words.new ≡ vec_capacity words.old }
-    ensures free { news.old.free ≤ news.new.free + length changed.old }
+    ensures free { news.old.free ≤ news.new.free + length changed.now }
     ensures more { news.old.more ≤ news.new.more + 1 }
-    ensures flags { length changed.new ≡ length changed.old }
 {
     // No stage's number is above 4,095.
     let _known = graph.stages();
-    let event = Event::Finish {
+    let word = encode(&Event::Finish {
         who,
         stage: held.stage,
         answer: held.answer,
-    };
-    let word = encode(&event);
-    match write(plan, room, graph, words, changed, news, &event, word) {
-        Reply::Finish(Finished::Won) => Finish { late: false, word },
-        Reply::Finish(Finished::Late) => Finish { late: true, word },
-        _ => unreachable!(),
+    });
+    let told = write_finish(
+        plan,
+        room,
+        graph,
+        words,
+        changed,
+        news,
+        who,
+        held.stage,
+        held.answer,
+        word,
+    );
+    match told {
+        Finished::Won => Finish { late: false, word },
+        Finished::Late => Finish { late: true, word },
+        Finished::NotYours => unreachable!(),
     }
 }
 
@@ -104,17 +183,17 @@ pub(crate) fn take(
     room: u16,
     graph: &mut Graph,
     words: &mut Vec<u64>,
-    changed: &mut BitSet,
+    changed: &BitSet,
     news: &mut News,
     who: u8,
     from: u16,
 ) -> Option<Taken>
-    requires kept { IsKept (with_room plan.now room) words.old.items graph.old changed.old news.old.lists }
+    requires kept { IsKept (with_room plan.now room) words.old.items graph.old changed.now news.old.lists }
     requires caller { who ≤ 63 }
     requires place { length words.old.items < vec_capacity words.old }
-    requires free { length changed.old ≤ news.old.free }
+    requires free { length changed.now ≤ news.old.free }
     requires more { 0 < news.old.more }
-    ensures kept { IsKept (with_room plan.now room) words.new.items graph.new changed.new news.new.lists }
+    ensures kept { IsKept (with_room plan.now room) words.new.items graph.new changed.now news.new.lists }
     ensures does { Takes who from (opened_with plan.now room words.old.items)
         result (opened_with plan.now room words.new.items) }
 {
@@ -124,10 +203,9 @@ pub(crate) fn take(
         return None;
     };
     let function = graph.function(stage);
-    let event = Event::Claim { who, stage };
-    let word = encode(&event);
-    match write(plan, room, graph, words, changed, news, &event, word) {
-        Reply::Claim(Claimed::Granted(args)) => Some(Taken {
+    let word = encode(&Event::Claim { who, stage });
+    match write_claim(plan, room, graph, words, changed, news, who, stage, word) {
+        Claimed::Granted(args) => Some(Taken {
             stage,
             function,
             args,

@@ -1,5 +1,5 @@
 -- What a contract sees of a graph.
-use Rattle.std.specs.Prelude.{◌≡◌, ◌≢◌, ℕ, ◌+◌, ◌<◌, ◌≤◌, ◌||◌, Bool, true, false, Option, Some, None, IfSome, List, [], ◌∷◌, is_some, length, map, slice_get, unwrap_or, if◌then◌else◌}
+use Rattle.std.specs.Prelude.{◌≡◌, ◌≢◌, ℕ, ◌+◌, ◌<◌, ◌≤◌, ◌||◌, Bool, true, false, Option, Some, None, IfSome, List, [], ◌∷◌, ◌++◌, All, Contains, is_some, length, map, slice_get, unwrap_or, if◌then◌else◌}
 use Rattle.std.specs.List.{list_any}
 use Rattle.cf_forms.specs.declared.forms.Form.{Form}
 use Rattle.cf_forms.specs.declared.limits.Limit.{Limit}
@@ -107,9 +107,9 @@ pub record MovesAlone (d : ℕ) (old new : List Stage) : Type 0 where
   pub onward : rank (stage_in old d) ≤ rank (stage_in new d)
   pub stays : rank (stage_in new d) ≡ rank (stage_in old d) → stage_in new d ≡ stage_in old d
 
--- where no turn was left, a call on stage d moves no other as far as it is kept
+-- where no turn was left, a call on stage d moves no other as far as it is kept, and leaves turns of stages above it alone
 abbrev pub MovesOnly : ℕ → Graph → Graph → Type 0
-MovesOnly d old new = old.left ≡ None → MovesAlone d old.kept new.kept
+MovesOnly d old new = old.left ≡ None → MovesAlone d old.kept new.kept × NoneLeftUpTo d new.left
 
 -- the stage that an event moves by itself where there are so many; a tick moves any
 abbrev pub moved_by : ℕ → Event → ℕ
@@ -131,3 +131,20 @@ MovesOwn e old new = MovesOnly (moved_by (length old.state.plan.stages) e) old n
 pub record AreChanges (old new : List Stage) (changed : List Bool) : Type 0 where
   pub same : (i : ℕ) → slice_get changed i ≡ Some false → stage_in new i ≡ stage_in old i
   pub differs : (i : ℕ) → slice_get changed i ≡ Some true → stage_in new i ≢ stage_in old i
+
+-- each number is above those before it
+abbrev pub IsClimbing : List ℕ → Type 0
+IsClimbing [] = Unit {0}
+IsClimbing (x ∷ xs) = All (λ later. x < later) xs × IsClimbing xs
+
+-- these are the stages whose states differ, rising; one that wasn't there was pending
+pub record AreNews (old new : List Stage) (news : List ℕ) : Type 0 where
+  pub rising : IsClimbing news
+  pub differ : All (λ i. stage_in new i ≢ stage_in old i) news
+  pub all : (i : ℕ) → stage_in new i ≢ stage_in old i → Contains news i
+
+-- they are written behind those of a row
+pub record WritesNews (old new : List Stage) (row row' : List ℕ) : Type 0 where
+  pub xs : List ℕ
+  pub written : row' ≡ row ++ xs
+  pub news : AreNews old new xs

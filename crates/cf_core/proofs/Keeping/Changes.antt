@@ -9,15 +9,16 @@ use Rattle.cf_forms.specs.Plans.{PlannedStage}
 use Rattle.cf_model.specs.declared.stage.Stage.{Stage}
 use Rattle.cf_model.specs.declared.stage.Stage.TheVariants.{Pending, Ready, Claimed, Linked, Settled}
 use Rattle.cf_model.specs.States.{is_ready, outcome_of}
-use Rattle.cf_model.specs.Graphs.{AreChanges, MovesAlone, rank, stage_in}
+use Rattle.cf_model.specs.Graphs.{AreChanges, MovesAlone, NoneLeftUpTo, rank, stage_in}
 use Rattle.cf_model.proofs.StateLemmas.{slice_get-set_other}
 use Rattle.cf_core.specs.declared.kept.KeptStage.{KeptStage}
 use Rattle.cf_core.specs.declared.stages.Stages.{Stages}
 use Rattle.cf_core.specs.Keeping.Changes.{HaveMoved}
 use Rattle.cf_core.specs.Keeping.Treatment.{due_kept, late_due, linked_kept, stages_of, dated_in, treated, treated_by}
 use Rattle.cf_core.specs.Keeping.Sound.{kept_at}
-use Rattle.cf_core.specs.Keeping.SoundStages.{AreSound, settled_view_of}
+use Rattle.cf_core.specs.Keeping.SoundStages.{AreSound, KeptMovesAlone, lowest_marked_in, settled_view_of}
 use Rattle.cf_core.specs.Keeping.Turns.{planned_at, turned}
+use Rattle.cf_core.proofs.Keeping.Above.{leaves_none}
 use Rattle.cf_core.proofs.Keeping.Marking.{get-set_same}
 use Rattle.cf_core.proofs.Keeping.Lowest.{all_steady, none_marked}
 use Rattle.cf_core.proofs.Keeping.Places.{kept_put}
@@ -57,6 +58,10 @@ alone_written kept d new l onward stays =
 
 pub alone_put : (kept : List KeptStage) (d : ℕ) (new : KeptStage) → d < length kept → rank ((kept_at kept d).stage) < rank new.stage → MovesAlone d (stages_of kept) (stages_of (set kept d new))
 alone_put kept d new l less = alone_written kept d new l (omega (arith, less)) (λ e. absurd (omega (arith, less, e)))
+
+-- and it comes further
+pub further_put : (kept : List KeptStage) (d : ℕ) (new : KeptStage) → d < length kept → rank ((kept_at kept d).stage) < rank new.stage → rank (stage_in (stages_of kept) d) < rank (stage_in (stages_of (set kept d new)) d)
+further_put kept d new l less = let a = ap rank (kept_stage kept d) in let b = ap rank (stage_put kept d new l) in omega (arith, less, a, b)
 
 pub open_rank : (stage : Stage) → outcome_of stage ≡ None → rank stage < 4
 open_rank Pending e = omega arith
@@ -197,3 +202,9 @@ moved_changes old new changed h = record {
 pub kept_all : (plan : List PlannedStage) (s : Stages) → AreSound plan s → position (λ b. b) s.marks ≡ None → stages_of s.kept.items ≡ settled_view_of plan s
 kept_all plan s h none =
     ap stages_of (sym (all_steady plan s.kept.items s.marks s.ready s.links s.steps s.turns h (none_marked s.marks (length plan) none (omega (arith, h.all_marks)))))
+
+-- where no turn was left, treating stages changes nothing
+pub rests_alone : (i : ℕ) (s t : Stages) → (NoneLeftUpTo i (lowest_marked_in s) → t ≡ s) → lowest_marked_in s ≡ None → KeptMovesAlone i s t
+rests_alone i s t still none =
+    let same = still (subst (NoneLeftUpTo i) (sym none) tt) in
+    subst (KeptMovesAlone i s) (sym same) (alone_none i (stages_of s.kept.items), leaves_none i (lowest_marked_in s) none)

@@ -4,7 +4,7 @@ use Rattle.cf_forms.specs.declared.forms.Args.{Args}
 use Rattle.cf_forms.specs.Plans.{PlannedStage}
 use Rattle.cf_model.specs.declared.stage.Stage.{Stage}
 use Rattle.cf_model.specs.declared.stage.Stage.TheVariants.{Ready}
-use Rattle.cf_model.specs.Graphs.{MovesAlone}
+use Rattle.cf_model.specs.Graphs.{MovesAlone, NoneLeftUpTo, rank, stage_in}
 use Rattle.cf_model.specs.States.{is_ready}
 use Rattle.cf_core.specs.declared.kept.KeptStage.{KeptStage}
 use Rattle.cf_core.specs.declared.stages.Stages.{Stages}
@@ -31,9 +31,17 @@ lowest_ready_in plan s = position is_ready (settled_view_of plan s)
 abbrev pub IsReadyIn : List PlannedStage → Stages → ℕ → Args → Type 0
 IsReadyIn plan s i args = slice_get (settled_view_of plan s) i ≡ Some (Ready args)
 
--- what is kept of the stages moves at stage d alone
+-- the lowest marked stage
+abbrev pub lowest_marked_in : Stages → Option ℕ
+lowest_marked_in s = position (λ b. b) s.marks
+
+-- what is kept of the stages moves at stage d alone, and those that are marked are above it
 abbrev pub KeptMovesAlone : ℕ → Stages → Stages → Type 0
-KeptMovesAlone d old new = MovesAlone d (stages_of old.kept.items) (stages_of new.kept.items)
+KeptMovesAlone d old new = MovesAlone d (stages_of old.kept.items) (stages_of new.kept.items) × NoneLeftUpTo d (lowest_marked_in new)
+
+-- and it comes further there
+abbrev pub KeptMovesFurther : ℕ → Stages → Stages → Type 0
+KeptMovesFurther d old new = rank (stage_in (stages_of old.kept.items) d) < rank (stage_in (stages_of new.kept.items) d)
 
 -- The marks once stage d is written as new. Where it has settled, its dependents and the stages linked to it are marked.
 abbrev pub marks_once_put : List PlannedStage → Stages → ℕ → KeptStage → List Bool

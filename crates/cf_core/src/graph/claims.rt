@@ -1,11 +1,11 @@
 //! The calls by which a caller takes a stage's function and hands in its answer.
-ghost use Rattle.std.specs.Prelude.{◌≡◌, ℕ, ◌+◌, ◌<◌, ◌==◌, None, false, length, slice_get, unwrap_or};
+ghost use Rattle.std.specs.Prelude.{◌≡◌, ℕ, ◌+◌, ◌<◌, ◌≤◌, ◌==◌, None, false, length, slice_get, unwrap_or, vec_capacity};
 ghost use Rattle.std.specs.Option.{option_map_or};
 ghost use Rattle.cf_model.specs.States.{State, is_ready};
 ghost use Rattle.cf_model.specs.Events.{claimed_by, claiming, finishing};
 ghost use Rattle.cf_core.specs.Keeping.SoundStages.{settled_view_of};
 ghost use Rattle.cf_core.specs.Keeping.Sweeps.{AreSwept};
-ghost use Rattle.cf_model.specs.Graphs.{CountsTurns, MovesOnly, RestsUpTo};
+ghost use Rattle.cf_model.specs.Graphs.{CountsTurns, MovesOnly, RestsUpTo, WritesNews};
 ghost use Rattle.cf_core.specs.Keeping.Landings.{landing_at};
 
 use crate::graph::Graph;
@@ -41,6 +41,30 @@ impl Graph {
         }
     }
 
+    /// Grants a claim as `claim` does, and writes the stage behind those of a row if it is granted. No turn is left before
+    /// and afterwards.
+    #[inline(always)]
+    pub fn claim_telling(&mut self, who: u8, i: u16, news: &mut Vec<u16>) -> Claimed
+        requires stage { i < length self.old.state.plan.stages }
+        requires worked_out { self.old.left ≡ None }
+        requires place { length news.old.items < vec_capacity news.old }
+        ensures told { (result, self.new.state) ≡ claiming self.old.state who i }
+        ensures news { WritesNews self.old.state.stages self.new.state.stages news.old.items news.new.items }
+        ensures places { vec_capacity news.new ≡ vec_capacity news.old }
+        ensures worked_out { self.new.left ≡ None }
+        ensures counted { CountsTurns self.old self.new }
+    {
+        match self.stages.stage(i) {
+            Stage::Ready(args) => {
+                self.stages.claim(&self.plan, i);
+                self.claims[i as usize] = Some(who);
+                news.push_reserved(i);
+                Claimed::Granted(args)
+            }
+            stage => refusal(stage),
+        }
+    }
+
     /// Closes a caller's claim, and settles or links the stage by its function's answer, unless it is settled.
     #[inline(always)]
     pub fn finish(&mut self, who: u8, i: u16, answer: Answer) -> Finished
@@ -60,6 +84,42 @@ impl Graph {
             None => {
                 let at = landing_of(&self.stages, &self.plan, i, answer);
                 self.stages.land(&self.plan, i, at);
+                Finished::Won
+            }
+        }
+    }
+
+    /// Finishes a stage as `finish` does, takes all turns that it makes due, and writes the stages that differ then behind
+    /// those of a row, rising. No turn is left before and afterwards.
+    #[inline(always)]
+    pub fn finish_telling(
+        &mut self,
+        who: u8,
+        i: u16,
+        answer: Answer,
+        news: &mut Vec<u16>,
+    ) -> Finished
+        requires stage { i < length self.old.state.plan.stages }
+        requires worked_out { self.old.left ≡ None }
+        requires places { length news.old.items + length self.old.state.plan.stages ≤ vec_capacity news.old }
+        ensures told { (result, self.new.state) ≡ finishing self.old.state who i answer }
+        ensures news { WritesNews self.old.state.stages self.new.state.stages news.old.items news.new.items }
+        ensures few { length news.new.items ≤ length news.old.items + length self.old.state.plan.stages }
+        ensures places { vec_capacity news.new ≡ vec_capacity news.old }
+        ensures worked_out { self.new.left ≡ None }
+        ensures counted { CountsTurns self.old self.new }
+    {
+        if !has_claim(&self.claims, who, i) {
+            return Finished::NotYours;
+        }
+        self.claims[i as usize] = None;
+        match self.stages.outcome(i) {
+            Some(_) => Finished::Late,
+            None => {
+                let lands = landing_of(&self.stages, &self.plan, i, answer);
+                self.stages.land(&self.plan, i, lands);
+                news.push_reserved(i);
+                self.stages.write_rest(&self.plan, news);
                 Finished::Won
             }
         }

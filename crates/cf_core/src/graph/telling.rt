@@ -1,10 +1,11 @@
 //! What each stage is, and which stages a call changed.
-ghost use Rattle.std.specs.Prelude.{◌≡◌, ◌+◌, ◌<◌, ◌≤◌, IfNone, IfSome, None, length, position, true};
+ghost use Rattle.std.specs.Prelude.{◌≡◌, ◌+◌, ◌<◌, ◌≤◌, IfNone, IfSome, List, None, length, position, true, vec_capacity};
+ghost use Rattle.cf_model.specs.declared.stage.Stage.{Stage};
 ghost use Rattle.cf_model.specs.Events.{answered, firing, next_limits, ticking};
-ghost use Rattle.cf_model.specs.Graphs.{AreChanges, CountsTurns, NoneLeftUpTo, NoneReady, moved_by, rank, stage_in};
+ghost use Rattle.cf_model.specs.Graphs.{CountsTurns, MovesAlone, NoneLeftUpTo, NoneReady, WritesNews, moved_by, rank, stage_in};
 ghost use Rattle.cf_model.specs.States.{claim_at, is_ready};
 ghost use Rattle.cf_model.specs.Ranges.{EventFits};
-ghost use Rattle.cf_core.specs.Keeping.Changes.{TellOfMoved, TellOn};
+ghost use Rattle.cf_core.specs.Keeping.Changes.{Drains, HasPlaces, TellOfMoved, TellOn, WriteOn};
 
 use crate::graph::Graph;
 use cf_bits::BitSet;
@@ -46,32 +47,67 @@ impl Graph {
         self.stages.next_ready(from, count)
     }
 
-    /// Does an event as `answer` does, takes all turns that it makes due, and sets the flags of the stages that differ
-    /// then. Before, no turn is left and no flag is set. There is a flag for each stage that there may ever be.
+    /// A stage's state, where no turn is left.
+    #[inline(always)]
+    pub fn stage_now(&self, i: u16) -> Stage
+        requires stage { i < length self.now.state.plan.stages }
+        requires worked_out { self.now.left ≡ None }
+        ensures { result ≡ stage_in self.now.state.stages i }
+    {
+        // No turn is left, so what is kept is the state.
+        let _known = self.stages();
+        self.stages.stage(i)
+    }
+
+    /// Does an event as `answer` does, takes all turns that it makes due, and writes the stages that differ then behind
+    /// those of a row, rising. Before, no turn is left. The row has a place for each stage that there may ever be.
+    ///
+    /// A tick uses a flag for each stage that there may ever be, of which none is set before and afterwards. Its limits
+    /// may move one stage several times.
     ///
     /// It costs what the event and its turns cost, and some nanoseconds for each stage that differs. Like `answer`, it
     /// is inlined into its callers.
     #[inline(always)]
-    pub fn answer_telling(&mut self, e: &Event, changed: &mut BitSet) -> Reply
+    pub fn answer_telling(&mut self, e: &Event, flags: &mut BitSet, news: &mut Vec<u16>) -> Reply
         requires fits { EventFits (length self.old.state.plan.stages) e.now }
         requires worked_out { self.old.left ≡ None }
-        requires unset { position (λ b. b) changed.old ≡ None }
-        requires flags { length changed.old ≡ length self.old.state.plan.stages + self.old.state.plan.room }
+        requires unset { position (λ b. b) flags.old ≡ None }
+        requires flags { length flags.old ≡ length self.old.state.plan.stages + self.old.state.plan.room }
+        requires places { length news.old.items + length flags.old ≤ vec_capacity news.old }
         ensures told { (result, self.new.state) ≡ answered self.old.state e.now }
-        ensures changed { AreChanges self.old.state.stages self.new.state.stages changed.new }
+        ensures news { WritesNews self.old.state.stages self.new.state.stages news.old.items news.new.items }
+        ensures few { length news.new.items ≤ length news.old.items + length flags.old }
+        ensures places { vec_capacity news.new ≡ vec_capacity news.old }
+        ensures unset { position (λ b. b) flags.new ≡ None }
+        ensures flags { length flags.new ≡ length flags.old }
         ensures worked_out { self.new.left ≡ None }
-        ensures flags { length changed.new ≡ length changed.old }
         ensures counted { CountsTurns self.old self.new }
     {
         // No turn is left, so what is kept is the state.
         let _known = self.stages();
         match *e {
-            Event::Tick { moment, .. } => Reply::Tick(self.tick_telling(moment, changed)),
+            Event::Claim { who, stage } => {
+                let told = self.claim_telling(who, stage, news);
+                let _known_after = self.stages();
+                Reply::Claim(told)
+            }
+            Event::Finish { who, stage, answer } => {
+                let told = self.finish_telling(who, stage, answer, news);
+                let _known_after = self.stages();
+                Reply::Finish(told)
+            }
+            Event::Tick { moment, .. } => {
+                let told = self.tick_telling(moment, flags);
+                drain(flags, news);
+                let _known_after = self.stages();
+                Reply::Tick(told)
+            }
             _ => {
                 let d = self.moved_by(e);
                 let before = self.rank(d);
                 let reply = self.answer(e);
-                self.note_moved(d, before, changed);
+                self.write_moved(d, before, news);
+                let _known_after = self.stages();
                 reply
             }
         }
@@ -140,6 +176,43 @@ impl Graph {
         let _known = self.stages();
     }
 
+    /// Writes a stage behind those of a row, if it has moved on by itself, takes all turns that are left, and writes the
+    /// stages that these move. They are above it.
+    #[inline(always)]
+    fn write_moved(&mut self, d: u16, before: u8, news: &mut Vec<u16>)
+        requires above { NoneLeftUpTo d self.old.left }
+        requires places { length news.old.items + length self.old.state.plan.stages ≤ vec_capacity news.old }
+        ensures told { (old : List Stage) → MovesAlone d old self.old.kept → before ≡ rank (stage_in old d) →
+            WritesNews old self.new.kept news.old.items news.new.items }
+        ensures places { vec_capacity news.new ≡ vec_capacity news.old }
+        ensures worked_out { self.new.left ≡ None }
+        ensures kept { self.new.kept ≡ self.new.state.stages }
+        ensures unchanged { self.new.state ≡ self.old.state }
+        ensures counted { CountsTurns self.old self.new }
+    {
+        if self.rank(d) > before {
+            news.push_reserved(d);
+        }
+        self.write_rest(news);
+    }
+
+    /// Takes all turns that are left, and writes the stages that they move behind those of a row.
+    #[inline(always)]
+    fn write_rest(&mut self, news: &mut Vec<u16>)
+        requires places { HasPlaces (length self.old.state.plan.stages) self.old.left
+            (length news.old.items) (vec_capacity news.old) }
+        ensures told { WriteOn self.old.kept self.old.left news.old.items self.new.kept self.new.left news.new.items }
+        ensures places { vec_capacity news.new ≡ vec_capacity news.old }
+        ensures worked_out { self.new.left ≡ None }
+        ensures kept { self.new.kept ≡ self.new.state.stages }
+        ensures unchanged { self.new.state ≡ self.old.state }
+        ensures counted { CountsTurns self.old self.new }
+    {
+        self.stages.write_rest(&self.plan, news);
+        // No turn is left, so what is kept is the state.
+        let _known = self.stages();
+    }
+
     /// Lets time pass as `tick` does. After each limit all turns are taken that it makes due.
     fn tick_telling(&mut self, now: u32, changed: &mut BitSet) -> Ticked
         requires worked_out { self.old.left ≡ None }
@@ -186,5 +259,19 @@ impl Graph {
             self.note_moved(limit.stage, before, changed);
         }
         fired
+    }
+}
+
+/// Writes the stages whose flags are set behind those of a row, rising, and takes the flags down.
+fn drain(flags: &mut BitSet, news: &mut Vec<u16>)
+    requires { length news.old.items + length flags.old ≤ vec_capacity news.old }
+    ensures drained { Drains flags.old news.old.items news.new.items }
+    ensures down { position (λ b. b) flags.new ≡ None }
+    ensures flags { length flags.new ≡ length flags.old }
+    ensures places { vec_capacity news.new ≡ vec_capacity news.old }
+{
+    while let Some(i) = flags.lowest() {
+        flags.remove(i);
+        news.push_reserved(i);
     }
 }

@@ -1,23 +1,85 @@
-use Rattle.std.proofs.Common.{◌≡◌, ◌∙◌, List, ℕ, ap, arith, length, length-append, refl, subst, sym}
+use Rattle.std.proofs.Common.{◌≡◌, ◌+◌, ◌≤◌, ◌∙◌, List, ℕ, ap, arith, length, length-append, refl, subst, sym}
 use Rattle.cf_forms.specs.Plans.{PlannedStage}
 use Rattle.cf_model.specs.declared.events.Event.{Event}
 use Rattle.cf_model.specs.declared.events.Event.TheVariants.{Complete as Completes, Fail as Fails, FailAs as FailsAs, Cancel as Cancels, Claim as Claims, Finish as Finishes, Tick as Ticks, Attach as Attaches}
 use Rattle.cf_model.specs.declared.events.Reply.{Reply}
+use Rattle.cf_model.specs.declared.replies.Claimed.{Claimed}
+use Rattle.cf_model.specs.declared.replies.Finished.{Finished}
+use Rattle.cf_model.specs.declared.replies.Ticked.{Ticked}
+use Rattle.cf_model.specs.Events.{answered}
 use Rattle.cf_model.specs.States.{State}
-use Rattle.cf_model.specs.Graphs.{Graph, MovesAlone, MovesOnly, MovesOwn, moved_by}
+use Rattle.cf_model.specs.Graphs.{Graph, MovesAlone, MovesOnly, MovesOwn, NoneLeftUpTo, WritesNews, moved_by, rank, stage_in}
 use Rattle.cf_model.proofs.Shape.{answered-grows}
 use Rattle.cf_core.specs.Keeping.Changes.{HaveMoved}
 use Rattle.cf_core.proofs.Keeping.Changes.{moved_changes, moved_none}
+use Rattle.cf_core.proofs.Keeping.Flags.{drained_news}
+use Rattle.cf_core.proofs.Keeping.Written.{written_few}
 use Rattle.cf_core.proofs.graph.Graph.answer_telling.Goals as goal
+use Rattle.cf_core.proofs.graph.Graph.answer_telling.Goals.{After-answer-reply, After-stages-known_after-in-Tick}
 
-pub returns-in-Tick-clause-changed : goal.returns-in-Tick-clause-changed
-returns-in-Tick-clause-changed c =
+-- an event makes no more stages than there may ever be
+all_after : (e : Event) (s t : State) → t ≡ (answered s e).1 → length t.plan.stages + t.plan.room ≡ length s.plan.stages + s.plan.room
+all_after e s t next =
+    let grows = answered-grows s e in
+    let stages = ap (λ (x : State). length x.plan.stages) next ∙ ap (λ (l : List PlannedStage). length l) grows.stages ∙ length-append s.plan.stages grows.more in
+    let room = ap (λ (x : State). x.plan.room) next in
+    let more = grows.room in
+    omega (arith, stages, room, more)
+
+-- ---- a claim
+
+pub returns-in-Claim-clause-few : goal.returns-in-Claim-clause-few
+returns-in-Claim-clause-few c =
+    let s = c.args.self.now.state in
+    let t = c.claim_telling-told in
+    let next = ap (λ (p : Claimed × State). p.1) t.ensures.told ∙ ap (λ e. (answered s e).1) (sym c.in-Claim.is) in
+    let all = all_after c.args.e.now s t.new.self.state next in
+    written_few s.stages t.new.self.state.stages c.args.news.now.items t.new.news.items (length c.args.flags.now)
+    (omega (arith, c.requires.flags, c.stages-known.ensures.all_stages)) (omega (arith, c.requires.flags, all, c.stages-known_after.ensures.all_stages)) t.ensures.news
+
+-- ---- a finish
+
+pub returns-in-Finish-clause-few : goal.returns-in-Finish-clause-few
+returns-in-Finish-clause-few c =
+    let s = c.args.self.now.state in
+    let t = c.finish_telling-told in
+    let next = ap (λ (p : Finished × State). p.1) t.ensures.told ∙ ap (λ e. (answered s e).1) (sym c.in-Finish.is) in
+    let all = all_after c.args.e.now s t.new.self.state next in
+    written_few s.stages t.new.self.state.stages c.args.news.now.items t.new.news.items (length c.args.flags.now)
+    (omega (arith, c.requires.flags, c.stages-known.ensures.all_stages)) (omega (arith, c.requires.flags, all, c.stages-known_after-in-Finish.ensures.all_stages)) t.ensures.news
+
+-- ---- a tick
+
+all_after_tick : (c : After-stages-known_after-in-Tick) → length c.tick_telling-told.new.self.state.plan.stages + c.tick_telling-told.new.self.state.plan.room ≡ length c.args.flags.now
+all_after_tick c =
+    let s = c.args.self.now.state in
+    let next = ap (λ (p : Ticked × State). p.1) c.tick_telling-told.ensures.told ∙ ap (λ e. (answered s e).1) (sym c.in-Tick.is) in
+    all_after c.args.e.now s c.tick_telling-told.new.self.state next ∙ sym c.requires.flags
+
+pub returns-in-Tick-clause-news : goal.returns-in-Tick-clause-news
+returns-in-Tick-clause-news c =
+    let at = (goal.at.returns-in-Tick-clause-news c).After-stages-known_after-in-Tick in
     let old = c.args.self.now in
-    let none = moved_none old.state.stages c.args.changed.now c.requires.unset in
-    let t = c.tick_telling.ensures in
-    let start = subst (λ stages. HaveMoved old.state.stages stages c.args.changed.now) (sym (c.stages-known.ensures.worked_out c.requires.worked_out)) none in
-    moved_changes old.state.stages c.tick_telling.new.self.state.stages c.tick_telling.new.changed
-    (subst (λ stages. HaveMoved old.state.stages stages c.tick_telling.new.changed) t.kept (t.moved old.state.stages start))
+    let new = c.tick_telling-told.new.self in
+    let set = c.tick_telling-told.new.changed in
+    let t = c.tick_telling-told.ensures in
+    let none = moved_none old.state.stages c.args.flags.now c.requires.unset in
+    let start = subst (λ stages. HaveMoved old.state.stages stages c.args.flags.now) (sym (c.stages-known.ensures.worked_out c.requires.worked_out)) none in
+    let changes = moved_changes old.state.stages new.state.stages set (subst (λ stages. HaveMoved old.state.stages stages set) t.kept (t.moved old.state.stages start)) in
+    let few_old : length old.state.stages ≤ length set = omega (arith, t.flags, c.requires.flags, c.stages-known.ensures.all_stages) in
+    let few_new : length new.state.stages ≤ length set = (let all = all_after_tick at in omega (arith, t.flags, all, c.stages-known_after-in-Tick.ensures.all_stages)) in
+    drained_news old.state.stages new.state.stages set c.args.news.now.items c.drain.new.news.items few_old few_new changes c.drain.ensures.drained
+
+pub returns-in-Tick-clause-few : goal.returns-in-Tick-clause-few
+returns-in-Tick-clause-few c =
+    let at = (goal.at.returns-in-Tick-clause-few c).After-stages-known_after-in-Tick in
+    let old = c.args.self.now.state.stages in
+    let new = c.tick_telling-told.new.self.state.stages in
+    let few_old : length old ≤ length c.args.flags.now = omega (arith, c.requires.flags, c.stages-known.ensures.all_stages) in
+    let few_new : length new ≤ length c.args.flags.now = (let all = all_after_tick at in omega (arith, all, c.stages-known_after-in-Tick.ensures.all_stages)) in
+    written_few old new c.args.news.now.items c.drain.new.news.items (length c.args.flags.now) few_old few_new (returns-in-Tick-clause-news c)
+
+-- ---- any other event
 
 -- an event that is no tick moves its own stage
 own : (e : Event) (old new : Graph) → ((now who : ℕ) → e ≡ Ticks who now → ⊥) → MovesOwn e old new → MovesOnly (moved_by (length old.state.plan.stages) e) old new
@@ -30,37 +92,51 @@ own (Finishes who i answer) old new other h = h
 own (Ticks who now) old new other h = absurd (other now who refl)
 own (Attaches who form of function) old new other h = h
 
--- there are no more stages then than there may ever be
-pub note_moved-requires : goal.note_moved-requires
-note_moved-requires c =
+all_after_event : (c : After-answer-reply) → length c.answer-reply.new.self.state.plan.stages + c.answer-reply.new.self.state.plan.room ≡ length c.args.flags.now
+all_after_event c =
     let s = c.args.self.now.state in
-    let r = c.answer-reply.new.self.state in
-    let told = ap (λ (p : Reply × State). p.1) c.answer-reply.ensures.told in
-    let grows = answered-grows s c.args.e.now in
-    let stages = ap (λ (x : State). length x.plan.stages) told ∙ ap (λ (l : List PlannedStage). length l) grows.stages ∙ length-append s.plan.stages grows.more in
-    let room = grows.room in
-    let all = c.requires.flags in
-    omega (arith, stages, room, all)
+    all_after c.args.e.now s c.answer-reply.new.self.state (ap (λ (p : Reply × State). p.1) c.answer-reply.ensures.told) ∙ sym c.requires.flags
+
+alone : (c : After-answer-reply) → MovesAlone c.moved_by-d.result c.args.self.now.kept c.answer-reply.new.self.kept × NoneLeftUpTo c.moved_by-d.result c.answer-reply.new.self.left
+alone c =
+    let old = c.args.self.now in
+    let new = c.answer-reply.new.self in
+    subst (λ m. MovesAlone m old.kept new.kept × NoneLeftUpTo m new.left) (sym c.moved_by-d.ensures)
+    (own c.args.e.now old new (λ now who e. c.in_default.not-Tick who now e) c.answer-reply.ensures.alone c.requires.worked_out)
+
+pub write_moved-requires : goal.write_moved-requires
+write_moved-requires c =
+    let at = (goal.at.write_moved-requires c).After-answer-reply in
+    let all = all_after_event at in
+    record {
+      above = (alone at).1;
+      places = (let room = c.requires.places in omega (arith, room, all));
+    }
 
 pub returns-in_default : goal.returns-in_default
 returns-in_default c =
+    let at = (goal.at.returns-in_default c).After-answer-reply in
     let old = c.args.self.now in
-    let none = moved_none old.state.stages c.args.changed.now c.requires.unset in
-    let n = c.note_moved.ensures in
+    let new = c.write_moved.new.self in
+    let w = c.write_moved.ensures in
     let kept = c.stages-known.ensures.worked_out c.requires.worked_out in
-    let start = subst (λ stages. HaveMoved old.state.stages stages c.args.changed.now) (sym kept) none in
-    let d = c.moved_by-d.result in
-    let alone : MovesAlone d old.kept c.answer-reply.new.self.kept =
-    subst (λ m. MovesAlone m old.kept c.answer-reply.new.self.kept) (sym c.moved_by-d.ensures)
-    (own c.args.e.now old c.answer-reply.new.self (λ now who e. c.in_default.not-Tick who now e) c.answer-reply.ensures.alone c.requires.worked_out) in
+    let all = all_after_event at in
+    let news : WritesNews old.state.stages new.state.stages c.args.news.now.items c.write_moved.new.news.items =
+    subst (λ stages. WritesNews old.state.stages stages c.args.news.now.items c.write_moved.new.news.items) w.kept
+    (w.told old.state.stages (subst (λ stages. MovesAlone c.moved_by-d.result stages c.answer-reply.new.self.kept) kept (alone at).0)
+    (c.rank-before.ensures.rank ∙ ap (λ stages. rank (stage_in stages c.moved_by-d.result)) kept)) in
+    let count = ap (λ (x : State). length x.plan.stages) w.unchanged in
     record {
-      told = ap (λ (x : State). (c.answer-reply.result, x)) n.unchanged ∙ c.answer-reply.ensures.told;
-      changed = moved_changes old.state.stages c.note_moved.new.self.state.stages c.note_moved.new.changed
-          (subst (λ stages. HaveMoved old.state.stages stages c.note_moved.new.changed) n.kept (n.told old.state.stages old.kept start alone c.rank-before.ensures.rank));
-      worked_out = n.worked_out;
-      flags = n.flags;
+      told = ap (λ (x : State). (c.answer-reply.result, x)) w.unchanged ∙ c.answer-reply.ensures.told;
+      news = news;
+      few = written_few old.state.stages new.state.stages c.args.news.now.items c.write_moved.new.news.items (length c.args.flags.now)
+          (omega (arith, c.requires.flags, c.stages-known.ensures.all_stages)) (omega (arith, all, count, c.stages-known_after-in_default.ensures.all_stages)) news;
+      places = w.places;
+      unset = c.requires.unset;
+      flags = refl;
+      worked_out = w.worked_out;
       counted = record {
-        counted = (let a = c.answer-reply.ensures.counted.counted in let b = n.counted.counted in omega (arith, a, b));
-        few = n.counted.few;
+        counted = (let a = c.answer-reply.ensures.counted.counted in let b = w.counted.counted in omega (arith, a, b));
+        few = w.counted.few;
       };
     }

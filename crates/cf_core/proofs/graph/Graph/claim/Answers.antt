@@ -7,6 +7,7 @@ use Rattle.cf_core.specs.Keeping.Sound.{kept_at}
 use Rattle.cf_core.specs.Keeping.SoundStages.{settled_view_of}
 use Rattle.cf_core.proofs.Keeping.GraphLemmas.{AreClaimed-set, AreClaimed-stay, claims_not, claims_now, room_stays, told_stage}
 use Rattle.cf_core.proofs.Keeping.Settled.{some_there, told_settled_stage}
+use Rattle.cf_core.proofs.Keeping.Changes.{rests_alone}
 use Rattle.cf_core.proofs.graph.Graph.claim.Goals as goal
 
 pub invariant_of-self : goal.invariant_of-self
@@ -45,3 +46,6 @@ returns-in_default-clause-told c =
     let t = c.treat_up_to.new.self in
     let told = told_stage plan t c.args.i c.treat_up_to.ensures.sound (rw (← c.self.view_is) at c.requires) c.treat_up_to.ensures.treated ∙ ap (λ x. Some x) (sym c.stage.ensures) in
     rw (← c.self.view_is) (claims_not _ c.args.who c.args.i c.stage.result c.refusal.result (settled_view_of plan t) c.treat_up_to.ensures.same told (c.refusal.ensures _ c.args.who c.args.i))
+
+pub returns-in_default-clause-alone : goal.returns-in_default-clause-alone
+returns-in_default-clause-alone c = rw (← c.self.view_is) (rests_alone c.args.i c.self.inside.stages c.treat_up_to.new.self c.treat_up_to.ensures.still)

@@ -7,6 +7,7 @@ use Rattle.cf_core.proofs.Keeping.GraphLemmas.{AreClaimed-closed, AreClaimed-sta
 use Rattle.cf_model.proofs.Stable.{landing-lower}
 use Rattle.cf_core.proofs.Keeping.Offering.{landing-composes}
 use Rattle.cf_core.proofs.Keeping.Sweeping.{treated_swept}
+use Rattle.cf_core.proofs.Keeping.Changes.{rests_alone}
 use Rattle.cf_core.proofs.graph.Graph.finish.Goals as goal
 use Rattle.cf_core.proofs.graph.Graph.finish.Goals.{After-outcome}
 
@@ -77,3 +78,9 @@ returns-in-None-clause-told c =
     let plan = c.self.inside.plan.stages in
     rw (← c.self.view_is) (finishes_now _ c.args.who c.args.i c.args.answer _ c.landing_of-at.result (settled_view_of plan c.treat_up_to.new.self) (settled_view_of plan c.land.new.self)
     c.treat_up_to.ensures.same (has at) (told at ∙ c.in-None.is) refl c.landing_of-at.ensures c.land.ensures.landed)
+
+pub returns-then-not-has_claim-clause-alone : goal.returns-then-not-has_claim-clause-alone
+returns-then-not-has_claim-clause-alone c = rw (← c.self.view_is) (rests_alone c.args.i c.self.inside.stages c.treat_up_to.new.self c.treat_up_to.ensures.still)
+
+pub returns-in-Some-clause-alone : goal.returns-in-Some-clause-alone
+returns-in-Some-clause-alone c = rw (← c.self.view_is) (rests_alone c.args.i c.self.inside.stages c.treat_up_to.new.self c.treat_up_to.ensures.still)

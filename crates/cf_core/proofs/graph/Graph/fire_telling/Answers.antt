@@ -29,7 +29,7 @@ loop-k-preserved c =
       counted = (let before = h.counted in let more = c.fire.ensures.counted in let rest = c.note_moved.ensures.counted.counted in omega (arith, before, more, rest));
       worked_out = c.note_moved.ensures.worked_out;
       kept = c.note_moved.ensures.kept;
-      moved = λ old moved. c.note_moved.ensures.told old c.loop-k.self.kept (h.moved old moved) (c.fire.ensures.alone h.worked_out) c.rank-before.ensures.rank;
+      moved = λ old moved. c.note_moved.ensures.told old c.loop-k.self.kept (h.moved old moved) (c.fire.ensures.alone h.worked_out).0 c.rank-before.ensures.rank;
       flags = c.note_moved.ensures.flags ∙ h.flags;
       few = elim c.if-fire.branch [
         | then-fire w ↦ (let few = h.few in let is = w.fired-is in omega arith)

@@ -14,6 +14,8 @@ use Rattle.cf_core.proofs.Keeping.Takes.{budget}
 use Rattle.cf_model.specs.Graphs.{MovesAlone}
 use Rattle.cf_core.specs.Keeping.Treatment.{stages_of}
 use Rattle.cf_core.proofs.Keeping.Changes.{alone_pushed}
+use Rattle.std.specs.Prelude.{position}
+use Rattle.cf_core.proofs.Keeping.Above.{leaves_none, none_more, none_treated}
 use Rattle.cf_core.proofs.stages.Stages.attach.Goals as goal
 
 pub returns-clause-attached : goal.returns-clause-attached
@@ -54,6 +56,9 @@ pub returns-clause-alone : goal.returns-clause-alone
 returns-clause-alone c =
     let s = c.args.self.now in
     let new = c.newcomer_of-new.result in
-    let items = c.push.ensures.kept ∙ ap (λ (n : Stages). n.kept.items ++ new ∷ []) c.newcomer_of-new.ensures.counted in
-    subst (λ n. MovesAlone n (stages_of s.kept.items) (stages_of c.push.new.self.kept.items)) c.requires.sound.all_kept
-    (subst (λ kept. MovesAlone (length s.kept.items) (stages_of s.kept.items) (stages_of kept)) (sym items) (alone_pushed s.kept.items new))
+    let items = c.push.ensures.kept ∙ ap (λ (n : Stages). n.kept.items ++ new ∷ []) c.newcomer_of-new.ensures.counted in (
+      subst (λ n. MovesAlone n (stages_of s.kept.items) (stages_of c.push.new.self.kept.items)) c.requires.sound.all_kept
+          (subst (λ kept. MovesAlone (length s.kept.items) (stages_of s.kept.items) (stages_of kept)) (sym items) (alone_pushed s.kept.items new)),
+      leaves_none (length c.args.plan.now.stages) (position (λ b. b) c.push.new.self.marks)
+          (ap (position (λ b. b)) (c.push.ensures.marks ∙ ap (λ (n : Stages). n.marks ++ false ∷ []) c.newcomer_of-new.ensures.counted) ∙ none_more s.marks (none_treated s.marks (length c.args.plan.now.stages) c.requires.sound.all_marks c.requires.treated)),
+    )

@@ -1,7 +1,7 @@
 use Rattle.std.proofs.Common.{◌<◌, ◌+◌, ◌≤◌, ◌∙◌, ap, arith, length, refl, subst, sym}
 use Rattle.cf_model.specs.declared.stage.Stage.TheVariants.{Claimed}
 use Rattle.cf_core.specs.declared.kept.KeptStage.{KeptStage}
-use Rattle.cf_core.specs.Keeping.Sound.{StayTaken, is_taken, kept_at, settled_view}
+use Rattle.cf_core.specs.Keeping.Sound.{AreTreated, StayTaken, is_taken, kept_at, settled_view}
 use Rattle.cf_core.proofs.Keeping.Marking.{get-set_same}
 use Rattle.cf_core.proofs.Keeping.Sums.{StepsUpTo-at, kept_is, kept_there}
 use Rattle.cf_core.proofs.Keeping.Moves.{links_within, claim_same, claim_sound, is_steady}
@@ -9,6 +9,7 @@ use Rattle.cf_core.proofs.Keeping.Places.{IsSound-same, StayTaken-set, ready_arg
 use Rattle.cf_model.specs.Graphs.{MovesAlone}
 use Rattle.cf_core.specs.Keeping.Treatment.{stages_of}
 use Rattle.cf_core.proofs.Keeping.Changes.{alone_put, ready_rank}
+use Rattle.cf_core.proofs.Keeping.Above.{leaves_above}
 use Rattle.cf_core.proofs.stages.Stages.claim.Goals as goal
 
 pub put-requires-clause-linked : goal.put-requires-clause-linked
@@ -56,6 +57,8 @@ pub returns-clause-alone : goal.returns-clause-alone
 returns-clause-alone c =
     let s = c.args.self.now in
     let new : KeptStage = record { stage = Claimed; step = c.step-step.result } in
-    let was = ready_rank ((kept_at s.kept.items c.args.d).stage) c.requires.ready in
-    subst (λ kept. MovesAlone c.args.d (stages_of s.kept.items) (stages_of kept)) (sym c.put.ensures.kept)
-    (alone_put s.kept.items c.args.d new (omega (arith, c.requires.stage, c.requires.sound.all_kept)) (omega (arith, was)))
+    let was = ready_rank ((kept_at s.kept.items c.args.d).stage) c.requires.ready in (
+      subst (λ kept. MovesAlone c.args.d (stages_of s.kept.items) (stages_of kept)) (sym c.put.ensures.kept)
+          (alone_put s.kept.items c.args.d new (omega (arith, c.requires.stage, c.requires.sound.all_kept)) (omega (arith, was))),
+      leaves_above c.put.new.self.marks c.args.d (subst (AreTreated (c.args.d + 1)) (sym c.put.ensures.marks) c.requires.treated),
+    )

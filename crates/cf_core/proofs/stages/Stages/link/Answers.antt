@@ -1,15 +1,16 @@
-use Rattle.std.proofs.Common.{◌≡◌, ◌∷◌, length, ◌+◌, ◌∙◌, None, ap, arith, subst, sym}
+use Rattle.std.proofs.Common.{◌≡◌, ◌<◌, ◌∷◌, length, ◌+◌, ◌∙◌, None, ap, arith, subst, sym}
 use Rattle.cf_model.specs.declared.stage.Stage.TheVariants.{Linked}
 use Rattle.cf_core.specs.declared.kept.KeptStage.{KeptStage}
 use Rattle.cf_core.specs.Keeping.Treatment.{dated_in}
 use Rattle.cf_core.specs.Keeping.Links.{list_at}
-use Rattle.cf_core.specs.Keeping.Sound.{StayTakenBut, settled_view}
+use Rattle.cf_core.specs.Keeping.Sound.{AreTreated, StayTakenBut, settled_view}
 use Rattle.cf_core.proofs.Keeping.Moves.{is_steady, links_within, link_free, link_room, link_same, link_sound}
 use Rattle.cf_core.proofs.Keeping.MarkLemmas.{other_within}
 use Rattle.cf_core.proofs.Keeping.Places.{IsSound-same, StayTakenBut-set, undated}
-use Rattle.cf_model.specs.Graphs.{MovesAlone, rank}
+use Rattle.cf_model.specs.Graphs.{MovesAlone, rank, stage_in}
 use Rattle.cf_core.specs.Keeping.Treatment.{stages_of}
-use Rattle.cf_core.proofs.Keeping.Changes.{alone_put}
+use Rattle.cf_core.proofs.Keeping.Changes.{alone_put, further_put}
+use Rattle.cf_core.proofs.Keeping.Above.{leaves_above}
 use Rattle.cf_core.proofs.stages.Stages.link.Goals as goal
 
 pub put-requires-clause-linked : goal.put-requires-clause-linked
@@ -57,6 +58,16 @@ pub returns-clause-alone : goal.returns-clause-alone
 returns-clause-alone c =
     let s = c.args.self.now in
     let new : KeptStage = record { stage = Linked c.args.j; step = s.steps + 1 } in
+    let was = ap rank c.requires.claimed in (
+      subst (λ kept. MovesAlone c.args.d (stages_of s.kept.items) (stages_of kept)) (sym c.put.ensures.kept)
+          (alone_put s.kept.items c.args.d new (omega (arith, c.requires.stage, c.requires.sound.all_kept)) (omega (arith, was))),
+      leaves_above c.put.new.self.marks c.args.d (subst (AreTreated (c.args.d + 1)) (sym c.put.ensures.marks) c.requires.treated),
+    )
+
+pub returns-clause-further : goal.returns-clause-further
+returns-clause-further c =
+    let s = c.args.self.now in
+    let new : KeptStage = record { stage = Linked c.args.j; step = s.steps + 1 } in
     let was = ap rank c.requires.claimed in
-    subst (λ kept. MovesAlone c.args.d (stages_of s.kept.items) (stages_of kept)) (sym c.put.ensures.kept)
-    (alone_put s.kept.items c.args.d new (omega (arith, c.requires.stage, c.requires.sound.all_kept)) (omega (arith, was)))
+    subst (λ kept. rank (stage_in (stages_of s.kept.items) c.args.d) < rank (stage_in (stages_of kept) c.args.d)) (sym c.put.ensures.kept)
+    (further_put s.kept.items c.args.d new (omega (arith, c.requires.stage, c.requires.sound.all_kept)) (omega (arith, was)))

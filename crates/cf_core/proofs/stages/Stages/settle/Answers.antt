@@ -3,12 +3,13 @@ use Rattle.cf_model.specs.declared.stage.Stage.TheVariants.{Settled}
 use Rattle.cf_core.specs.declared.kept.KeptStage.{KeptStage}
 use Rattle.cf_core.specs.Keeping.Cells.{KeptStages}
 use Rattle.cf_core.specs.Keeping.Links.{list_at}
-use Rattle.cf_core.specs.Keeping.Sound.{StayTaken, kept_at, settled_view}
+use Rattle.cf_core.specs.Keeping.Sound.{AreTreated, StayTaken, kept_at, marks_settled, settled_view}
 use Rattle.cf_core.proofs.Keeping.Moves.{is_steady, links_within, settle_same, settle_sound}
 use Rattle.cf_core.proofs.Keeping.Places.{IsSound-same, StayTaken-set}
-use Rattle.cf_model.specs.Graphs.{MovesAlone}
+use Rattle.cf_model.specs.Graphs.{MovesAlone, rank, stage_in}
 use Rattle.cf_core.specs.Keeping.Treatment.{stages_of}
-use Rattle.cf_core.proofs.Keeping.Changes.{alone_put, open_rank}
+use Rattle.cf_core.proofs.Keeping.Changes.{alone_put, further_put, open_rank}
+use Rattle.cf_core.proofs.Keeping.Above.{leaves_above, settled_above}
 use Rattle.cf_core.proofs.stages.Stages.settle.Goals as goal
 use Rattle.cf_core.proofs.stages.Stages.settle.Goals.{After-mark_after}
 
@@ -64,5 +65,18 @@ pub returns-clause-alone : goal.returns-clause-alone
 returns-clause-alone c =
     let at = (goal.at.returns-clause-alone c).After-mark_after in
     let s = c.args.self.now in
-    subst (λ kept. MovesAlone c.args.d (stages_of s.kept.items) (stages_of kept)) (sym (items at))
-    (alone_put s.kept.items c.args.d (new at) (omega (arith, c.requires.stage, c.requires.sound.all_kept)) (open_rank ((kept_at s.kept.items c.args.d).stage) c.requires.unsettled))
+    let u = c.unready.ensures in
+    let t = c.settle.new.self.items in
+    let marks = c.mark_after.ensures.marks ∙ ap (λ links. marks_settled c.args.plan.now.stages t links c.unready.new.self.marks c.args.d) u.links ∙ ap (λ marks. marks_settled c.args.plan.now.stages t s.links marks c.args.d) u.marks in (
+      subst (λ kept. MovesAlone c.args.d (stages_of s.kept.items) (stages_of kept)) (sym (items at))
+          (alone_put s.kept.items c.args.d (new at) (omega (arith, c.requires.stage, c.requires.sound.all_kept)) (open_rank ((kept_at s.kept.items c.args.d).stage) c.requires.unsettled)),
+      leaves_above c.mark_after.new.self.marks c.args.d (subst (AreTreated (c.args.d + 1)) (sym marks)
+          (settled_above c.args.plan.now.stages t s.links s.marks c.args.d c.requires.sound.sources_lower c.requires.sound.above c.requires.treated)),
+    )
+
+pub returns-clause-further : goal.returns-clause-further
+returns-clause-further c =
+    let at = (goal.at.returns-clause-further c).After-mark_after in
+    let s = c.args.self.now in
+    subst (λ kept. rank (stage_in (stages_of s.kept.items) c.args.d) < rank (stage_in (stages_of kept) c.args.d)) (sym (items at))
+    (further_put s.kept.items c.args.d (new at) (omega (arith, c.requires.stage, c.requires.sound.all_kept)) (open_rank ((kept_at s.kept.items c.args.d).stage) c.requires.unsettled))

@@ -1,4 +1,4 @@
-use Rattle.std.proofs.Common.{◌<◌, ◌≡◌, ◌∙◌, ap, arith, false, length, length-set, refl, set, subst, sym, true}
+use Rattle.std.proofs.Common.{◌+◌, ◌<◌, ◌≡◌, ◌∙◌, ap, arith, false, length, length-set, refl, set, subst, sym, true}
 use Rattle.cf_forms.specs.Plans.{function_at}
 use Rattle.cf_core.specs.declared.kept.KeptStage.{KeptStage}
 use Rattle.cf_model.specs.States.{is_ready}
@@ -8,6 +8,8 @@ use Rattle.cf_core.specs.Keeping.Turns.{planned_at}
 use Rattle.cf_core.specs.Keeping.Sound.{StayTaken, is_waiting, kept_at, links_after, settled_view}
 use Rattle.cf_core.proofs.Keeping.Moves.{links_within}
 use Rattle.cf_core.proofs.Keeping.Places.{IsSound-same, kept_put, lowest_within, ready_marks, turn_idle, turn_idly, turn_kept, turn_settled_view, turn_taken}
+use Rattle.cf_core.specs.Keeping.Sound.{AreTreated}
+use Rattle.cf_core.proofs.Keeping.Above.{leaves_above, lowest_out, written_above}
 use Rattle.cf_core.proofs.stages.Stages.turn.Goals as goal
 
 pub note-requires-clause-all_kept : goal.note-requires-clause-all_kept
@@ -97,3 +99,17 @@ returns-else-is_waiting-clause-turned c =
     let plan = c.args.plan.now.stages in
     let idle : is_waiting ((kept_at s.kept.items c.args.m).stage) ≡ false = sym c.is_waiting.ensures ∙ c.if-is_waiting.false in
     turn_idly plan s.kept.items s.marks s.ready s.links s.steps s.turns c.requires.sound c.args.m c.requires.lowest idle
+
+pub returns-then-is_waiting-clause-above : goal.returns-then-is_waiting-clause-above
+returns-then-is_waiting-clause-above c =
+    let s = c.args.self.now in
+    let kept = c.treat.new.kept.items in
+    let out = subst (AreTreated (c.args.m + 1)) (sym c.remove.ensures) (lowest_out s.marks c.args.m c.requires.lowest) in
+    leaves_above c.note.new.self.marks c.args.m
+    (subst (AreTreated (c.args.m + 1)) (sym c.note.ensures.marks)
+    (written_above c.args.plan.now.stages kept s.links c.remove.new.self c.args.m ((kept_at kept c.args.m).stage) c.requires.sound.sources_lower c.requires.sound.above out))
+
+pub returns-else-is_waiting-clause-above : goal.returns-else-is_waiting-clause-above
+returns-else-is_waiting-clause-above c =
+    let s = c.args.self.now in
+    leaves_above c.remove.new.self c.args.m (subst (AreTreated (c.args.m + 1)) (sym c.remove.ensures) (lowest_out s.marks c.args.m c.requires.lowest))

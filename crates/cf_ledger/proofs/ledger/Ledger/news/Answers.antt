@@ -3,7 +3,7 @@ use Rattle.cf_model.specs.States.{start}
 use Rattle.cf_event.specs.Decoding.{decoded}
 use Rattle.cf_forms.specs.Plans.{with_room}
 use Rattle.cf_ledger.specs.Ledgers.{Ledger, state_at}
-use Rattle.cf_ledger.specs.News.{AreNews}
+use Rattle.cf_model.specs.Graphs.{AreNews}
 use Rattle.cf_ledger.proofs.Words.{noted_at, noted_count}
 use Rattle.cf_ledger.proofs.ledger.Ledger.news.Goals as goal
 

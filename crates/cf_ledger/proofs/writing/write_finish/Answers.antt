@@ -1,0 +1,37 @@
+use Rattle.std.proofs.Common.{◌≡◌, ap, refl, subst, sym}
+use Rattle.cf_forms.specs.Plans.{with_room}
+use Rattle.cf_model.specs.declared.events.Event.TheVariants.{Finish as FinishesAs}
+use Rattle.cf_model.specs.declared.events.Reply.TheVariants.{Finish as ToldFinish}
+use Rattle.cf_model.specs.declared.replies.Finished.{Finished}
+use Rattle.cf_model.specs.Events.{answered}
+use Rattle.cf_model.specs.States.{State}
+use Rattle.cf_ledger.specs.Ledgers.{Does, IsKept, IsTaken, ledger_of}
+use Rattle.cf_ledger.proofs.Words.{does_push, kept_push}
+use Rattle.cf_ledger.proofs.writing.write_finish.Goals.{After-note_finish-told}
+use Rattle.cf_ledger.proofs.writing.write_finish.Goals as goal
+
+answers : (c : After-note_finish-told) → (ToldFinish c.note_finish-told.result, c.note_finish-told.new.graph.state) ≡ answered c.args.graph.now.state (FinishesAs c.args.who c.args.stage c.args.answer)
+answers c = ap (λ (p : Finished × State). (ToldFinish p.0, p.1)) c.note_finish-told.ensures.told
+
+taken : (c : After-note_finish-told) → IsTaken c.args.graph.now.state (FinishesAs c.args.who c.args.stage c.args.answer)
+taken c = record { fits = c.requires.there; room = tt }
+
+pub returns-clause-kept : goal.returns-clause-kept
+returns-clause-kept c =
+    let at = (goal.at.returns-clause-kept c).After-note_finish-told in
+    let plan = with_room c.args.plan.now c.args.room in
+    let t = c.note_finish-told.ensures in
+    let g = c.note_finish-told.new in
+    let flags = c.args.changed.now in
+    subst (λ words. IsKept plan words g.graph flags g.self.lists) (sym c.push_reserved.ensures.items)
+    (kept_push plan c.args.words.now.items c.args.graph.now g.graph c.args.word (FinishesAs c.args.who c.args.stage c.args.answer) (ToldFinish c.note_finish-told.result) flags flags c.args.news.now.lists g.self.lists
+    c.requires.kept c.requires.read c.requires.named (taken at) (answers at) t.worked_out c.requires.kept.unset refl t.lists)
+
+pub returns-clause-does : goal.returns-clause-does
+returns-clause-does c =
+    let at = (goal.at.returns-clause-does c).After-note_finish-told in
+    let plan = with_room c.args.plan.now c.args.room in
+    let k = c.requires.kept in
+    subst (λ words. Does c.args.word (ledger_of plan c.args.words.now.items) (ToldFinish c.note_finish-told.result) (ledger_of plan words)) (sym c.push_reserved.ensures.items)
+    (does_push plan c.args.words.now.items c.args.graph.now.state c.note_finish-told.new.graph.state c.args.word (FinishesAs c.args.who c.args.stage c.args.answer) (ToldFinish c.note_finish-told.result) k.written k.left
+    c.requires.read c.requires.named (taken at) (answers at))
