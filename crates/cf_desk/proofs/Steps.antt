@@ -1,5 +1,6 @@
 -- What a step on the row needs of a pass and its desk, and what it does to a pass where it meets another caller's event.
-use Rattle.std.proofs.Common.{◌≡◌, ℕ, ◌+◌, ◌<◌, List, length, sym, ap, ◌∙◌, arith}
+use Rattle.std.proofs.Common.{◌≡◌, ℕ, ◌+◌, ◌<◌, List, Option, Some, None, length, refl, sym, ap, ◌∙◌, arith}
+use Rattle.std.specs.Prelude.{IfSome}
 use Rattle.atomic_table.specs.Seated.{TableId}
 use Rattle.atomic_table.specs.declared.shared.Seat.{Seat}
 use Rattle.cf_core.specs.declared.graph.Graph.{Graph}
@@ -56,3 +57,8 @@ added_by_other p seat found table sees = record {
   event = sees.1;
   other = sees.2;
 }
+
+-- what holds of the event that was found, if one was, holds of it
+pub if_some : (x : Option Event) (P : Event → Type 0) → ((e : Event) → x ≡ Some e → P e) → IfSome x P
+if_some None P f = tt
+if_some (Some e) P f = f e refl

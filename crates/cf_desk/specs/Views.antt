@@ -1,6 +1,6 @@
 -- What contracts see of a pass and of a desk.
 use Rattle.cf_forms.specs.Plans.{Planned, plan_of}
-use Rattle.std.specs.Prelude.{◌≡◌, ◌<◌, ◌≤◌, ◌+◌, Option, Some, None, ◌⊎◌, length, map, take, ℕ, List, [], ◌∷◌, ◌++◌}
+use Rattle.std.specs.Prelude.{◌≡◌, ◌<◌, ◌≤◌, ◌+◌, Bool, true, false, Option, Some, None, ◌⊎◌, length, map, take, ℕ, List, [], ◌∷◌, ◌++◌}
 use Rattle.atomic_table.specs.Seated.{TableId}
 use Rattle.cf_outcome.specs.declared.outcome.Outcome.{Outcome}
 use Rattle.cf_model.specs.declared.asks.Ask.{Ask}
@@ -19,7 +19,9 @@ use Rattle.cf_desk.specs.declared.row.CallerView.{CallerView}
 use Rattle.cf_desk.specs.declared.row.DeskConfig.{DeskConfig}
 use Rattle.cf_model.specs.Calls.{event_by}
 use Rattle.cf_desk.specs.Calls.{joined}
+use Rattle.cf_event.specs.Decoding.{event_of}
 use Rattle.cf_event.specs.Events.{own}
+use Rattle.cf_model.specs.Graphs.{Graph}
 use Rattle.cf_desk.specs.Log.{IsDeskEvent, AreLogged, Catches, state_from}
 use Rattle.cf_desk.specs.Records.{Fits}
 use Rattle.cf_desk.specs.Rows.{Begins}
@@ -235,3 +237,14 @@ pub record LooksFor (d : Desk) (stage most : ℕ) (p q : Pass) : Type 0 where
   pub last : IsLook d q look
   pub at_most : length earlier + length look ≤ most
   pub all : outcome_at (state_of q.known) stage ≡ None → (length earlier + length look ≡ most) ⊎ SeesFull d q
+
+-- the event of a word is done to a replica
+pub record HasRedone (word : ℕ) (old new : Graph) : Type 0 where
+  pub event : Event
+  pub read : event_of word ≡ Some event
+  pub done : new.state ≡ (answered old.state event).1
+
+-- or the word is none
+abbrev pub IsRedone : ℕ → Graph → Bool → Graph → Type 0
+IsRedone word old true new = HasRedone word old new
+IsRedone word old false new = (event_of word ≡ None) × (new ≡ old)

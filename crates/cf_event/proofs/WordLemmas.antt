@@ -1,8 +1,8 @@
 -- Words and their fields.
 use Rattle.std.proofs.Common.{◌≡◌, ℕ, zero, suc, List, [], ◌∷◌, ◌++◌, map, replicate, All, ◌/◌, ◌%◌, ◌^◌, ◌<◌, ◌≤◌, false, Option, Some, None, refl, ap, sym, ◌∙◌, arith, rules}
-use Rattle.std.specs.Prelude.{IfSome, nat_lt, ◌==◌, ◌&&◌}
+use Rattle.std.specs.Prelude.{IfSome, nat_lt, option_and_then, ◌==◌, ◌&&◌}
 use Rattle.std.specs.Option.{option_map}
-use Rattle.std.specs.Int.{w32}
+use Rattle.std.specs.Int.{cast_signed, w32}
 use Rattle.std.proofs.lemmas.Int.{to_z-of_z}
 use Rattle.std.proofs.lemmas.Grind.{common_steps}
 use Rattle.std.proofs.lemmas.List.Elements.{All-head, All-tail}
@@ -15,7 +15,7 @@ use Rattle.cf_model.specs.declared.events.Event.{Event}
 use Rattle.cf_model.specs.declared.events.Event.TheVariants.{Complete as Completes, Fail as Fails, FailAs as FailsAs, Cancel as Cancels, Claim as Claims, Finish as Finishes, Tick as Ticks, Attach as Attaches}
 use Rattle.cf_model.specs.declared.events.Failure.TheVariants.{TimedOut, BadAnswer}
 use Rattle.cf_event.specs.Words.{IsAnswer, IsEvent, IsValue, answer_low, answer_tag, attach_low, count_of, first_of, value_low, value_tag, word_of, word_with}
-use Rattle.cf_event.specs.Decoding.{answer_with, attach_with, decoded, decoded_with, event_of, event_with, failure_with, value_with}
+use Rattle.cf_event.specs.Decoding.{answer_with, attach_with, claim_of, decoded, decoded_with, event_of, event_with, failure_with, giving_of, value_with}
 use Rattle.cf_event.proofs.AttachLemmas.{attach_back, attach_small, attach_with_is, chosen, count_small}
 
 -- a word's fields
@@ -137,6 +137,75 @@ found_is w (Some e) h = event_of_is w e h
 
 pub every_is : (w : ℕ) (x : Option Event) → event_of w ≡ x → (e : Event) → IsEvent e → word_of e ≡ w → x ≡ Some e
 every_is w x h e is same = sym h ∙ ap event_of (sym same) ∙ event_of_own_word e is
+
+-- ---- the two kinds that have a comparison of their own
+
+pub claim_there : (w : ℕ) → w / 2 ^ 54 ≡ 16 → w % 2 ^ 36 ≡ 0 → event_of w ≡ Some (Claims (w / 2 ^ 48 % 64) (w / 2 ^ 36 % 4096))
+claim_there w head rest = every_is w (event_of w) refl (Claims (w / 2 ^ 48 % 64) (w / 2 ^ 36 % 4096)) (omega arith, omega arith) (omega (arith, head, rest))
+
+pub claim_named : (w : ℕ) → w / 2 ^ 54 ≡ 16 → w % 2 ^ 36 ≡ 0 → word_of (Claims (w / 2 ^ 48 % 64) (w / 2 ^ 36 % 4096)) ≡ w
+claim_named w head rest = (event_of_is w (Claims (w / 2 ^ 48 % 64) (w / 2 ^ 36 % 4096)) (claim_there w head rest)).1
+
+claim_only : (w who i : ℕ) → event_of w ≡ Some (Claims who i) → (w / 2 ^ 54 ≡ 16) × (w % 2 ^ 36 ≡ 0)
+claim_only w who i e = let is = event_of_is w (Claims who i) e in let small = is.0 in let word = is.1 in (omega (arith, small, word), omega (arith, small, word))
+
+pub no_claim : (w : ℕ) → (w / 2 ^ 54 ≡ 16 → w % 2 ^ 36 ≡ 0 → ⊥) → option_and_then claim_of (event_of w) ≡ None
+no_claim w other = by_event (event_of w) refl
+  where
+    by_event : (x : Option Event) → event_of w ≡ x → option_and_then claim_of x ≡ None
+    by_event None e = refl
+    by_event (Some (Completes who i v)) e = refl
+    by_event (Some (Fails who i code)) e = refl
+    by_event (Some (FailsAs who i failure)) e = refl
+    by_event (Some (Cancels who i)) e = refl
+    by_event (Some (Claims who i)) e = (let is = claim_only w who i e in absurd (other is.0 is.1))
+    by_event (Some (Finishes who i answer)) e = refl
+    by_event (Some (Ticks who now)) e = refl
+    by_event (Some (Attaches who form of function)) e = refl
+
+pub giving_there : (w : ℕ) → w / 2 ^ 54 ≡ 20 → w / 2 ^ 32 % 16 ≡ 1 → event_of w ≡ Some (Finishes (w / 2 ^ 48 % 64) (w / 2 ^ 36 % 4096) (Give (Int (cast_signed w32 (w % 2 ^ 32)))))
+giving_there w head tag =
+    let v = Int (cast_signed w32 (w % 2 ^ 32)) in
+    let is = value_with_is 1 (w % 2 ^ 32) v (omega arith) refl in
+    let low = is.2 in
+    every_is w (event_of w) refl (Finishes (w / 2 ^ 48 % 64) (w / 2 ^ 36 % 4096) (Give v)) (omega arith, omega arith, is.0)
+    (ap (λ low. word_with 5 (w / 2 ^ 48 % 64) (w / 2 ^ 36 % 4096) 1 low) low ∙ whole)
+  where
+    whole : word_with 5 (w / 2 ^ 48 % 64) (w / 2 ^ 36 % 4096) 1 (w % 2 ^ 32) ≡ w
+    whole = omega (arith, head, tag)
+
+pub giving_named : (w : ℕ) → w / 2 ^ 54 ≡ 20 → w / 2 ^ 32 % 16 ≡ 1 → word_of (Finishes (w / 2 ^ 48 % 64) (w / 2 ^ 36 % 4096) (Give (Int (cast_signed w32 (w % 2 ^ 32))))) ≡ w
+giving_named w head tag = (event_of_is w (Finishes (w / 2 ^ 48 % 64) (w / 2 ^ 36 % 4096) (Give (Int (cast_signed w32 (w % 2 ^ 32))))) (giving_there w head tag)).1
+
+pub nil_there : (w : ℕ) → w / 2 ^ 54 ≡ 20 → w % 2 ^ 36 ≡ 0 → event_of w ≡ Some (Finishes (w / 2 ^ 48 % 64) (w / 2 ^ 36 % 4096) (Give Nil))
+nil_there w head rest = every_is w (event_of w) refl (Finishes (w / 2 ^ 48 % 64) (w / 2 ^ 36 % 4096) (Give Nil)) (omega arith, omega arith, tt) (omega (arith, head, rest))
+
+pub nil_named : (w : ℕ) → w / 2 ^ 54 ≡ 20 → w % 2 ^ 36 ≡ 0 → word_of (Finishes (w / 2 ^ 48 % 64) (w / 2 ^ 36 % 4096) (Give Nil)) ≡ w
+nil_named w head rest = (event_of_is w (Finishes (w / 2 ^ 48 % 64) (w / 2 ^ 36 % 4096) (Give Nil)) (nil_there w head rest)).1
+
+int_only : (w who i low : ℕ) → who ≤ 63 → i ≤ 4095 → low < 2 ^ 32 → word_with 5 who i 1 low ≡ w → (w / 2 ^ 54 ≡ 20) × (w / 2 ^ 32 % 16 ≡ 1)
+int_only w who i low small there l word = (omega (arith, small, there, l, word), omega (arith, small, there, l, word))
+
+pub no_giving : (w : ℕ) → (w / 2 ^ 54 ≡ 20 → w / 2 ^ 32 % 16 ≡ 1 → ⊥) → (w / 2 ^ 54 ≡ 20 → w % 2 ^ 36 ≡ 0 → ⊥) → option_and_then giving_of (event_of w) ≡ None
+no_giving w no_int no_nil = by_event (event_of w) refl
+  where
+    by_event : (x : Option Event) → event_of w ≡ x → option_and_then giving_of x ≡ None
+    by_event None e = refl
+    by_event (Some (Completes who i v)) e = refl
+    by_event (Some (Fails who i code)) e = refl
+    by_event (Some (FailsAs who i failure)) e = refl
+    by_event (Some (Cancels who i)) e = refl
+    by_event (Some (Claims who i)) e = refl
+    by_event (Some (Finishes who i (Throw code))) e = refl
+    by_event (Some (Finishes who i (Link j))) e = refl
+    by_event (Some (Finishes who i (Give Nil))) e =
+        (let is = event_of_is w (Finishes who i (Give Nil)) e in
+        let small = is.0.0 in let there = is.0.1 in let word = is.1 in absurd (no_nil (omega (arith, small, there, word)) (omega (arith, small, there, word))))
+    by_event (Some (Finishes who i (Give (Int z)))) e =
+        (let is = event_of_is w (Finishes who i (Give (Int z))) e in
+        let found = int_only w who i (value_low (Int z)) is.0.0 is.0.1 (value_small (Int z) is.0.2).1 is.1 in absurd (no_int found.0 found.1))
+    by_event (Some (Ticks who now)) e = refl
+    by_event (Some (Attaches who form of function)) e = refl
 
 -- two events with one word are one event
 some_same : {A : Type 0} (a b : A) → Some a ≡ Some b → a ≡ b

@@ -76,6 +76,16 @@ event_with kind who i tag low =
 unfoldable pub event_of : ℕ → Option Event
 event_of w = event_with (w / 2 ^ 56) (w / 2 ^ 48 % 2 ^ 8) (w / 2 ^ 36 % 2 ^ 12) (w / 2 ^ 32 % 2 ^ 4) (w % 2 ^ 32)
 
+-- the caller and the stage of a claim
+abbrev pub claim_of : Event → Option (ℕ × ℕ)
+claim_of (Claims who i) = Some (who, i)
+claim_of e = None
+
+-- the caller, the stage and the value of a finish whose function gave one
+abbrev pub giving_of : Event → Option (ℕ × ℕ × Value)
+giving_of (Finishes who i (Give v)) = Some (who, i, v)
+giving_of e = None
+
 -- the event of a word, and those of the words behind it: none where the word is no event's
 abbrev pub decoded_with : Option Event → List Event → List Event
 decoded_with None events = []

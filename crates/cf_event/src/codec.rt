@@ -1,8 +1,10 @@
 //! The word of an event, and the event of a word.
-ghost use Rattle.std.specs.Prelude.{◌≡◌, ◌<◌, ◌≤◌, ◌^◌, ◌↔◌, IfSome, IsTrue, Some};
+ghost use Rattle.std.specs.Prelude.{◌≡◌, ◌<◌, ◌≤◌, ◌^◌, ◌↔◌, IfSome, IsTrue, Some, option_and_then};
+ghost use Rattle.cf_forms.specs.declared.forms.Answer.TheVariants.{Give};
 ghost use Rattle.cf_model.specs.declared.events.Event.{Event};
+ghost use Rattle.cf_model.specs.declared.events.Event.TheVariants.{Claim as Claims, Finish as Finishes};
 ghost use Rattle.cf_event.specs.Words.{IsEvent, answer_low, answer_tag, failure_tag, value_low, value_tag, word_of, word_with};
-ghost use Rattle.cf_event.specs.Decoding.{answer_with, event_of, event_with, failure_with, value_with};
+ghost use Rattle.cf_event.specs.Decoding.{answer_with, claim_of, event_of, event_with, failure_with, giving_of, value_with};
 
 use crate::attaching::{attach_low, attach_with, count_of, first_of, is_stage, second_of};
 use cf_forms::Answer;
@@ -102,6 +104,42 @@ pub fn decode(w: u64) -> Option<Event>
     event_with(kind, who, stage, tag, low)
 }
 
+/// The caller and the stage of a claim's word, or nothing where the word is another. It looks at the bits that `decode`
+/// looks at, and tells claims apart by one comparison.
+#[inline(always)]
+#[tactic(auto, using(crate::proofs::WordLemmas::claim_there, crate::proofs::WordLemmas::claim_named, crate::proofs::WordLemmas::no_claim))]
+pub fn claim_of(w: u64) -> Option<(u8, u16)>
+    ensures claim { result ≡ option_and_then claim_of (event_of w) }
+    ensures named { IfSome result (λ c. word_of (Claims c.0 c.1) ≡ w) }
+{
+    if w / HEAD != 16 || w % STAGE != 0 {
+        return None;
+    }
+    Some(((w / WHO % 64) as u8, (w / STAGE % 4096) as u16))
+}
+
+/// The caller, the stage and the value of a finish's word whose function gave a value, or nothing where the word is
+/// another.
+#[inline(always)]
+#[tactic(auto, using(crate::proofs::WordLemmas::giving_there, crate::proofs::WordLemmas::giving_named, crate::proofs::WordLemmas::nil_there, crate::proofs::WordLemmas::nil_named, crate::proofs::WordLemmas::no_giving))]
+pub fn giving_of(w: u64) -> Option<(u8, u16, Value)>
+    ensures giving { result ≡ option_and_then giving_of (event_of w) }
+    ensures named { IfSome result (λ f. word_of (Finishes f.0 f.1 (Give f.2)) ≡ w) }
+{
+    if w / HEAD != 20 {
+        return None;
+    }
+    let who = (w / WHO % 64) as u8;
+    let stage = (w / STAGE % 4096) as u16;
+    if w / TAG % 16 == 1 {
+        return Some((who, stage, Value::Int(((w % TAG) as u32).cast_signed())));
+    }
+    if w % STAGE != 0 {
+        return None;
+    }
+    Some((who, stage, Value::Nil))
+}
+
 /// The event with these fields, if there is one.
 #[inline(always)]
 fn event_with(kind: u8, who: u8, stage: u16, tag: u8, low: u32) -> Option<Event>
@@ -141,6 +179,9 @@ fn event_with(kind: u8, who: u8, stage: u16, tag: u8, low: u32) -> Option<Event>
 
 /// One in each field of a word.
 const KIND: u64 = 1 << 56;
+
+/// A word's kind, and the two bits behind it, which no caller uses.
+const HEAD: u64 = 1 << 54;
 
 const WHO: u64 = 1 << 48;
 

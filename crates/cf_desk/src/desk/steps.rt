@@ -1,10 +1,10 @@
 //! The calls that make single steps on the row.
-ghost use Rattle.std.specs.Prelude.{◌≡◌, ◌<◌, ◌≤◌, length, MatchBool, MatchOption};
-ghost use Rattle.cf_model.specs.Events.{answered};
+ghost use Rattle.std.specs.Prelude.{◌≡◌, ◌<◌, ◌≤◌, IfSome, length, MatchBool, MatchOption};
 ghost use Rattle.cf_model.specs.Ranges.{EventFits};
+ghost use Rattle.cf_event.specs.Decoding.{event_of};
 ghost use Rattle.cf_desk.specs.Log.{AreLogged};
 ghost use Rattle.cf_desk.specs.Rule.{looked};
-ghost use Rattle.cf_desk.specs.Views.{AddedByOther, AddedOwn, IsOne, IsOwnEvent, Levelled, known_of, state_of, state_up_to};
+ghost use Rattle.cf_desk.specs.Views.{AddedByOther, AddedOwn, IsOne, IsOwnEvent, IsRedone, Levelled, known_of, state_of, state_up_to};
 
 use crate::calls::Rec;
 use crate::desk::Desk;
@@ -12,18 +12,47 @@ use crate::pass::Pass;
 use crate::row::{Adds, Finds, KeepsFirst, Levels, Looks, SeatView, Sits, StandsForBoth};
 use atomic_table::Seat;
 use cf_core::Graph;
-use cf_event::{apply, decode, encode};
+use cf_event::{apply, claim_of, decode, encode, giving_of};
+use cf_forms::Answer;
 use cf_model::{Call, Event, Reply, event_by};
 use std::mem;
 
-/// Does another caller's event to a replica. It is a call of its own: with the graph's answer to an event of any kind in it
-/// `act` would be too large to stand in its callers' code.
+/// Does the event of another caller's word to a replica, and says whether the word is one. It is a call of its own: with
+/// the graph's answer to an event of any kind in it `act` would be too large to stand in its callers' code. A claim, and
+/// a finish that gives a value, are nearly all words, and are told apart by one comparison each.
 #[inline(never)]
-fn redo(replica: &mut Graph, event: &Event)
-    requires { EventFits (length replica.old.state.plan.stages) event.now }
-    ensures { replica.new.state ≡ (answered replica.old.state event.now).1 }
+fn redo(replica: &mut Graph, word: u64) -> bool
+    requires { IfSome (event_of word) (λ e. EventFits (length replica.old.state.plan.stages) e) }
+    ensures { IsRedone word replica.old result replica.new }
 {
-    apply(replica, event);
+    if let Some((who, stage)) = claim_of(word) {
+        replica.claim(who, stage);
+        return true;
+    }
+    if let Some((who, stage, v)) = giving_of(word) {
+        replica.finish(who, stage, Answer::Give(v));
+        return true;
+    }
+    match decode(word) {
+        None => false,
+        Some(event) => {
+            apply(replica, &event);
+            true
+        }
+    }
+}
+
+/// The same, without that call where the word is 0, as one that was free is.
+#[inline(always)]
+#[tactic(auto, using(cf_event::proofs::WordLemmas::event_of_zero))]
+fn is_redone(replica: &mut Graph, word: u64) -> bool
+    requires { IfSome (event_of word) (λ e. EventFits (length replica.old.state.plan.stages) e) }
+    ensures { IsRedone word replica.old result replica.new }
+{
+    if word == 0 {
+        return false;
+    }
+    redo(replica, word)
 }
 
 impl Desk {
@@ -44,22 +73,17 @@ impl Desk {
             .shared
             .compare_exchange::<Adds>(&mut p.seat, place, 0, word);
         p.count += 1;
-        match decode(found) {
-            None => {
-                let reply = apply(&mut p.replica, &event);
-                let record = Rec::Did {
-                    place: p.count,
-                    call,
-                    reply,
-                };
-                p.records.push_reserved(record);
-                Some(reply)
-            }
-            Some(theirs) => {
-                redo(&mut p.replica, &theirs);
-                None
-            }
+        if is_redone(&mut p.replica, found) {
+            return None;
         }
+        let reply = apply(&mut p.replica, &event);
+        let record = Rec::Did {
+            place: p.count,
+            call,
+            reply,
+        };
+        p.records.push_reserved(record);
+        Some(reply)
     }
 
     /// One load of the next word. It answers whether an event was there.
@@ -70,13 +94,11 @@ impl Desk {
     {
         let place = p.count as usize;
         let word = self.table.shared.load::<Looks>(&mut p.seat, place);
-        match decode(word) {
-            None => false,
-            Some(next) => {
-                p.count += 1;
-                redo(&mut p.replica, &next);
-                true
-            }
+        if is_redone(&mut p.replica, word) {
+            p.count += 1;
+            true
+        } else {
+            false
         }
     }
 
