@@ -6,13 +6,12 @@ use Rattle.cf_forms.specs.Plans.{Planned, function_at, has_place, with_room}
 use Rattle.cf_model.specs.declared.events.Reply.{Reply}
 use Rattle.cf_model.specs.declared.stage.Stage.{Stage}
 use Rattle.cf_model.specs.declared.stage.Stage.TheVariants.{Pending, Ready, Claimed, Linked, Settled}
-use Rattle.cf_model.specs.Graphs.{NoneReady, stage_in}
+use Rattle.cf_model.specs.Graphs.{AreNews, NoneReady, stage_in}
 use Rattle.cf_model.specs.States.{State, claim_at, is_ready, start}
 use Rattle.cf_event.specs.Words.{word_of}
 use Rattle.cf_ledger.specs.declared.faults.LedgerFault.{LedgerFault}
 use Rattle.cf_ledger.specs.declared.faults.LedgerFault.TheVariants as faults
 use Rattle.cf_ledger.specs.Ledgers.{Ledger as Ledger', Does, DoesAll, IsFirstRefused, LedgerRefuses, state_at, state_of, with_more}
-use Rattle.cf_ledger.specs.News.{AreNews}
 use Rattle.cf_c_handles.specs.Answers.{Codes}
 use Rattle.cf_c_handles.specs.Building.{Fills}
 use Rattle.cf_c_handles.specs.Codes.{number_of}
@@ -140,9 +139,6 @@ pub record IsNotDone (s : State) (word : ℕ) (code : Code) : Type 0 where
   pub due : LedgerRefuses s word why
   pub is : code ≡ word_code why
 
-abbrev pub blank_news : ℕ → CfNews
-blank_news i = record { stage = i; now = stage_with 0 None 0 None }
-
 abbrev pub news_in : State → ℕ → CfNews
 news_in s i = record { stage = i; now = stage_now s i }
 
@@ -151,12 +147,6 @@ pub record AreWritten {X : Type 0} (from : ℕ → X) (stages : List ℕ) (old n
   pub reach : length new ≡ length old
   pub given : (k : ℕ) → k < length stages → k < length old → slice_get new k ≡ option_map from (slice_get stages k)
   pub kept : (k : ℕ) → length stages ≤ k → slice_get new k ≡ slice_get old k
-
--- the first of these say what their stages are in this state, and the others are as they were
-pub record AreFilled (s : State) (reach : ℕ) (old new : List CfNews) : Type 0 where
-  pub all : length new ≡ length old
-  pub given : (k : ℕ) → k < reach → slice_get new k ≡ option_map (λ (x : CfNews). news_in s x.stage) (slice_get old k)
-  pub kept : (k : ℕ) → reach ≤ k → slice_get new k ≡ slice_get old k
 
 -- the stages that the event at a place changed are written, each as it is now
 pub record HaveNews (l : Ledger') (place : ℕ) (old new : List CfNews) (count : ℕ) : Type 0 where

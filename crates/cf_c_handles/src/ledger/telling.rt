@@ -1,7 +1,7 @@
 //! What a ledger behind a handle writes for C.
-ghost use Rattle.std.specs.Prelude.{◌≡◌, ◌<◌, ◌≤◌, length};
+ghost use Rattle.std.specs.Prelude.{◌≡◌, ◌<◌, length};
 ghost use Rattle.cf_ledger.specs.Ledgers.{state_of};
-ghost use Rattle.cf_c_handles.specs.Ledgers.{AreFilled, AreWritten, DoesRow, DoesWord, HaveNews, WritesNews, WritesWords, blank_news, stage_now};
+ghost use Rattle.cf_c_handles.specs.Ledgers.{AreWritten, DoesRow, DoesWord, HaveNews, WritesNews, WritesWords, news_in, stage_now};
 ghost use Rattle.cf_c_handles.specs.Texts.{GivesText};
 
 use crate::code::Code;
@@ -85,49 +85,23 @@ pub fn news(held: &mut Object, place: usize, stages: &mut [u16], n: &mut usize) 
 /// The stages that the event at a place changed go out as far as the buffer reaches, each as it is now. It tells how many
 /// they are.
 #[inline(always)]
-pub(crate) fn give_news(ledger: &mut Ledger, place: usize, news: &mut [CfNews]) -> usize
-    requires { place < length ledger.old.events }
-    ensures given { HaveNews ledger.old place news.old news.new result }
-    ensures same { ledger.new ≡ ledger.old }
+pub(crate) fn give_news(ledger: &Ledger, place: usize, news: &mut [CfNews]) -> usize
+    requires { place < length ledger.now.events }
+    ensures { HaveNews ledger.now place news.old news.new result }
 {
-    let count = name_all(ledger.news(place), news);
-    let reach = count.min(news.len());
-    fill_all(ledger, news, reach);
-    count
-}
-
-/// Writes the numbers of stages as far as the buffer reaches, and tells how many they are.
-#[inline(always)]
-fn name_all(stages: &[u16], news: &mut [CfNews]) -> usize
-    ensures named { AreWritten blank_news stages.now news.old news.new }
-    ensures count { result ≡ length stages.now }
-{
-    let reach = stages.len().min(news.len());
-    'each: for k in 0..reach {
-        news[k] = blank_news(stages[k]);
-    }
+    let stages = ledger.news(place);
+    write_stages(ledger, stages, news);
     stages.len()
 }
 
+/// Writes what each of these stages is, as far as the buffer reaches.
 #[inline(always)]
-fn blank_news(stage: u16) -> CfNews
-    ensures { result ≡ blank_news stage }
+fn write_stages(ledger: &Ledger, stages: &[u16], news: &mut [CfNews])
+    ensures { AreWritten (news_in (state_of ledger.now)) stages.now news.old news.new }
 {
-    CfNews {
-        stage,
-        now: as_stage(Stage::Pending, None),
-    }
-}
-
-/// Writes what each of the first stages in a buffer is.
-#[inline(always)]
-fn fill_all(ledger: &mut Ledger, news: &mut [CfNews], reach: usize)
-    requires { reach ≤ length news.old }
-    ensures filled { AreFilled (state_of ledger.old) reach news.old news.new }
-    ensures same { ledger.new ≡ ledger.old }
-{
+    let reach = stages.len().min(news.len());
     'each: for k in 0..reach {
-        let stage = news[k].stage;
+        let stage = stages[k];
         let now = stage_now(ledger, stage);
         news[k] = CfNews { stage, now };
     }
@@ -136,15 +110,13 @@ fn fill_all(ledger: &mut Ledger, news: &mut [CfNews], reach: usize)
 /// What a stage is; one that isn't there is pending.
 #[inline(always)]
 #[tactic(auto, using(crate::proofs::News::none_there))]
-fn stage_now(ledger: &mut Ledger, stage: u16) -> CfStage
-    ensures told { result ≡ stage_now (state_of ledger.old) stage }
-    ensures same { ledger.new ≡ ledger.old }
+fn stage_now(ledger: &Ledger, stage: u16) -> CfStage
+    ensures { result ≡ stage_now (state_of ledger.now) stage }
 {
     if stage >= ledger.stages() {
         return as_stage(Stage::Pending, None);
     }
-    let claimant = ledger.claimant(stage);
-    as_stage(ledger.stage(stage), claimant)
+    as_stage(ledger.stage(stage), ledger.claimant(stage))
 }
 
 fn give_words(words: &[u64], buffer: &mut [u64], n: &mut usize)

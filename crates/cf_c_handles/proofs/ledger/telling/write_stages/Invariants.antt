@@ -2,13 +2,11 @@ use Rattle.std.proofs.Common.{◌≡◌, ℕ, ◌<◌, ◌≤◌, length, slice_
 use Rattle.std.specs.Option.{option_map}
 use Rattle.cf_ledger.specs.Ledgers.{state_of}
 use Rattle.cf_c_handles.specs.Ledgers.{news_in}
-use Rattle.cf_c_handles.specs.declared.values.stage.CfNews.{CfNews}
-use Rattle.cf_c_handles.proofs.ledger.telling.fill_all.Given as goal
+use Rattle.cf_c_handles.proofs.ledger.telling.write_stages.Given as goal
 
 abbrev pub invariant-each : goal.invariant-each
 invariant-each l = record {
-  same : l.ledger ≡ l.initial.ledger;
   reach : length l.news ≡ length l.initial.news;
-  given : (k : ℕ) → k < l.k → slice_get l.news k ≡ option_map (λ (x : CfNews). news_in (state_of l.initial.ledger) x.stage) (slice_get l.initial.news k);
+  given : (k : ℕ) → k < l.k → slice_get l.news k ≡ option_map (news_in (state_of l.ledger)) (slice_get l.stages k);
   kept : (k : ℕ) → l.k ≤ k → slice_get l.news k ≡ slice_get l.initial.news k;
 }
