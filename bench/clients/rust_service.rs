@@ -4,11 +4,13 @@
 //! - fan-out: a source is completed, 510 functions take its value on eight threads, and all have answered. What is built before isn't counted.
 //! - chain: 16 functions, each of the value before it, on one thread, making included.
 //! - bytes: what a request of 512 stages takes beside one of none, once all are settled, or before.
+#[path = "../left.rs"]
+mod left;
+
 use cf::{Inline, Pool, Request, Spawn, Stage, SystemClock};
+use left::{let_wait, Left};
 use std::hint::black_box;
-use std::sync::atomic::{AtomicUsize, Ordering};
 use std::sync::{Arc, Mutex};
-use std::thread::{self, Thread};
 use std::time::{Duration, Instant};
 
 const THREADS: usize = 8;
@@ -51,33 +53,6 @@ impl<'a> Ways<'a> {
     }
 }
 
-/// Counts answers down, and wakes the thread that waits for the last.
-struct Left(AtomicUsize, Thread);
-
-impl Left {
-    fn new() -> Arc<Left> {
-        Arc::new(Left(AtomicUsize::new(PARTS), thread::current()))
-    }
-
-    fn take(&self, answer: i32) {
-        assert_eq!(answer, 2);
-        if self.0.fetch_sub(1, Ordering::AcqRel) == 1 {
-            self.1.unpark();
-        }
-    }
-
-    fn wait(&self) {
-        while self.0.load(Ordering::Acquire) > 0 {
-            thread::park();
-        }
-    }
-}
-
-/// Lets what was spawned come to where it waits.
-fn let_wait() {
-    thread::sleep(Duration::from_micros(300));
-}
-
 // ---- Others ----
 
 fn by_futures(pool: &futures::executor::ThreadPool) -> Duration {
@@ -98,7 +73,7 @@ fn by_futures(pool: &futures::executor::ThreadPool) -> Duration {
 
 fn by_tokio(runtime: &tokio::runtime::Runtime) -> Duration {
     use futures::future::FutureExt;
-    let left = Left::new();
+    let left = Left::new(PARTS);
     let (source, came) = tokio::sync::oneshot::channel::<i32>();
     let came = came.map(|value| value.expect("it is sent")).shared();
     for _ in 0..PARTS {
@@ -190,7 +165,7 @@ fn values(spawn: &Arc<dyn Spawn>, left: &Arc<Left>) -> (Request, Stage<i32>, Vec
 }
 
 fn by_request(spawn: &Arc<dyn Spawn>) -> Duration {
-    let left = Left::new();
+    let left = Left::new(PARTS);
     let (_request, source, _parts) = values(spawn, &left);
     let since = Instant::now();
     source.complete(1).expect("it is pending");
@@ -199,7 +174,7 @@ fn by_request(spawn: &Arc<dyn Spawn>) -> Duration {
 }
 
 fn by_request_of_nothing(spawn: &Arc<dyn Spawn>) -> Duration {
-    let left = Left::new();
+    let left = Left::new(PARTS);
     let (_request, source, _parts) = fan_out(spawn, &left);
     let since = Instant::now();
     source.complete(1).expect("it is pending");
@@ -208,7 +183,7 @@ fn by_request_of_nothing(spawn: &Arc<dyn Spawn>) -> Duration {
 }
 
 fn by_request_joined(spawn: &Arc<dyn Spawn>) -> Duration {
-    let left = Left::new();
+    let left = Left::new(PARTS);
     let (_request, source, parts) = values(spawn, &left);
     let since = Instant::now();
     source.complete(1).expect("it is pending");
@@ -219,7 +194,7 @@ fn by_request_joined(spawn: &Arc<dyn Spawn>) -> Duration {
 }
 
 fn by_request_whole(spawn: &Arc<dyn Spawn>) -> Duration {
-    let left = Left::new();
+    let left = Left::new(PARTS);
     let since = Instant::now();
     let (_request, source, _parts) = values(spawn, &left);
     source.complete(1).expect("it is pending");

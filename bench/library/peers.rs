@@ -9,11 +9,12 @@
 use super::{one_more, show, PARTS, THREADS};
 use std::time::{Duration, Instant};
 
-/// Lets what was spawned come to where it waits.
 #[cfg(any(feature = "futures", feature = "tokio"))]
-fn let_wait() {
-    std::thread::sleep(Duration::from_micros(300));
-}
+#[path = "../left.rs"]
+#[cfg_attr(not(feature = "tokio"), allow(dead_code))]
+mod left;
+#[cfg(any(feature = "futures", feature = "tokio"))]
+use left::let_wait;
 
 #[cfg(feature = "futures")]
 pub fn by_futures() {
@@ -44,36 +45,12 @@ pub use with_tokio::run as by_tokio;
 #[cfg(feature = "tokio")]
 mod with_tokio {
     use super::*;
-    use std::sync::atomic::{AtomicUsize, Ordering};
-    use std::sync::Arc;
-    use std::thread::{self, Thread};
+    use super::left::Left;
     use tokio::runtime::{Builder, Runtime};
     use tokio::sync::watch;
 
-    /// Counts answers down, and wakes the thread that waits for the last.
-    struct Left(AtomicUsize, Thread);
-
-    impl Left {
-        fn new() -> Arc<Left> {
-            Arc::new(Left(AtomicUsize::new(PARTS), thread::current()))
-        }
-
-        fn take(&self, answer: i32) {
-            assert_eq!(answer, 2);
-            if self.0.fetch_sub(1, Ordering::AcqRel) == 1 {
-                self.1.unpark();
-            }
-        }
-
-        fn wait(&self) {
-            while self.0.load(Ordering::Acquire) > 0 {
-                thread::park();
-            }
-        }
-    }
-
     fn by_watch(runtime: &Runtime) -> Duration {
-        let left = Left::new();
+        let left = Left::new(PARTS);
         let (source, came) = watch::channel(0);
         for _ in 0..PARTS {
             let (mut came, left) = (came.clone(), left.clone());
@@ -91,7 +68,7 @@ mod with_tokio {
     }
 
     fn by_spawn(runtime: &Runtime) -> Duration {
-        let left = Left::new();
+        let left = Left::new(PARTS);
         let since = Instant::now();
         for _ in 0..PARTS {
             let left = left.clone();
