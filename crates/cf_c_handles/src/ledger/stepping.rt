@@ -54,12 +54,7 @@ fn step_code(fault: StepFault) -> Code
 }
 
 /// The stages that a finish changed go out as far as the buffer reaches. It tells how many they are.
-fn finish_news(
-    ledger: &Ledger,
-    place: usize,
-    finish: Option<Finish>,
-    news: &mut [CfNews],
-) -> usize
+fn finish_news(ledger: &Ledger, place: usize, finish: Option<Finish>, news: &mut [CfNews]) -> usize
     requires { IfSome finish (λ f. place < length ledger.now.events) }
     ensures { FinishNews ledger.now place finish news.old news.new result }
 {
