@@ -31,6 +31,7 @@ def told(folder, *command, **environment):
 def main(made):
     made.mkdir(parents=True, exist_ok=True)
     client = made / "client"
+    shutil.rmtree(str(client), ignore_errors=True)  # one that an earlier run left
     shutil.copytree(str(CLIENT), str(client),
                     ignore=shutil.ignore_patterns("*.so", "build", "*.egg-info", "__pycache__"))
     include = CLIENT.parents[1] / "crates/cf_c/include"
@@ -39,7 +40,7 @@ def main(made):
     wheel = next(made.glob("*.whl"))
     told(made, sys.executable, "-m", "venv", made / "venv")
     python = made / "venv/bin/python"
-    told(made, python, "-m", "pip", "install", "--no-index", wheel)
+    told(made, python, "-m", "pip", "install", "--no-index", "--force-reinstall", wheel)
     way = told(made, python, "-c", "from cf.service._core import IS_MODULE; print(IS_MODULE)").strip()
     if way != "True":
         raise SystemExit("installed.py: the wheel has no C module")

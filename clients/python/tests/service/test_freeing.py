@@ -53,7 +53,7 @@ class Kept(Case):
             self.assertTrue(freed_stage.done() or until(freed_stage.done))
             self.assertTrue(until(lambda: not left()), left())
             held.append(freed_stage)
-        self.assertTrue(all(freed_stage.done() for freed_stage in [*held, *running]))
+        self.assertTrue(until(lambda: all(freed_stage.done() for freed_stage in [*held, *running])))
 
     def test_idle_threads_keep_nothing(self):
         gc.disable()
