@@ -229,9 +229,12 @@ class KilledTransactions(Case):
                         raise Unknown("cut")
                 store_of._Transaction.commit = commit
                 name = f"lands {lands}"
-                with self.assertLogs("cf.shared", "WARNING"):
+                with self.assertLogs("cf.shared", "WARNING") as logged:
                     paying = self.service(note=lambda *said: notes.append(said))
                     self.assertEqual(paying.request(name).supply(f.pay, name).result(30), name)
+                    end = time.monotonic() + 30  # the stage may be told before the worker has said what was cut
+                    while not logged.records and time.monotonic() < end:
+                        time.sleep(0.01)
                 self.assertEqual([said[3] >> 56 for said in notes if said[0] == "did" and said[1] == name], [7, 4, 5])
         finally:
             store_of._Transaction.commit = real
