@@ -1,5 +1,5 @@
 //! The ledger.
-ghost use Rattle.std.specs.Prelude.{◌≡◌, ◌+◌, ◌<◌, ◌≤◌, ◌↔◌, [], IfErr, IfNone, IfOk, IfSome, IsTrue, None, OnErr, OnOk, Some, false, length, map, max, get_or, replicate, take, true};
+ghost use Rattle.std.specs.Prelude.{◌≡◌, ◌+◌, ◌-◌, ◌<◌, ◌≤◌, ◌↔◌, [], IfErr, IfNone, IfOk, IfSome, IsTrue, None, OnErr, OnOk, Some, false, length, map, max, get_or, replicate, take, true};
 ghost use Rattle.cf_forms.specs.Plans.{function_at, has_place, reopened, with_room};
 ghost use Rattle.cf_model.specs.Graphs.{AreNews, NoneReady, stage_in};
 ghost use Rattle.cf_model.specs.States.{claim_at, is_ready, lowest_ready_of, outcome_at, outcome_of, start};
@@ -292,7 +292,7 @@ impl Ledger {
         ensures front { IfErr result (λ m. DoesAll self.old (take m.place words.now) self.new) }
         ensures there { IfErr result (λ m. m.place < length words.now) }
         ensures why { IfErr result (λ m. LedgerRefuses (state_of self.new) (get_or words.now m.place 0) m.why) }
-        ensures short { IfErr result (λ m. IsShort self.new.free m.why) }
+        ensures short { IfErr result (λ m. IsShort (self.old.free - m.place) m.why) }
     {
         for (place, word) in words.iter().enumerate() {
             match self.apply(*word) {
