@@ -61,7 +61,7 @@ fn is_answered(alloc: Global, ledger: &mut Ledger, step: Step) -> bool {
             ledger.restart();
             true
         }
-        Step::Reserve(more) => ledger.reserve(more) == Ok(()),
+        Step::Reserve(more) => ledger.reserve(more).is_ok(),
         Step::Grow(more) => grows(alloc, ledger, more),
         Step::Words(answer) => ledger.words() == answer,
         Step::Outcome(i, answer) => i < ledger.stages() && ledger.outcome(i) == answer,
