@@ -52,7 +52,7 @@ stage_now s i = as_stage (stage_in s.stages i) (claim_at s i)
 
 -- the ledger of a plan with so much room, in which nothing is written
 abbrev pub LedgerOf : ℕ → Object → Result Object Code → Type 0
-LedgerOf room (Plan p) (Ok made) = (has_place p.stages room ≡ true) × (made ≡ Ledger (record { plan = with_room p room; events = [] }))
+LedgerOf room (Plan p) (Ok made) = (has_place p.stages room ≡ true) × (made ≡ Ledger (record { plan = with_room p room; events = []; free = 0 }))
 LedgerOf room (Plan p) (Err Room) = has_place p.stages room ≡ false
 LedgerOf room (Plan p) (Err fault) = (fault ≡ NoMemory) × (has_place p.stages room ≡ true)
 LedgerOf room held r = r ≡ Err WrongKind

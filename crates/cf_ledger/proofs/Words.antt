@@ -1,10 +1,10 @@
 -- Words that are written one behind another.
-use Rattle.std.proofs.Common.{◌≡◌, ℕ, zero, suc, ◌+◌, ◌<◌, List, [], ◌∷◌, ◌++◌, length, length-append, map, refl, ap, sym, ◌∙◌, arith, subst, take, Bool}
+use Rattle.std.proofs.Common.{◌≡◌, ℕ, zero, suc, ◌+◌, ◌-◌, ◌<◌, List, [], ◌∷◌, ◌++◌, length, length-append, map, refl, ap, sym, ◌∙◌, arith, subst, take, Bool}
 use Rattle.std.specs.Prelude.{Option, Some, None, position, slice_get}
 use Rattle.cf_forms.specs.Plans.{Planned, PlannedStage}
 use Rattle.cf_model.specs.Graphs.{AreNews, Graph}
 use Rattle.cf_model.proofs.Histories.{state_after-append}
-use Rattle.cf_model.proofs.Shape.{answered-grows}
+use Rattle.cf_model.proofs.Shape.{answered-grows, state_after-grows}
 use Rattle.cf_ledger.specs.News.{AreNoted, WritesList}
 use Rattle.cf_model.specs.declared.events.Event.{Event}
 use Rattle.cf_model.specs.declared.events.Reply.{Reply}
@@ -12,7 +12,7 @@ use Rattle.cf_model.specs.States.{State, start}
 use Rattle.cf_model.specs.Events.{answered, state_after}
 use Rattle.cf_event.specs.Words.{word_of}
 use Rattle.cf_event.specs.Decoding.{decoded, decoded_with, event_of}
-use Rattle.cf_ledger.specs.Ledgers.{DoesAll, AreTaken, Does, IsFirstRefused, IsKept, LedgerRefuses, IsTaken, Ledger, state_of}
+use Rattle.cf_ledger.specs.Ledgers.{DoesAll, AreTaken, Does, IsFirstRefused, IsKept, LedgerRefuses, IsTaken, Ledger, ledger_of, state_of}
 use Rattle.cf_ledger.specs.declared.faults.LedgerFault.{LedgerFault}
 use Rattle.std.proofs.Common.{get_or}
 
@@ -59,6 +59,16 @@ noted_at s (e ∷ es) (x ∷ lists) (suc k) news h is =
     let next : suc k + 1 ≡ suc (k + 1) = omega arith in
     subst (λ n. AreNews (state_after ((answered s e).1) (take k es)).stages (state_after s (take n (e ∷ es))).stages news) (sym next) (noted_at ((answered s e).1) es lists k news h.1 is)
 
+-- the stages and the room are as many in all as when it was opened
+pub all_flags : (plan : Planned) (ws : List ℕ) (g : Graph) (flags : List Bool) (lists : List (List ℕ)) → IsKept plan ws g flags lists → length flags ≡ length plan.stages + plan.room
+all_flags plan ws g flags lists kept =
+    let grows = state_after-grows (start plan) (decoded ws) in
+    let grown = (state_after (start plan) (decoded ws)).plan in
+    let stages : length grown.stages ≡ length plan.stages + length grows.more = ap (λ (l : List PlannedStage). length l) grows.stages ∙ length-append plan.stages grows.more in
+    let room = grows.room in
+    let here : length flags ≡ length grown.stages + grown.room = kept.flags ∙ ap (λ (s : State). length s.plan.stages + s.plan.room) kept.left in
+    omega (arith, stages, room, here)
+
 -- what is kept, once one more word is done and written with its news
 pub kept_push : (plan : Planned) (ws : List ℕ) (g h : Graph) (w : ℕ) (e : Event) (reply : Reply) (flags down : List Bool) (lists more : List (List ℕ)) → IsKept plan ws g flags lists →
     event_of w ≡ Some e → word_of e ≡ w → IsTaken g.state e → (reply, h.state) ≡ answered g.state e →
@@ -87,10 +97,9 @@ kept_push plan ws g h w e reply flags down lists more kept is word taken told no
     }
 
 -- and so the word is done
-pub does_push : (plan : Planned) (ws : List ℕ) (s t : State) (w : ℕ) (e : Event) (reply : Reply) → ws ≡ map word_of (decoded ws) → s ≡ state_after (start plan) (decoded ws) → event_of w ≡ Some e → word_of e ≡ w →
-    IsTaken s e → (reply, t) ≡ answered s e →
-    Does w (record { plan = plan; events = decoded ws }) reply (record { plan = plan; events = decoded (ws ++ w ∷ []) })
-does_push plan ws s t w e reply written left_was is word taken told =
+pub does_push : (plan : Planned) (ws : List ℕ) (s t : State) (w : ℕ) (e : Event) (reply : Reply) (n m : ℕ) → ws ≡ map word_of (decoded ws) → s ≡ state_after (start plan) (decoded ws) → event_of w ≡ Some e → word_of e ≡ w →
+    IsTaken s e → (reply, t) ≡ answered s e → m ≡ n - 1 → Does w (ledger_of plan ws n) reply (ledger_of plan (ws ++ w ∷ []) m)
+does_push plan ws s t w e reply n m written left_was is word taken told less =
     let more = decoded_push ws w e written is in
     let left : t ≡ state_after (start plan) (decoded (ws ++ w ∷ [])) =
     ap (λ p. p.1) told ∙ ap (λ (x : State). (answered x e).1) left_was ∙ sym (state_after-append (start plan) (decoded ws) (e ∷ [])) ∙ ap (state_after (start plan)) (sym more) in
@@ -100,7 +109,8 @@ does_push plan ws s t w e reply written left_was is word taken told =
       named = word;
       taken = subst (λ (x : State). IsTaken x e) left_was taken;
       told = ap (λ (x : State). (reply, x)) (sym left) ∙ told ∙ ap (λ (x : State). answered x e) left_was;
-      written = ap (λ (es : List Event). let l : Ledger = record { plan = plan; events = es } in l) more;
+      written = ap (λ (es : List Event). let l : Ledger = record { plan = plan; events = es; free = m } in l) more
+          ∙ ap (λ (k : ℕ). let l : Ledger = record { plan = plan; events = decoded ws ++ e ∷ []; free = k } in l) less;
     }
 
 -- ---- words behind others
@@ -117,7 +127,8 @@ pub all_none : (old : Ledger) → DoesAll old [] old
 all_none old = record {
   named = refl;
   taken = tt;
-  written = ap (λ (es : List Event). let l : Ledger = record { plan = old.plan; events = es } in l) (sym (no_events old.events));
+  written = ap (λ (es : List Event). let l : Ledger = record { plan = old.plan; events = es; free = old.free } in l) (sym (no_events old.events))
+      ∙ ap (λ (k : ℕ). let l : Ledger = record { plan = old.plan; events = old.events ++ []; free = k } in l) (let all : old.free ≡ old.free - 0 = omega arith in all);
 }
 
 pub all_more : (old now next : Ledger) (ws : List ℕ) (w : ℕ) (reply : Reply) → DoesAll old ws now → Does w now reply next → DoesAll old (ws ++ w ∷ []) next
@@ -125,13 +136,18 @@ all_more old now next ws w reply h d =
     let pushed = decoded_push ws w d.event (sym h.named) d.read in
     let events : now.events ≡ old.events ++ decoded ws = ap (λ (l : Ledger). l.events) h.written in
     let plan : now.plan ≡ old.plan = ap (λ (l : Ledger). l.plan) h.written in
+    let free : now.free ≡ old.free - length ws = ap (λ (l : Ledger). l.free) h.written in
+    let count = length-append ws (w ∷ []) in
+    let one : length (w ∷ []) ≡ 1 = refl in
+    let less : now.free - 1 ≡ old.free - length (ws ++ w ∷ []) = omega (arith, free, count, one) in
     let state : state_of now ≡ state_after (state_of old) (decoded ws) = ap state_of h.written ∙ state_after-append (start old.plan) old.events (decoded ws) in
     record {
       named = ap (map word_of) pushed ∙ map_push (decoded ws) d.event ∙ ap (λ (w : ℕ). map word_of (decoded ws) ++ w ∷ []) d.named ∙ ap (λ (xs : List ℕ). xs ++ w ∷ []) h.named;
       taken = subst (AreTaken (state_of old)) (sym pushed) (taken_push (state_of old) (decoded ws) d.event h.taken (subst (λ (x : State). IsTaken x d.event) state d.taken));
-      written = d.written ∙ ap (λ (p : Planned). let l : Ledger = record { plan = p; events = now.events ++ d.event ∷ [] } in l) plan
-          ∙ ap (λ (es : List Event). let l : Ledger = record { plan = old.plan; events = es } in l)
-          (ap (λ (es : List Event). es ++ d.event ∷ []) events ∙ events_assoc old.events (decoded ws) (d.event ∷ []) ∙ ap (λ (es : List Event). old.events ++ es) (sym pushed));
+      written = d.written ∙ ap (λ (p : Planned). let l : Ledger = record { plan = p; events = now.events ++ d.event ∷ []; free = now.free - 1 } in l) plan
+          ∙ ap (λ (es : List Event). let l : Ledger = record { plan = old.plan; events = es; free = now.free - 1 } in l)
+          (ap (λ (es : List Event). es ++ d.event ∷ []) events ∙ events_assoc old.events (decoded ws) (d.event ∷ []) ∙ ap (λ (es : List Event). old.events ++ es) (sym pushed))
+          ∙ ap (λ (k : ℕ). let l : Ledger = record { plan = old.plan; events = old.events ++ decoded (ws ++ w ∷ []); free = k } in l) less;
     }
 
 -- Where the first k words are those of events that are taken, and the k-th isn't done, it is the first such.
@@ -149,7 +165,7 @@ first_refused s zero (w ∷ words) why l all taken u = u
 first_refused s (suc k) (w ∷ words) why l all taken u =
     refused_with (event_of w) s w k words why refl all taken u (λ t rest h more. first_refused t k words why (omega arith) rest h more)
 
-pub first_behind : (plan : Planned) (old new : Ledger) (k : ℕ) (words : List ℕ) (why : LedgerFault) → old ≡ (record { plan = plan; events = [] }) → DoesAll old (take k words) new → k < length words →
+pub first_behind : (plan : Planned) (old new : Ledger) (k : ℕ) (words : List ℕ) (why : LedgerFault) → old ≡ (record { plan = plan; events = []; free = 0 }) → DoesAll old (take k words) new → k < length words →
     LedgerRefuses (state_of new) (get_or words k 0) why → IsFirstRefused (start plan) k words why
 first_behind plan old new k words why is h l u =
     let es = decoded (take k words) in

@@ -1,5 +1,7 @@
 -- What a contract sees of a ledger, and what a word does to it.
-use Rattle.std.specs.Prelude.{◌≡◌, ◌≢◌, ℕ, ◌+◌, ◌<◌, zero, suc, Bool, true, Some, None, List, [], ◌∷◌, ◌++◌, length, map, position, take}
+use Rattle.std.specs.Prelude.{◌≡◌, ◌≢◌, ℕ, ◌+◌, ◌-◌, ◌*◌, ◌<◌, ◌≤◌, zero, suc, Bool, true, Some, None, List, [], ◌∷◌, ◌++◌, length, map, position, take}
+use Rattle.std.specs.declared.vec.Vec.{Vec}
+use Rattle.std.specs.Vec.{vec_capacity}
 use Rattle.cf_forms.specs.Plans.{Planned, has_place, with_room}
 use Rattle.cf_model.specs.States.{State, start}
 use Rattle.cf_model.specs.declared.events.Event.{Event}
@@ -10,14 +12,16 @@ use Rattle.cf_model.specs.Graphs.{Graph}
 use Rattle.cf_model.specs.Ranges.{EventFits}
 use Rattle.cf_event.specs.Words.{word_of}
 use Rattle.cf_event.specs.Decoding.{decoded, event_of}
-use Rattle.cf_ledger.specs.News.{AreNoted}
+use Rattle.cf_ledger.specs.News.{AreNoted, News}
 use Rattle.cf_ledger.specs.declared.faults.LedgerFault.{LedgerFault}
 use Rattle.cf_ledger.specs.declared.faults.LedgerFault.TheVariants.{NoMemory, NoEvent, NoStage, NoRoom}
 
--- the plan that it was opened with, with the room that it has in all, and the events that were done, in order
+-- the plan that it was opened with, with the room that it has in all; the events that were done, in order; and for how many words more
+-- memory was found by `reserve`
 pub record Ledger : Type 0 where
   pub plan : Planned
   pub events : List Event
+  pub free : ℕ
 
 -- the graph's state, which is what the events leave
 abbrev pub state_of : Ledger → State
@@ -42,9 +46,9 @@ abbrev pub AreTaken : State → List Event → Type 0
 AreTaken s [] = Unit {0}
 AreTaken s (e ∷ events) = IsTaken s e × AreTaken ((answered s e).1) events
 
--- the ledger with one more event
+-- the ledger with one more event, for which memory was found before if any was
 abbrev pub and_event : Ledger → Event → Ledger
-and_event ledger e = record ledger { events = ledger.events ++ e ∷ [] }
+and_event ledger e = record ledger { events = ledger.events ++ e ∷ []; free = ledger.free - 1 }
 
 -- a word is done: it is that of an event that is taken, the reply is the sequential graph's, and the event is written behind the others
 pub record Does (word : ℕ) (old : Ledger) (reply : Reply) (new : Ledger) : Type 0 where
@@ -59,7 +63,7 @@ pub record Does (word : ℕ) (old : Ledger) (reply : Reply) (new : Ledger) : Typ
 pub record DoesAll (old : Ledger) (words : List ℕ) (new : Ledger) : Type 0 where
   pub named : map word_of (decoded words) ≡ words
   pub taken : AreTaken (state_of old) (decoded words)
-  pub written : new ≡ record old { events = old.events ++ decoded words }
+  pub written : new ≡ record old { events = old.events ++ decoded words; free = old.free - length words }
 
 -- why a word isn't done: the first of these, want of memory being the last
 abbrev pub LedgerRefuses : State → ℕ → LedgerFault → Type 0
@@ -67,6 +71,11 @@ LedgerRefuses s word NoMemory = (e : Event) × (event_of word ≡ Some e) × Eve
 LedgerRefuses s word NoEvent = event_of word ≡ None
 LedgerRefuses s word NoStage = (e : Event) × (event_of word ≡ Some e) × ¬ EventFits (length s.plan.stages) e
 LedgerRefuses s word NoRoom = (e : Event) × (event_of word ≡ Some e) × EventFits (length s.plan.stages) e × ¬ HasRoomFor s e
+
+-- memory is wanting only where none was found before
+abbrev pub IsShort : ℕ → LedgerFault → Type 0
+IsShort free NoMemory = free ≡ 0
+IsShort free fault = Unit {0}
 
 -- the words before the k-th are those of events that are taken, and the k-th isn't done for this reason
 abbrev pub IsFirstRefused : State → ℕ → List ℕ → LedgerFault → Type 0
@@ -90,13 +99,19 @@ pub record IsKept (plan : Planned) (words : List ℕ) (g : Graph) (changed : Lis
   pub flags : length changed ≡ length g.state.plan.stages + g.state.plan.room
   pub noted : AreNoted (start plan) (decoded words) lists
 
--- the ledger of a plan and of these words
-abbrev pub ledger_of : Planned → List ℕ → Ledger
-ledger_of plan words = record { plan = plan; events = decoded words }
+-- there are places for so many words more, and for what each of them changes, which is so many stages at most
+pub record HavePlaces {Z : Type 0} (count most : ℕ) (words : Vec ℕ Z) (news : News) : Type 0 where
+  pub of_words : count ≤ vec_capacity words - length words.items
+  pub of_lists : count ≤ news.more
+  pub of_stages : count * most ≤ news.free
 
--- the ledger of a plan that was opened with this room, and of these words
-abbrev pub opened_with : Planned → ℕ → List ℕ → Ledger
-opened_with plan room words = ledger_of (with_room plan room) words
+-- the ledger of a plan and of these words, with memory for so many more
+abbrev pub ledger_of : Planned → List ℕ → ℕ → Ledger
+ledger_of plan words free = record { plan = plan; events = decoded words; free = free }
+
+-- the ledger of a plan that was opened with this room, and of these words, with memory for so many more
+abbrev pub opened_with : Planned → ℕ → List ℕ → ℕ → Ledger
+opened_with plan room words free = ledger_of (with_room plan room) words free
 
 -- the ledger with room for more stages, by which nothing else changes
 abbrev pub with_more : Ledger → ℕ → Ledger

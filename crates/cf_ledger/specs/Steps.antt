@@ -68,3 +68,8 @@ IsNoStep who (Some h) s NoStage = (who ≤ 63) × (length s.plan.stages ≤ h.st
 IsNoStep who (Some h) s NotHeld = (who ≤ 63) × (h.stage < length s.plan.stages) × (claim_at s h.stage ≢ Some who)
 IsNoStep who held s NoMemory = (who ≤ 63) × IsHeld who held s
 IsNoStep who None s fault = ⊥
+
+-- memory is wanting only where none was found for two words before
+abbrev pub IsShortOfTwo : ℕ → StepFault → Type 0
+IsShortOfTwo free NoMemory = free < 2
+IsShortOfTwo free fault = Unit {0}

@@ -1,18 +1,18 @@
 //! The ledger.
-ghost use Rattle.std.specs.Prelude.{◌≡◌, ◌+◌, ◌<◌, ◌≤◌, ◌↔◌, [], IfErr, IfNone, IfOk, IfSome, IsTrue, None, OnErr, OnOk, Some, false, length, map, get_or, replicate, take, true};
+ghost use Rattle.std.specs.Prelude.{◌≡◌, ◌+◌, ◌-◌, ◌<◌, ◌≤◌, ◌↔◌, [], IfErr, IfNone, IfOk, IfSome, IsTrue, None, OnErr, OnOk, Some, false, length, map, max, get_or, replicate, take, true};
 ghost use Rattle.cf_forms.specs.Plans.{function_at, has_place, reopened, with_room};
 ghost use Rattle.cf_model.specs.Graphs.{AreNews, NoneReady, stage_in};
-ghost use Rattle.cf_model.specs.States.{claim_at, is_ready, lowest_ready_of, outcome_at, start};
+ghost use Rattle.cf_model.specs.States.{claim_at, is_ready, lowest_ready_of, outcome_at, outcome_of, start};
 ghost use Rattle.cf_model.specs.declared.events.Event.TheVariants.{Claim as Claims, Finish as FinishesAs};
 ghost use Rattle.cf_model.specs.declared.events.Reply.TheVariants.{Claim as ToldClaim, Finish as ToldFinish};
 ghost use Rattle.cf_event.specs.Words.{word_of};
-ghost use Rattle.cf_ledger.specs.Ledgers.{Does, DoesAll, HasRoomFor, IsFirstMisfit, LedgerRefuses, state_at, state_of, with_more};
-ghost use Rattle.cf_ledger.specs.Steps.{IsNoStep, NoneReadyFrom, Steps};
+ghost use Rattle.cf_ledger.specs.Ledgers.{Does, DoesAll, HasRoomFor, IsFirstMisfit, IsShort, LedgerRefuses, opened_with, state_at, state_of, with_more};
+ghost use Rattle.cf_ledger.specs.Steps.{IsNoStep, IsShortOfTwo, NoneReadyFrom, Steps};
 ghost use Rattle.cf_event.specs.Decoding.{decoded, event_of};
 
 use crate::faults::{LedgerFault, Misfit, StepFault};
 use crate::news::News;
-use crate::rows::make_room;
+use crate::places::make_places;
 use crate::step::{Held, Step};
 use crate::writing::{finish, take, write, write_claim, write_finish};
 use cf_bits::BitSet;
@@ -26,10 +26,14 @@ use std::alloc::{AllocError, Global};
 use std::marker::Model;
 use std::mem;
 
+/// For more words than these no machine has memory.
+const MOST_WORDS: usize = 1 << 51;
+
 /// A graph, with the words of all that was done to it and the stages that each word changed.
 ///
-/// A contract sees the plan with its room, and the events of the words. The graph is in the state that these events
-/// leave, and no turn is left. A flag of `changed` is set only while a tick is done.
+/// A contract sees the plan with its room, the events of the words, and for how many words more memory was found. The
+/// graph is in the state that these events leave, and no turn is left. A flag of `changed` is set only while a tick is
+/// done.
 #[derive(Drop)]
 pub struct Ledger {
     plan: Plan,
@@ -38,6 +42,7 @@ pub struct Ledger {
     words: Vec<u64>,
     changed: BitSet,
     news: News,
+    free: usize,
 }
 
 impl Model for Ledger {
@@ -45,13 +50,20 @@ impl Model for Ledger {
 
     ghost Value = { Ledger };
 
+    ghost use Rattle.std.specs.Prelude.{length};
     ghost use Rattle.cf_forms.specs.Plans.{with_room};
     ghost use Rattle.cf_event.specs.Decoding.{decoded, event_of};
-    ghost use Rattle.cf_ledger.specs.Ledgers.{IsKept};
+    ghost use Rattle.cf_ledger.specs.Ledgers.{HavePlaces, IsKept};
 
-    ghost view = { λ l. record { plan = with_room l.plan l.room; events = decoded l.words.items } };
+    ghost view = { λ l. record {
+      plan = with_room l.plan l.room;
+      events = decoded l.words.items;
+      free = l.free;
+    } };
 
-    ghost invariant = { λ l. IsKept (with_room l.plan l.room) l.words.items l.graph l.changed l.news.lists };
+    ghost invariant = { λ l.
+        IsKept (with_room l.plan l.room) l.words.items l.graph l.changed l.news.lists
+        × HavePlaces l.free (length l.changed) l.words l.news };
 }
 
 impl Ledger {
@@ -59,7 +71,7 @@ impl Ledger {
     /// is no memory.
     pub fn new(alloc: Global, plan: &Plan, room: u16) -> Result<Ledger, AllocError>
         requires place { has_place plan.now.stages room ≡ true }
-        ensures { IfOk result (λ ledger. ledger ≡ record { plan = with_room plan.now room; events = [] }) }
+        ensures { IfOk result (λ ledger. ledger ≡ record { plan = with_room plan.now room; events = []; free = 0 }) }
     {
         let changed = flags_of(alloc, plan, room)?;
         let shared = plan.share()?;
@@ -71,7 +83,35 @@ impl Ledger {
             words: Vec::new(alloc),
             changed,
             news: News::new(alloc),
+            free: 0,
         })
+    }
+
+    /// Finds memory for so many words more, with the stages that they change. It fails only where there is no memory,
+    /// and then changes nothing. Each word takes the memory of one. While some is left, no word is refused for want of
+    /// memory.
+    pub fn reserve(&mut self, more: usize) -> Result<(), AllocError>
+        ensures enough { OnOk result (more ≤ self.new.free) }
+        ensures found { OnOk result (self.new ≡ record self.old { free = max self.old.free more }) }
+        ensures refused { OnErr result (self.new ≡ self.old) }
+        ensures short { OnErr result (self.old.free < more) }
+    {
+        if more <= self.free {
+            return Ok(());
+        }
+        // No machine has memory for more.
+        if more > MOST_WORDS {
+            return Err(AllocError);
+        }
+        make_places(
+            &mut self.words,
+            &mut self.news,
+            &self.changed,
+            self.free,
+            more,
+        )?;
+        self.free = more;
+        Ok(())
     }
 
     /// Does a word, and appends it to the others. The reasons to refuse it are looked at in this order: it is no
@@ -85,6 +125,7 @@ impl Ledger {
         ensures done { IfOk result (λ reply. Does word self.old reply self.new) }
         ensures refused { OnErr result (self.new ≡ self.old) }
         ensures why { IfErr result (λ fault. LedgerRefuses (state_of self.old) word fault) }
+        ensures short { IfErr result (λ fault. IsShort self.old.free fault) }
     {
         // A claim, and a finish that gives a value, are nearly all words. Each has code of its own, in which its kind is
         // known.
@@ -105,12 +146,12 @@ impl Ledger {
         ensures done { IfOk result (λ told. Does word self.old (ToldClaim told) self.new) }
         ensures refused { OnErr result (self.new ≡ self.old) }
         ensures why { IfErr result (λ fault. LedgerRefuses (state_of self.old) word fault) }
+        ensures short { IfErr result (λ fault. IsShort self.old.free fault) }
     {
         if stage >= self.graph.stages() {
             return Err(LedgerFault::NoStage);
         }
-        make_room(&mut self.words, 1)?;
-        self.news.reserve(1, self.changed.bound() as usize)?;
+        make_places(&mut self.words, &mut self.news, &self.changed, self.free, 1)?;
         Ok(write_claim(
             &self.plan,
             self.room,
@@ -118,6 +159,7 @@ impl Ledger {
             &mut self.words,
             &self.changed,
             &mut self.news,
+            &mut self.free,
             who,
             stage,
             word,
@@ -138,12 +180,12 @@ impl Ledger {
         ensures done { IfOk result (λ told. Does word self.old (ToldFinish told) self.new) }
         ensures refused { OnErr result (self.new ≡ self.old) }
         ensures why { IfErr result (λ fault. LedgerRefuses (state_of self.old) word fault) }
+        ensures short { IfErr result (λ fault. IsShort self.old.free fault) }
     {
         if stage >= self.graph.stages() {
             return Err(LedgerFault::NoStage);
         }
-        make_room(&mut self.words, 1)?;
-        self.news.reserve(1, self.changed.bound() as usize)?;
+        make_places(&mut self.words, &mut self.news, &self.changed, self.free, 1)?;
         Ok(write_finish(
             &self.plan,
             self.room,
@@ -151,6 +193,7 @@ impl Ledger {
             &mut self.words,
             &self.changed,
             &mut self.news,
+            &mut self.free,
             who,
             stage,
             answer,
@@ -164,6 +207,7 @@ impl Ledger {
         ensures done { IfOk result (λ reply. Does word self.old reply self.new) }
         ensures refused { OnErr result (self.new ≡ self.old) }
         ensures why { IfErr result (λ fault. LedgerRefuses (state_of self.old) word fault) }
+        ensures short { IfErr result (λ fault. IsShort self.old.free fault) }
     {
         let Some(event) = decode(word) else {
             return Err(LedgerFault::NoEvent);
@@ -174,8 +218,7 @@ impl Ledger {
         if !has_room_for(&self.graph, &event) {
             return Err(LedgerFault::NoRoom);
         }
-        make_room(&mut self.words, 1)?;
-        self.news.reserve(1, self.changed.bound() as usize)?;
+        make_places(&mut self.words, &mut self.news, &self.changed, self.free, 1)?;
         Ok(write(
             &self.plan,
             self.room,
@@ -183,6 +226,7 @@ impl Ledger {
             &mut self.words,
             &mut self.changed,
             &mut self.news,
+            &mut self.free,
             &event,
             word,
         ))
@@ -199,6 +243,7 @@ impl Ledger {
         ensures done { IfOk result (λ step. Steps who held from self.old step self.new) }
         ensures refused { OnErr result (self.new ≡ self.old) }
         ensures why { IfErr result (λ fault. IsNoStep who held (state_of self.old) fault) }
+        ensures short { IfErr result (λ fault. IsShortOfTwo self.old.free fault) }
     {
         if who > LAST_CALLER {
             return Err(StepFault::NoCaller);
@@ -211,9 +256,7 @@ impl Ledger {
                 return Err(StepFault::NotHeld);
             }
         }
-        make_room(&mut self.words, 2)?;
-        let most = self.changed.bound() as usize;
-        self.news.reserve(2, 2 * most)?;
+        make_places(&mut self.words, &mut self.news, &self.changed, self.free, 2)?;
         let finish = match held {
             None => None,
             Some(held) => Some(finish(
@@ -223,6 +266,7 @@ impl Ledger {
                 &mut self.words,
                 &self.changed,
                 &mut self.news,
+                &mut self.free,
                 who,
                 held,
             )),
@@ -234,6 +278,7 @@ impl Ledger {
             &mut self.words,
             &self.changed,
             &mut self.news,
+            &mut self.free,
             who,
             from,
         );
@@ -247,6 +292,7 @@ impl Ledger {
         ensures front { IfErr result (λ m. DoesAll self.old (take m.place words.now) self.new) }
         ensures there { IfErr result (λ m. m.place < length words.now) }
         ensures why { IfErr result (λ m. LedgerRefuses (state_of self.new) (get_or words.now m.place 0) m.why) }
+        ensures short { IfErr result (λ m. IsShort (self.old.free - m.place) m.why) }
     {
         for (place, word) in words.iter().enumerate() {
             match self.apply(*word) {
@@ -285,6 +331,7 @@ impl Ledger {
         ensures count { result ≡ length (state_of self.now).plan.stages }
         ensures all_stages { length (state_of self.now).stages ≡ length (state_of self.now).plan.stages }
         ensures all_claims { length (state_of self.now).claims ≡ length (state_of self.now).plan.stages }
+        ensures few { result + (state_of self.now).plan.room ≤ 4096 }
     {
         self.graph.stages()
     }
@@ -333,20 +380,21 @@ impl Ledger {
     }
 
     /// The outcome of a stage, if it is settled.
-    pub fn outcome(&mut self, i: u16) -> Option<Outcome>
-        requires { i < length (state_of self.old).plan.stages }
-        ensures told { result ≡ outcome_at (state_of self.old) i }
-        ensures same { self.new ≡ self.old }
+    #[tactic(auto, using(crate::proofs::Ready::outcome_is))]
+    pub fn outcome(&self, i: u16) -> Option<Outcome>
+        requires { i < length (state_of self.now).plan.stages }
+        ensures { result ≡ outcome_at (state_of self.now) i }
     {
-        self.graph.outcome(i)
+        outcome_of(self.stage(i))
     }
 
-    /// The lowest ready stage, or none where no stage is ready.
-    pub fn lowest_ready(&mut self) -> Option<u16>
-        ensures told { result ≡ lowest_ready_of (state_of self.old) }
-        ensures same { self.new ≡ self.old }
+    /// The lowest ready stage, or none where no stage is ready. It costs a look at each stage below.
+    pub fn lowest_ready(&self) -> Option<u16>
+        ensures { result ≡ lowest_ready_of (state_of self.now) }
     {
-        self.graph.lowest_ready()
+        // There is a state for each stage.
+        let _known = self.stages();
+        self.next_ready(0)
     }
 
     /// The ledger of these words, which are done from the start of a plan with room for so many stages. Where a word
@@ -356,6 +404,7 @@ impl Ledger {
         ensures plan { IfOk result (λ ledger. ledger.plan ≡ with_room plan.now room) }
         ensures words { IfOk result (λ ledger. map word_of ledger.events ≡ words.now) }
         ensures events { IfOk result (λ ledger. ledger.events ≡ decoded words.now) }
+        ensures free { IfOk result (λ ledger. ledger.free ≡ 0) }
         ensures refused { IfErr result (λ m. IsFirstMisfit (with_room plan.now room) m.place words.now m.why) }
     {
         let mut ledger = Ledger::new(alloc, plan, room)?;
@@ -376,7 +425,6 @@ impl Ledger {
         let _known = self.plan.stages();
         start_again(&mut self.graph);
         self.words.clear();
-        self.changed.reset(self.graph.stages() + self.graph.room());
         self.news.clear();
     }
 
@@ -398,13 +446,41 @@ impl Ledger {
         ensures unchanged { OnErr result (self.new ≡ self.old) }
         ensures refused { IfErr result (λ fault. fault ≡ LedgerFault.NoMemory) }
     {
-        match Ledger::of_words(alloc, &self.plan, self.room + more, &self.words) {
+        match ledger_with(alloc, &self.plan, self.room + more, &self.words, self.free) {
             Ok(ledger) => {
                 drop(mem::replace(self, ledger));
                 Ok(())
             }
             Err(misfit) => Err(misfit.why),
         }
+    }
+}
+
+/// The ledger of these words, with memory for so many more.
+fn ledger_with(
+    alloc: Global,
+    plan: &Plan,
+    room: u16,
+    words: &[u64],
+    free: usize,
+) -> Result<Ledger, Misfit>
+    requires place { has_place plan.now.stages room ≡ true }
+    ensures made { IfOk result (λ ledger. ledger ≡ opened_with plan.now room words.now free) }
+    ensures words { IfOk result (λ ledger. map word_of ledger.events ≡ words.now) }
+    ensures refused { IfErr result (λ m. IsFirstMisfit (with_room plan.now room) m.place words.now m.why) }
+{
+    let mut ledger = Ledger::of_words(alloc, plan, room, words)?;
+    ledger.reserve(free)?;
+    Ok(ledger)
+}
+
+/// A stage's outcome, if it is settled.
+fn outcome_of(stage: Stage) -> Option<Outcome>
+    ensures { result ≡ outcome_of stage }
+{
+    match stage {
+        Stage::Settled(o) => Some(o),
+        _ => None,
     }
 }
 

@@ -1,5 +1,5 @@
 //! Which stages each event changed, as lists of one row.
-ghost use Rattle.std.specs.Prelude.{◌≡◌, ◌+◌, ◌<◌, ◌≤◌, [], None, OnOk, Some, length, position, slice_get};
+ghost use Rattle.std.specs.Prelude.{◌≡◌, ◌+◌, ◌<◌, ◌≤◌, [], None, OnErr, OnOk, Some, length, position, slice_get};
 ghost use Rattle.cf_model.specs.Events.{answered, claiming, finishing};
 ghost use Rattle.cf_model.specs.Ranges.{EventFits};
 ghost use Rattle.cf_ledger.specs.News.{AreEnds, WritesList, begin_of, parts};
@@ -50,13 +50,17 @@ impl News {
         }
     }
 
-    /// Finds room for so many lists more, of so many stages in all. It fails only where there is no memory, and changes no
-    /// list.
+    /// Finds room for so many lists more, of so many stages in all. It fails only where there is no memory, and changes
+    /// no list. Where the room is there, it does nothing.
     #[inline(always)]
     pub fn reserve(&mut self, lists: usize, count: usize) -> Result<(), AllocError>
         ensures free { OnOk result (count ≤ self.new.free) }
         ensures more { OnOk result (lists ≤ self.new.more) }
         ensures same { self.new.lists ≡ self.old.lists }
+        ensures enough { OnErr result (lists ≤ self.old.more → self.old.free < count) }
+        ensures kept_free { self.old.free ≤ self.new.free }
+        ensures kept_more { self.old.more ≤ self.new.more }
+        ensures still { lists ≤ self.old.more → count ≤ self.old.free → self.new ≡ self.old }
     {
         make_room(&mut self.all, count)?;
         make_room(&mut self.ends, lists)
@@ -64,7 +68,9 @@ impl News {
 
     /// Takes out all lists. Their room stays.
     pub fn clear(&mut self)
-        ensures { self.new.lists ≡ [] }
+        ensures lists { self.new.lists ≡ [] }
+        ensures kept_free { self.old.free ≤ self.new.free }
+        ensures kept_more { self.old.more ≤ self.new.more }
     {
         self.all.clear();
         self.ends.clear();
@@ -102,9 +108,14 @@ impl News {
         requires more { 0 < self.old.more }
         ensures told { (result, graph.new.state) ≡ claiming graph.old.state who stage }
         ensures lists { WritesList graph.old.state.stages graph.new.state.stages self.old.lists self.new.lists }
+        ensures free { self.old.free ≤ self.new.free + length graph.old.state.plan.stages }
+        ensures more { self.old.more ≤ self.new.more + 1 }
         ensures worked_out { graph.new.left ≡ None }
     {
+        // There is a state for each stage, before and after.
+        let _known_before = graph.stages();
         let told = graph.claim_telling(who, stage, &mut self.all);
+        let _known_after = graph.stages();
         let end = self.all.len();
         self.ends.push_reserved(end);
         told

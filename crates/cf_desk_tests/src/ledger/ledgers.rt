@@ -180,7 +180,8 @@ const MISFIT: Misfit = Misfit {
 const CANCEL: u64 = 0x0300001000000000;
 
 /// One request by steps; what is refused between them; and it is started again, and its words done in rows.
-const BY_STEPS: [Step; 17] = [
+const BY_STEPS: [Step; 19] = [
+    Step::Reserve(3),
     Step::Apply(COMPLETE, Ok(Reply::Flag(true))),
     Step::Next(0, None, 2, Ok(IDLE)),
     Step::Next(64, None, 0, Err(StepFault::NoCaller)),
@@ -192,6 +193,7 @@ const BY_STEPS: [Step; 17] = [
     Step::Next(0, HELD, 0, Ok(WON)),
     Step::News(2, &[1]),
     Step::Restart,
+    Step::Reserve(200),
     Step::Len(0),
     Step::ApplyAll(&[COMPLETE, 0, CLAIM], Err(MISFIT)),
     Step::ApplyAll(&[CLAIM, CANCEL], Ok(())),

@@ -18,6 +18,8 @@ pub(crate) enum Step {
     Next(u8, Option<Held>, u16, Result<cf_ledger::Step, StepFault>),
     ApplyAll(&'static [u64], Result<(), Misfit>),
     Restart,
+    /// Memory for so many words more.
+    Reserve(usize),
     /// So many stages of room more.
     Grow(u16),
     /// All that was done since the start.
@@ -59,6 +61,7 @@ fn is_answered(alloc: Global, ledger: &mut Ledger, step: Step) -> bool {
             ledger.restart();
             true
         }
+        Step::Reserve(more) => ledger.reserve(more).is_ok(),
         Step::Grow(more) => grows(alloc, ledger, more),
         Step::Words(answer) => ledger.words() == answer,
         Step::Outcome(i, answer) => i < ledger.stages() && ledger.outcome(i) == answer,

@@ -11,7 +11,7 @@ pub at-requires : goal.at-requires
 at-requires c =
     let l = c.self.inside in
     let plan = with_room l.plan l.room in
-    let count = noted_count (start plan) (decoded l.words.items) l.news.lists c.self.invariant.noted in
+    let count = noted_count (start plan) (decoded l.words.items) l.news.lists c.self.invariant.0.noted in
     let is = ap (λ (x : Ledger). length x.events) c.self.view_is in
     let place = c.requires in
     omega (arith, count, is, place)
@@ -21,4 +21,4 @@ returns c =
     let l = c.self.inside in
     let plan = with_room l.plan l.room in
     subst (λ (x : Ledger). AreNews (state_at x c.args.place).stages (state_at x (c.args.place + 1)).stages c.at.result.now) c.self.view_is
-    (noted_at (start plan) (decoded l.words.items) l.news.lists c.args.place c.at.result.now c.self.invariant.noted c.at.ensures)
+    (noted_at (start plan) (decoded l.words.items) l.news.lists c.args.place c.at.result.now c.self.invariant.0.noted c.at.ensures)
