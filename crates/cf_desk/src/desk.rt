@@ -6,7 +6,7 @@ mod reading;
 mod steps;
 
 ghost use Rattle.std.specs.Prelude.{◌≡◌, ◌≢◌, ◌<◌, ◌≤◌, ◌+◌, ◌↔◌, All, IfErr, IfOk, IsTrue, MatchOption, OnOk, [], length, true, vec_capacity, vec_len};
-ghost use Rattle.cf_forms.specs.Plans.{function_at, has_place, with_room};
+ghost use Rattle.cf_forms.specs.Plans.{function_at, has_place};
 ghost use Rattle.cf_model.specs.States.{start};
 ghost use Rattle.cf_desk.specs.declared.faults.OpenFault.TheVariants.{NoMemory};
 ghost use Rattle.cf_desk.specs.Faults.{AreCounts, IsDueToGrow, IsDueToOpen, MayGrow};
@@ -16,13 +16,14 @@ ghost use Rattle.cf_desk.specs.Views.{IsOf};
 use crate::calls::{Kept, Rec};
 use crate::faults::OpenFault;
 use crate::functions::function_bound;
+use crate::opened::OpenedPlan;
 use crate::pass::Pass;
 use crate::row::{DeskConfig, GivesFirst, LogConfig, RowRule, SeatView};
 use crate::sizes::{DeskGrowth, DeskSizes};
 use atomic_table::{Seat, Table};
 use cf_core::Graph;
 use cf_model::{Ask, Event, Told};
-use cf_plan::{GrowingPlan, Plan};
+use cf_plan::Plan;
 use std::alloc::{AllocError, Global};
 use std::marker::Model;
 
@@ -181,14 +182,6 @@ fn count_fault(sizes: DeskSizes) -> Option<OpenFault>
     None
 }
 
-/// A plan with so much room, as the row is told of it.
-fn growing(alloc: Global, plan: &Plan, room: u16) -> Result<GrowingPlan, AllocError>
-    requires { has_place plan.now.stages room ≡ true }
-    ensures { IfOk result (λ grown. grown ≡ with_room plan.now room) }
-{
-    GrowingPlan::new(alloc, plan.share()?, room)
-}
-
 /// What a place for a record holds before any call.
 const NO_RECORD: Rec = Rec::Saw {
     place: 0,
@@ -224,7 +217,6 @@ struct Opening<'a> {
 
 /// A row of empty words, the seat that stands for all passes, and what the row was told.
 fn new_row(opening: &Opening<'_>) -> Result<(Row, Seat<u8, SeatView>, LogConfig), AllocError>
-    requires { has_place opening.now.plan.now.stages opening.now.growth.room ≡ true }
     ensures terms { IfOk result (λ r. (r.2.setting ≡ setting_of opening.now) × (r.2.words ≡ opening.now.sizes.log)) }
     ensures key { IfOk result (λ r. r.0.shared.key ≡ r.2) }
     ensures row { IfOk result (λ r. IsRowOf opening.now.sizes.log r.0.shared.table_id) }
@@ -234,7 +226,7 @@ fn new_row(opening: &Opening<'_>) -> Result<(Row, Seat<u8, SeatView>, LogConfig)
     let zeros = vec![in opening.alloc; 0u64; words as usize]?;
     let terms = LogConfig {
         setting: DeskConfig {
-            plan: growing(opening.alloc, opening.plan, opening.growth.room)?,
+            plan: OpenedPlan::new(opening.plan, opening.growth.room)?,
             callers: opening.sizes.callers,
             functions: opening.growth.functions,
         },

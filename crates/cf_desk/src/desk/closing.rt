@@ -1,7 +1,7 @@
 //! How a desk is closed.
 ghost use Rattle.std.specs.Prelude.{◌≡◌, ◌<◌, ◌≤◌, [], All, IsOkAnd, MatchOption, unwrap_or, vec_capacity, vec_len};
 ghost use Rattle.std.specs.Mem.Slots.{IsFull, slots_items, slots_len};
-ghost use Rattle.cf_event.specs.Decoding.{decoded};
+ghost use Rattle.cf_event.specs.Decoding.{decoded, event_of};
 ghost use Rattle.cf_desk.specs.Closings.{HoldsAllEvents, PassesFit, ShowsOneHistory, ToldOneHistory};
 ghost use Rattle.cf_desk.specs.Keepings.{AreKept, IsCallers, IsFit};
 ghost use Rattle.cf_desk.specs.Views.{Closes, IsLatestOf, knowns};
@@ -13,7 +13,8 @@ use crate::pass::Pass;
 use crate::row::{SeatView, Sits, StandsForBoth};
 use atomic_table::Seat;
 use cf_core::Graph;
-use cf_event::decode;
+use cf_event::{claim_of, decode, giving_of};
+use cf_forms::Answer;
 use cf_model::Event;
 use std::alloc::Global;
 
@@ -113,10 +114,26 @@ fn decode_row(
     ensures { result.items ≡ decoded (slots_items row.now.words) }
 {
     for place in 0..words {
-        match decode(row.word(place as usize)) {
+        match event_in(row.word(place as usize)) {
             None => return history,
             Some(event) => history.push_reserved(event),
         }
     }
     history
+}
+
+/// The event of a word, or nothing where the word is no event's. A claim, and a finish that gives a value, are nearly all
+/// words, and are told apart by one comparison each.
+#[inline(always)]
+fn event_in(word: u64) -> Option<Event>
+    ensures { result ≡ event_of word }
+{
+    if let Some((who, stage)) = claim_of(word) {
+        return Some(Event::Claim { who, stage });
+    }
+    if let Some((who, stage, v)) = giving_of(word) {
+        let answer = Answer::Give(v);
+        return Some(Event::Finish { who, stage, answer });
+    }
+    decode(word)
 }
