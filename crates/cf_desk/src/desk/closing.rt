@@ -13,9 +13,10 @@ use crate::pass::Pass;
 use crate::row::{SeatView, Sits, StandsForBoth};
 use atomic_table::Seat;
 use cf_core::Graph;
-use cf_event::{claim_of, decode, giving_of};
+use cf_event::{claim_of, completing_of, decode, giving_of};
 use cf_forms::Answer;
 use cf_model::Event;
+use cf_outcome::Value;
 use std::alloc::Global;
 use std::mem;
 
@@ -144,8 +145,8 @@ fn decode_row(
     history
 }
 
-/// The event of a word, or nothing where the word is no event's. A claim, and a finish that gives a value, are nearly all
-/// words, and are told apart by one comparison each.
+/// The event of a word, or nothing where the word is no event's. Claims, finishes that give a value, and completions with a
+/// number are nearly all words, and are told apart by a comparison or two each.
 #[inline(always)]
 fn event_in(word: u64) -> Option<Event>
     ensures { result ≡ event_of word }
@@ -156,6 +157,10 @@ fn event_in(word: u64) -> Option<Event>
     if let Some((who, stage, v)) = giving_of(word) {
         let answer = Answer::Give(v);
         return Some(Event::Finish { who, stage, answer });
+    }
+    if let Some((who, stage, number)) = completing_of(word) {
+        let value = Value::Int(number);
+        return Some(Event::Complete { who, stage, value });
     }
     decode(word)
 }

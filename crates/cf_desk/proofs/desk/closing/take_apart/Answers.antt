@@ -1,4 +1,4 @@
-use Rattle.std.proofs.Common.{◌≡◌, ◌++◌, ◌∷◌, [], length, map, ap, ◌∙◌, subst}
+use Rattle.std.proofs.Common.{◌++◌, ◌∷◌, [], length, map, ap, ◌∙◌, subst}
 use mathlib.Core.List.{map-append}
 use Rattle.cf_desk.specs.Views.{Pass, state_of}
 use Rattle.cf_desk.specs.Keepings.{IsCallers, IsFit, pass_kept}
