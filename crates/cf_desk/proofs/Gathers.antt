@@ -1,7 +1,6 @@
 -- Passes that are taken one after another.
 use Rattle.cf_forms.specs.Plans.{Planned}
-use Rattle.std.proofs.Common.{◌≡◌, ℕ, Bool, true, false, leb, leb-true, leb-false, max, ◌<◌, ◌≤◌, inl, inr, ⊎_elim, length, arith, List, [], ◌∷◌, ◌++◌, map, All, sym, refl, ap, ◌∙◌, subst, Option, Some, None}
-use Rattle.std.specs.Prelude.{MatchOption, unwrap_or}
+use Rattle.std.proofs.Common.{◌≡◌, ℕ, Bool, true, false, leb, leb-true, leb-false, max, ◌<◌, ◌≤◌, inl, inr, ⊎_elim, length, arith, List, [], ◌∷◌, ◌++◌, map, All, sym, refl, ap, ◌∙◌, subst}
 use mathlib.Core.List.{map-append}
 use Rattle.std.proofs.lemmas.List.Elements.{All-head, All-tail}
 use Rattle.atomic_table.specs.Table.{Me}
@@ -11,7 +10,7 @@ use Rattle.cf_desk.specs.declared.calls.Kept.{Kept}
 use Rattle.cf_model.specs.Graphs.{Graph}
 use Rattle.cf_model.specs.States.{State}
 use Rattle.cf_desk.specs.Rule.{AllShort}
-use Rattle.cf_desk.specs.Views.{Pass, knowns, state_of, IsOneOf, IsLatest}
+use Rattle.cf_desk.specs.Views.{Pass, knowns, state_of, IsOneOf, IsLatest, IsLatestOf}
 use Rattle.cf_desk.proofs.Meets.{short_more}
 use Rattle.cf_desk.specs.Keepings.{AreKept, pass_kept, pass_did}
 
@@ -19,13 +18,12 @@ pub all_at : {A : Type 0} (P : A → Type 0) (xs : List A) (x : A) (ys : List A)
 all_at P [] x ys h = All-head P x ys h
 all_at P (y ∷ xs) x ys h = all_at P xs x ys (All-tail P y (xs ++ x ∷ ys) h)
 
-pub joined_one : (done : List Pass) (p : Pass) (k : CallerView) (seat other new : Me ℕ (List CallerView)) → seat ≡ (knowns done, []) → other ≡ (k ∷ [], []) → k ≡ p.known → new ≡ (seat.0 ++ other.0, seat.1) → new ≡ (knowns (done ++ p ∷ []), [])
-joined_one done p k seat other new s o is n =
-    n ∙ (λ i. ((s i).0 ++ (o i).0, (s i).1)) ∙ (λ i. (knowns done ++ is i ∷ [], [])) ∙ (λ i. (sym (map-append (λ (h : Pass). h.known) done (p ∷ [])) i, []))
+pub joined_one : (done : List Pass) (p : Pass) (seat new : Me ℕ (List CallerView)) → seat ≡ (knowns done, []) → new ≡ (seat.0 ++ p.known ∷ [], seat.1) → new ≡ (knowns (done ++ p ∷ []), [])
+joined_one done p seat new s n =
+    n ∙ (λ i. ((s i).0 ++ p.known ∷ [], (s i).1)) ∙ (λ i. (sym (map-append (λ (h : Pass). h.known) done (p ∷ [])) i, []))
 
-pub kept_one : (kept now : List Kept) (done : List Pass) (k : Kept) (p : Pass) → AreKept kept done → now ≡ kept ++ k ∷ [] → pass_kept k ≡ pass_did p → AreKept now (done ++ p ∷ [])
-kept_one kept now done k p h n e =
-    ap (map pass_kept) n ∙ map-append pass_kept kept (k ∷ []) ∙ (λ i. h i ++ e i ∷ []) ∙ sym (map-append pass_did done (p ∷ []))
+pub kept_one : (kept now : List Kept) (done : List Pass) (p : Pass) → AreKept kept done → map pass_kept now ≡ map pass_kept kept ++ pass_did p ∷ [] → AreKept now (done ++ p ∷ [])
+kept_one kept now done p h n = n ∙ ap (λ l. l ++ pass_did p ∷ []) h ∙ sym (map-append pass_did done (p ∷ []))
 
 -- the replica that has seen most, with one pass more
 one_before : (plan : Planned) (seen : List Event) (ks : List CallerView) (k : CallerView) → (plan ≡ k.setting.plan) × (seen ≡ k.seen) → IsOneOf plan seen (ks ++ k ∷ [])
@@ -64,36 +62,24 @@ latest_still most now s replica ps p count same kept less is h = subst (IsLatest
 })
 
 -- the replica of the first pass
-latest_first : (now : ℕ) (replica : State) (p : Pass) (count : ℕ) → now ≡ count → count ≡ length p.known.seen → replica ≡ state_of p.known → IsLatest now replica (knowns (p ∷ []))
-latest_first now replica p count same is state = record {
+pub latest_first : (replica : State) (p : Pass) (count : ℕ) → count ≡ length p.known.seen → replica ≡ state_of p.known → IsLatest count replica (knowns (p ∷ []))
+latest_first replica p count is state = record {
   plan = p.known.setting.plan;
   seen = p.known.seen;
   state = state;
-  count = same ∙ is;
+  count = is;
   one = inl (refl, refl);
   short = (omega arith, tt);
 }
 
--- the replica so far is of the passes so far that has seen most, if there are passes
-abbrev pub LatestSoFar : Option Graph → ℕ → List Pass → Type 0
-LatestSoFar replica most done = MatchOption replica ((done ≡ []) × (most ≡ 0)) (λ g. IsLatest most g.state (knowns done))
-
-pub latest_next : (most now : ℕ) (old : Option Graph) (mine replica : Graph) (ps : List Pass) (p : Pass) (count : ℕ) → now ≡ max most count → (most < count → replica ≡ mine) → (count ≤ most → replica ≡ unwrap_or old mine) → count ≡ length p.known.seen → mine.state ≡ state_of p.known
-    → LatestSoFar old most ps → IsLatest now replica.state (knowns (ps ++ p ∷ []))
-latest_next most now None mine replica ps p count n newer older is state h =
-    subst (λ (l : List Pass). IsLatest now replica.state (knowns (l ++ p ∷ []))) (sym h.0)
-    (latest_first now replica.state p count (let none = h.1 in omega arith) is (ap (λ (g : Graph). g.state) (go (leb count most) refl) ∙ state))
-  where
-    go : (b : Bool) → leb count most ≡ b → replica ≡ mine
-    go true e = older (leb-true count most e)
-    go false e = newer (leb-false count most e)
-latest_next most now (Some g) mine replica ps p count n newer older is state h = go (leb count most) refl
+pub latest_next : (most now : ℕ) (old mine replica : Graph) (ps : List Pass) (p : Pass) (count : ℕ) → now ≡ max most count → (most < count → replica ≡ mine) → (count ≤ most → replica ≡ old) → count ≡ length p.known.seen → mine.state ≡ state_of p.known
+    → IsLatest most old.state (knowns ps) → IsLatest now replica.state (knowns (ps ++ p ∷ []))
+latest_next most now old mine replica ps p count n newer older is state h = go (leb count most) refl
   where
     go : (b : Bool) → leb count most ≡ b → IsLatest now replica.state (knowns (ps ++ p ∷ []))
-    go true e = let le : count ≤ most = leb-true count most e in latest_still most now g.state replica.state ps p count (omega arith) (ap (λ (x : Graph). x.state) (older le)) le is h
-    go false e = let lt : most < count = leb-false count most e in latest_new most g.state ps p now replica.state (omega arith) (let m : now ≡ count = omega arith in m ∙ is) (ap (λ (x : Graph). x.state) (newer lt) ∙ state) h
+    go true e = let le : count ≤ most = leb-true count most e in latest_still most now old.state replica.state ps p count (omega arith) (ap (λ (x : Graph). x.state) (older le)) le is h
+    go false e = let lt : most < count = leb-false count most e in latest_new most old.state ps p now replica.state (omega arith) (let m : now ≡ count = omega arith in m ∙ is) (ap (λ (x : Graph). x.state) (newer lt) ∙ state) h
 
 -- of all passes
-pub latest_of_all : (replica : Option Graph) (most : ℕ) (done all : List Pass) → done ≡ all → LatestSoFar replica most done → MatchOption replica (all ≡ []) (λ g. (m : ℕ) × IsLatest m g.state (knowns all))
-latest_of_all None most done all is h = sym is ∙ h.0
-latest_of_all (Some g) most done all is h = (most, subst (λ (l : List Pass). IsLatest most g.state (knowns l)) is h)
+pub latest_of_all : (s : State) (most : ℕ) (done all : List Pass) → done ≡ all → IsLatest most s (knowns done) → IsLatestOf all s
+latest_of_all s most done all is h = (most, subst (λ (l : List Pass). IsLatest most s (knowns l)) is h)

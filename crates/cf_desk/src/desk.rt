@@ -6,23 +6,25 @@ mod reading;
 mod steps;
 
 ghost use Rattle.std.specs.Prelude.{◌≡◌, ◌≢◌, ◌<◌, ◌≤◌, ◌+◌, ◌↔◌, All, IfErr, IfOk, IsTrue, MatchOption, OnOk, [], length, true, vec_capacity, vec_len};
-ghost use Rattle.cf_forms.specs.Plans.{function_at, has_place, with_room};
+ghost use Rattle.cf_forms.specs.Plans.{function_at, has_place};
 ghost use Rattle.cf_model.specs.States.{start};
 ghost use Rattle.cf_desk.specs.declared.faults.OpenFault.TheVariants.{NoMemory};
 ghost use Rattle.cf_desk.specs.Faults.{AreCounts, IsDueToGrow, IsDueToOpen, MayGrow};
 ghost use Rattle.cf_desk.specs.Openings.{IsOpened, IsRowOf, StandsForAll, StandsFrom, fixed_setting, growing_setting, pass_at, passes_at, setting_of};
+ghost use Rattle.cf_desk.specs.Rule.{first};
 ghost use Rattle.cf_desk.specs.Views.{IsOf};
 
 use crate::calls::{Kept, Rec};
 use crate::faults::OpenFault;
 use crate::functions::function_bound;
+use crate::opened::OpenedPlan;
 use crate::pass::Pass;
 use crate::row::{DeskConfig, GivesFirst, LogConfig, RowRule, SeatView};
 use crate::sizes::{DeskGrowth, DeskSizes};
 use atomic_table::{Seat, Table};
 use cf_core::Graph;
 use cf_model::{Ask, Event, Told};
-use cf_plan::{GrowingPlan, Plan};
+use cf_plan::Plan;
 use std::alloc::{AllocError, Global};
 use std::marker::Model;
 
@@ -181,14 +183,6 @@ fn count_fault(sizes: DeskSizes) -> Option<OpenFault>
     None
 }
 
-/// A plan with so much room, as the row is told of it.
-fn growing(alloc: Global, plan: &Plan, room: u16) -> Result<GrowingPlan, AllocError>
-    requires { has_place plan.now.stages room ≡ true }
-    ensures { IfOk result (λ grown. grown ≡ with_room plan.now room) }
-{
-    GrowingPlan::new(alloc, plan.share()?, room)
-}
-
 /// What a place for a record holds before any call.
 const NO_RECORD: Rec = Rec::Saw {
     place: 0,
@@ -222,26 +216,40 @@ struct Opening<'a> {
     growth: DeskGrowth,
 }
 
+/// Empty words, from which the rows of small desks are copied.
+static EMPTY: [u64; 128] = [0; 128];
+
+/// A row of as many empty words as it is told, and the seat that stands for all passes.
+fn empty_row(alloc: Global, terms: &LogConfig) -> Result<(Row, Seat<u8, SeatView>), AllocError>
+    ensures key { IfOk result (λ r. r.0.shared.key ≡ terms.now) }
+    ensures row { IfOk result (λ r. IsRowOf terms.now.words r.0.shared.table_id) }
+    ensures seat { IfOk result (λ r. (r.1.table_id ≡ r.0.shared.table_id) × (r.1.me ≡ (first terms.now, []))) }
+{
+    let words = terms.words as usize;
+    if words <= EMPTY.len() {
+        return Table::of_words(alloc, &EMPTY[..words], terms);
+    }
+    let zeros = vec![in alloc; 0u64; words]?;
+    Table::of_words(alloc, zeros.as_slice(), terms)
+}
+
 /// A row of empty words, the seat that stands for all passes, and what the row was told.
 fn new_row(opening: &Opening<'_>) -> Result<(Row, Seat<u8, SeatView>, LogConfig), AllocError>
-    requires { has_place opening.now.plan.now.stages opening.now.growth.room ≡ true }
     ensures terms { IfOk result (λ r. (r.2.setting ≡ setting_of opening.now) × (r.2.words ≡ opening.now.sizes.log)) }
     ensures key { IfOk result (λ r. r.0.shared.key ≡ r.2) }
     ensures row { IfOk result (λ r. IsRowOf opening.now.sizes.log r.0.shared.table_id) }
     ensures seat { IfOk result (λ r. (r.1.table_id ≡ r.0.shared.table_id) × StandsForAll opening.now r.1.me) }
 {
-    let words = opening.sizes.log;
-    let zeros = vec![in opening.alloc; 0u64; words as usize]?;
     let terms = LogConfig {
         setting: DeskConfig {
-            plan: growing(opening.alloc, opening.plan, opening.growth.room)?,
+            plan: OpenedPlan::new(opening.plan, opening.growth.room)?,
             callers: opening.sizes.callers,
             functions: opening.growth.functions,
         },
-        words,
+        words: opening.sizes.log,
     };
-    match Table::of_words(opening.alloc, zeros.as_slice(), &terms) {
-        Ok((table, seat)) => Ok((table, seat, terms)),
+    match empty_row(opening.alloc, &terms) {
+        Ok((row, seat)) => Ok((row, seat, terms)),
         Err(refused) => {
             drop(terms);
             Err(refused)

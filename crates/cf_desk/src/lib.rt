@@ -29,6 +29,7 @@ mod faults;
 mod functions;
 pub mod laws;
 mod notice;
+mod opened;
 mod pass;
 mod row;
 mod sizes;

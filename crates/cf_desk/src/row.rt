@@ -1,13 +1,13 @@
 //! The row of words, its rule, and what each step tells.
+use crate::opened::OpenedPlan;
 use atomic_table::{Join, Play, Split, TableRule};
 use cf_model::Event;
-use cf_plan::GrowingPlan;
 use std::collections::LinkedList;
 
 /// What a desk is opened with: its plan with the room for more stages, and the numbers of its callers and functions.
 #[derive(Drop)]
 pub struct DeskConfig {
-    pub plan: GrowingPlan,
+    pub plan: OpenedPlan,
     pub callers: u8,
     pub functions: u32,
 }

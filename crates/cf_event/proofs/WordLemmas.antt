@@ -15,7 +15,7 @@ use Rattle.cf_model.specs.declared.events.Event.{Event}
 use Rattle.cf_model.specs.declared.events.Event.TheVariants.{Complete as Completes, Fail as Fails, FailAs as FailsAs, Cancel as Cancels, Claim as Claims, Finish as Finishes, Tick as Ticks, Attach as Attaches}
 use Rattle.cf_model.specs.declared.events.Failure.TheVariants.{TimedOut, BadAnswer}
 use Rattle.cf_event.specs.Words.{IsAnswer, IsEvent, IsValue, answer_low, answer_tag, attach_low, count_of, first_of, value_low, value_tag, word_of, word_with}
-use Rattle.cf_event.specs.Decoding.{answer_with, attach_with, claim_of, decoded, decoded_with, event_of, event_with, failure_with, giving_of, value_with}
+use Rattle.cf_event.specs.Decoding.{answer_with, attach_with, claim_of, completing_of, decoded, decoded_with, event_of, event_with, failure_with, giving_of, value_with}
 use Rattle.cf_event.proofs.AttachLemmas.{attach_back, attach_small, attach_with_is, chosen, count_small}
 
 -- a word's fields
@@ -138,7 +138,7 @@ found_is w (Some e) h = event_of_is w e h
 pub every_is : (w : ℕ) (x : Option Event) → event_of w ≡ x → (e : Event) → IsEvent e → word_of e ≡ w → x ≡ Some e
 every_is w x h e is same = sym h ∙ ap event_of (sym same) ∙ event_of_own_word e is
 
--- ---- the two kinds that have a comparison of their own
+-- ---- the three kinds that have a comparison of their own
 
 pub claim_there : (w : ℕ) → w / 2 ^ 54 ≡ 16 → w % 2 ^ 36 ≡ 0 → event_of w ≡ Some (Claims (w / 2 ^ 48 % 64) (w / 2 ^ 36 % 4096))
 claim_there w head rest = every_is w (event_of w) refl (Claims (w / 2 ^ 48 % 64) (w / 2 ^ 36 % 4096)) (omega arith, omega arith) (omega (arith, head, rest))
@@ -204,6 +204,40 @@ no_giving w no_int no_nil = by_event (event_of w) refl
     by_event (Some (Finishes who i (Give (Int z)))) e =
         (let is = event_of_is w (Finishes who i (Give (Int z))) e in
         let found = int_only w who i (value_low (Int z)) is.0.0 is.0.1 (value_small (Int z) is.0.2).1 is.1 in absurd (no_int found.0 found.1))
+    by_event (Some (Ticks who now)) e = refl
+    by_event (Some (Attaches who form of function)) e = refl
+
+pub completing_there : (w : ℕ) → w / 2 ^ 54 ≡ 4 → w / 2 ^ 32 % 16 ≡ 1 → event_of w ≡ Some (Completes (w / 2 ^ 48 % 64) (w / 2 ^ 36 % 4096) (Int (cast_signed w32 (w % 2 ^ 32))))
+completing_there w head tag =
+    let v = Int (cast_signed w32 (w % 2 ^ 32)) in
+    let is = value_with_is 1 (w % 2 ^ 32) v (omega arith) refl in
+    let low = is.2 in
+    every_is w (event_of w) refl (Completes (w / 2 ^ 48 % 64) (w / 2 ^ 36 % 4096) v) (omega arith, omega arith, is.0)
+    (ap (λ low. word_with 1 (w / 2 ^ 48 % 64) (w / 2 ^ 36 % 4096) 1 low) low ∙ whole)
+  where
+    whole : word_with 1 (w / 2 ^ 48 % 64) (w / 2 ^ 36 % 4096) 1 (w % 2 ^ 32) ≡ w
+    whole = omega (arith, head, tag)
+
+pub completing_named : (w : ℕ) → w / 2 ^ 54 ≡ 4 → w / 2 ^ 32 % 16 ≡ 1 → word_of (Completes (w / 2 ^ 48 % 64) (w / 2 ^ 36 % 4096) (Int (cast_signed w32 (w % 2 ^ 32)))) ≡ w
+completing_named w head tag = (event_of_is w (Completes (w / 2 ^ 48 % 64) (w / 2 ^ 36 % 4096) (Int (cast_signed w32 (w % 2 ^ 32)))) (completing_there w head tag)).1
+
+completing_only : (w who i low : ℕ) → who ≤ 63 → i ≤ 4095 → low < 2 ^ 32 → word_with 1 who i 1 low ≡ w → (w / 2 ^ 54 ≡ 4) × (w / 2 ^ 32 % 16 ≡ 1)
+completing_only w who i low small there l word = (omega (arith, small, there, l, word), omega (arith, small, there, l, word))
+
+pub no_completing : (w : ℕ) → (w / 2 ^ 54 ≡ 4 → w / 2 ^ 32 % 16 ≡ 1 → ⊥) → option_and_then completing_of (event_of w) ≡ None
+no_completing w other = by_event (event_of w) refl
+  where
+    by_event : (x : Option Event) → event_of w ≡ x → option_and_then completing_of x ≡ None
+    by_event None e = refl
+    by_event (Some (Completes who i Nil)) e = refl
+    by_event (Some (Completes who i (Int z))) e =
+        (let is = event_of_is w (Completes who i (Int z)) e in
+        let found = completing_only w who i (value_low (Int z)) is.0.0 is.0.1 (value_small (Int z) is.0.2).1 is.1 in absurd (other found.0 found.1))
+    by_event (Some (Fails who i code)) e = refl
+    by_event (Some (FailsAs who i failure)) e = refl
+    by_event (Some (Cancels who i)) e = refl
+    by_event (Some (Claims who i)) e = refl
+    by_event (Some (Finishes who i answer)) e = refl
     by_event (Some (Ticks who now)) e = refl
     by_event (Some (Attaches who form of function)) e = refl
 

@@ -1,5 +1,5 @@
 -- Words as events.
-use Rattle.std.specs.Prelude.{ℕ, ◌^◌, ◌/◌, ◌%◌, ◌==◌, ◌&&◌, nat_lt, true, false, Option, Some, None, List, [], ◌∷◌, slice_get, option_and_then, if◌then◌else◌}
+use Rattle.std.specs.Prelude.{ℕ, ℤ, ◌^◌, ◌/◌, ◌%◌, ◌==◌, ◌&&◌, nat_lt, true, false, Option, Some, None, List, [], ◌∷◌, slice_get, option_and_then, if◌then◌else◌}
 use Rattle.std.specs.Int.{w32, cast_signed}
 use Rattle.std.specs.Option.{option_map}
 use Rattle.cf_outcome.specs.declared.outcome.Value.{Value}
@@ -85,6 +85,11 @@ claim_of e = None
 abbrev pub giving_of : Event → Option (ℕ × ℕ × Value)
 giving_of (Finishes who i (Give v)) = Some (who, i, v)
 giving_of e = None
+
+-- the caller, the stage and the number of a completion with a number
+abbrev pub completing_of : Event → Option (ℕ × ℕ × ℤ)
+completing_of (Completes who i (Int z)) = Some (who, i, z)
+completing_of e = None
 
 -- the event of a word, and those of the words behind it: none where the word is no event's
 abbrev pub decoded_with : Option Event → List Event → List Event

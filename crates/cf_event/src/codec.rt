@@ -1,10 +1,11 @@
 //! The word of an event, and the event of a word.
 ghost use Rattle.std.specs.Prelude.{◌≡◌, ◌<◌, ◌≤◌, ◌^◌, ◌↔◌, IfSome, IsTrue, Some, option_and_then};
+ghost use Rattle.cf_outcome.specs.declared.outcome.Value.TheVariants.{Int};
 ghost use Rattle.cf_forms.specs.declared.forms.Answer.TheVariants.{Give};
 ghost use Rattle.cf_model.specs.declared.events.Event.{Event};
-ghost use Rattle.cf_model.specs.declared.events.Event.TheVariants.{Claim as Claims, Finish as Finishes};
+ghost use Rattle.cf_model.specs.declared.events.Event.TheVariants.{Claim as Claims, Complete as Completes, Finish as Finishes};
 ghost use Rattle.cf_event.specs.Words.{IsEvent, answer_low, answer_tag, failure_tag, value_low, value_tag, word_of, word_with};
-ghost use Rattle.cf_event.specs.Decoding.{answer_with, claim_of, event_of, event_with, failure_with, giving_of, value_with};
+ghost use Rattle.cf_event.specs.Decoding.{answer_with, claim_of, completing_of, event_of, event_with, failure_with, giving_of, value_with};
 
 use crate::attaching::{attach_low, attach_with, count_of, first_of, is_stage, second_of};
 use cf_forms::Answer;
@@ -138,6 +139,21 @@ pub fn giving_of(w: u64) -> Option<(u8, u16, Value)>
         return None;
     }
     Some((who, stage, Value::Nil))
+}
+
+/// The caller, the stage and the number of a completion's word, or nothing where the word is another, or completes a stage
+/// without a number.
+#[inline(always)]
+#[tactic(auto, using(crate::proofs::WordLemmas::completing_there, crate::proofs::WordLemmas::completing_named, crate::proofs::WordLemmas::no_completing))]
+pub fn completing_of(w: u64) -> Option<(u8, u16, i32)>
+    ensures completing { result ≡ option_and_then completing_of (event_of w) }
+    ensures named { IfSome result (λ f. word_of (Completes f.0 f.1 (Int f.2)) ≡ w) }
+{
+    if w / HEAD != 4 || w / TAG % 16 != 1 {
+        return None;
+    }
+    let number = ((w % TAG) as u32).cast_signed();
+    Some(((w / WHO % 64) as u8, (w / STAGE % 4096) as u16, number))
 }
 
 /// The event with these fields, if there is one.

@@ -17,5 +17,5 @@ mod record;
 pub use applying::{apply, replay};
 pub use attaching::{LAST_FUNCTION, is_function};
 pub use cf_model::{Event, Reply};
-pub use codec::{LAST_CALLER, claim_of, decode, encode, giving_of, is_event};
+pub use codec::{LAST_CALLER, claim_of, completing_of, decode, encode, giving_of, is_event};
 pub use record::Record;

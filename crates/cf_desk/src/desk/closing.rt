@@ -1,10 +1,10 @@
 //! How a desk is closed.
-ghost use Rattle.std.specs.Prelude.{◌≡◌, ◌<◌, ◌≤◌, [], All, IsOkAnd, MatchOption, unwrap_or, vec_capacity, vec_len};
+ghost use Rattle.std.specs.Prelude.{◌≡◌, ◌+◌, ◌<◌, ◌≤◌, ◌++◌, ◌∷◌, [], All, IsOkAnd, length, map, vec_capacity, vec_len};
 ghost use Rattle.std.specs.Mem.Slots.{IsFull, slots_items, slots_len};
-ghost use Rattle.cf_event.specs.Decoding.{decoded};
+ghost use Rattle.cf_event.specs.Decoding.{decoded, event_of};
 ghost use Rattle.cf_desk.specs.Closings.{HoldsAllEvents, PassesFit, ShowsOneHistory, ToldOneHistory};
-ghost use Rattle.cf_desk.specs.Keepings.{AreKept, IsCallers, IsFit};
-ghost use Rattle.cf_desk.specs.Views.{Closes, IsLatestOf, knowns};
+ghost use Rattle.cf_desk.specs.Keepings.{AreKept, IsCallers, IsFit, pass_did, pass_kept};
+ghost use Rattle.cf_desk.specs.Views.{Closes, IsLatestOf, knowns, state_of};
 
 use crate::calls::{Closed, Kept};
 use crate::desk::{Desk, Row};
@@ -13,9 +13,12 @@ use crate::pass::Pass;
 use crate::row::{SeatView, Sits, StandsForBoth};
 use atomic_table::Seat;
 use cf_core::Graph;
-use cf_event::decode;
+use cf_event::{claim_of, completing_of, decode, giving_of};
+use cf_forms::Answer;
 use cf_model::Event;
+use cf_outcome::Value;
 use std::alloc::Global;
+use std::mem;
 
 impl Desk {
     /// Takes the desk apart. It takes all its passes, each once, in any order. It answers all events in their one order,
@@ -37,69 +40,90 @@ impl Desk {
             history,
             kept,
         } = self;
-        let (seat, replica, kept) = gather(&table, passes, kept);
+        let (seat, graph, kept) = gather(&table, passes, kept);
         let closed = table.close_with(seat);
         let history = decode_row(&closed, terms.words, history);
         closed.free();
-        match replica {
-            // There is a pass, since there is a caller.
-            None => unreachable!(),
-            Some(graph) => Ok(Closed {
-                history,
-                passes: kept,
-                graph,
-            }),
-        }
+        Ok(Closed {
+            history,
+            passes: kept,
+            graph,
+        })
     }
 }
 
-/// Joins the seats of all passes into one, and finds the replica that has seen most.
+/// Joins the seats of all passes, of which there is one at least, and finds the replica that has seen most.
 fn gather(
     row: &Row,
     passes: Vec<Pass>,
     mut kept: Vec<Kept>,
-) -> (Seat<u8, SeatView>, Option<Graph>, Vec<Kept>)
+) -> (Seat<u8, SeatView>, Graph, Vec<Kept>)
+    requires some { 0 < vec_len passes }
     requires table { (0 < row.now.shared.table_id.words) × All (λ p. p.table ≡ row.now.shared.table_id) passes.items }
     requires kept { (kept.items ≡ []) × (vec_len passes ≤ vec_capacity kept) }
     ensures seat { (result.0.table_id ≡ row.now.shared.table_id) × (result.0.me ≡ (knowns passes.items, [])) }
-    ensures replica { MatchOption result.1 (passes.items ≡ []) (λ replica. IsLatestOf passes.items replica.state) }
+    ensures replica { IsLatestOf passes.items result.1.state }
     ensures kept { AreKept result.2.items passes.items }
     ensures callers { All IsCallers passes.items }
     ensures fit { All IsFit passes.items }
 {
     let mut seat = row.shared.load_new_seat::<Sits>(0).1;
-    let mut replica = None;
-    let mut most = 0;
     let mut rest = passes.into_iter();
+    let Some(first) = rest.next() else {
+        unreachable!()
+    };
+    let (mut latest, mut most) = take_apart(row, first, &mut seat, &mut kept);
     'next: while let Some(pass) = rest.next() {
-        let Pass {
-            seat: other,
-            caller,
-            count,
-            functions: _,
-            replica: mine,
-            records,
-            calls: _,
-            padding: _,
-        } = pass;
-        row.shared.join_seat::<StandsForBoth>(&mut seat, other);
-        replica = Some(later(replica, most, mine, count));
+        let (replica, count) = take_apart(row, pass, &mut seat, &mut kept);
+        keep_later(&mut latest, most, replica, count);
         most = most.max(count);
-        kept.push_reserved(Kept { caller, records });
     }
-    (seat, replica, kept)
+    (seat, latest, kept)
 }
 
-/// Of two replicas the one that has seen more.
-fn later(replica: Option<Graph>, most: u16, mine: Graph, count: u16) -> Graph
-    ensures newer { most < count → result ≡ mine }
-    ensures older { count ≤ most → result ≡ unwrap_or replica mine }
+/// Joins the seat of a pass to another, and keeps its caller and records. It gives its replica, with how many events that
+/// has seen.
+fn take_apart(
+    row: &Row,
+    pass: Pass,
+    seat: &mut Seat<u8, SeatView>,
+    kept: &mut Vec<Kept>,
+) -> (Graph, u16)
+    requires words { 0 < row.now.shared.table_id.words }
+    requires table { (pass.table ≡ row.now.shared.table_id) × (seat.old.table_id ≡ row.now.shared.table_id) }
+    requires room { vec_len kept.old < vec_capacity kept.old }
+    ensures table { seat.new.table_id ≡ seat.old.table_id }
+    ensures seat { seat.new.me ≡ (seat.old.me.0 ++ pass.known ∷ [], seat.old.me.1) }
+    ensures kept { map pass_kept kept.new.items ≡ map pass_kept kept.old.items ++ pass_did pass ∷ [] }
+    ensures room { (vec_len kept.new ≡ vec_len kept.old + 1) × (vec_capacity kept.new ≡ vec_capacity kept.old) }
+    ensures replica { (result.0.state ≡ state_of pass.known) × (result.1 ≡ length pass.known.seen) }
+    ensures caller { IsCallers pass }
+    ensures fit { IsFit pass }
+{
+    let Pass {
+        seat: other,
+        caller,
+        count,
+        functions: _,
+        replica,
+        records,
+        calls: _,
+        padding: _,
+    } = pass;
+    row.shared.join_seat::<StandsForBoth>(seat, other);
+    kept.push_reserved(Kept { caller, records });
+    (replica, count)
+}
+
+/// Keeps of two replicas the one that has seen more.
+fn keep_later(latest: &mut Graph, most: u16, mine: Graph, count: u16)
+    ensures newer { most < count → latest.new ≡ mine }
+    ensures older { count ≤ most → latest.new ≡ latest.old }
 {
     if count <= most {
-        return replica.unwrap_or(mine);
+        return;
     }
-    drop(replica);
-    mine
+    drop(mem::replace(latest, mine));
 }
 
 /// Reads the events of the filled words.
@@ -113,10 +137,30 @@ fn decode_row(
     ensures { result.items ≡ decoded (slots_items row.now.words) }
 {
     for place in 0..words {
-        match decode(row.word(place as usize)) {
+        match event_in(row.word(place as usize)) {
             None => return history,
             Some(event) => history.push_reserved(event),
         }
     }
     history
+}
+
+/// The event of a word, or nothing where the word is no event's. Claims, finishes that give a value, and completions with a
+/// number are nearly all words, and are told apart by a comparison or two each.
+#[inline(always)]
+fn event_in(word: u64) -> Option<Event>
+    ensures { result ≡ event_of word }
+{
+    if let Some((who, stage)) = claim_of(word) {
+        return Some(Event::Claim { who, stage });
+    }
+    if let Some((who, stage, v)) = giving_of(word) {
+        let answer = Answer::Give(v);
+        return Some(Event::Finish { who, stage, answer });
+    }
+    if let Some((who, stage, number)) = completing_of(word) {
+        let value = Value::Int(number);
+        return Some(Event::Complete { who, stage, value });
+    }
+    decode(word)
 }

@@ -12,14 +12,15 @@ use crate::pass::Pass;
 use crate::row::{Adds, Finds, KeepsFirst, Levels, Looks, SeatView, Sits, StandsForBoth};
 use atomic_table::Seat;
 use cf_core::Graph;
-use cf_event::{apply, claim_of, decode, encode, giving_of};
+use cf_event::{apply, claim_of, completing_of, decode, encode, giving_of};
 use cf_forms::Answer;
 use cf_model::{Call, Event, Reply, event_by};
+use cf_outcome::Value;
 use std::mem;
 
 /// Does the event of another caller's word to a replica, and says whether the word is one. It is a call of its own: with
-/// the graph's answer to an event of any kind in it `act` would be too large to stand in its callers' code. A claim, and
-/// a finish that gives a value, are nearly all words, and are told apart by one comparison each.
+/// the graph's answer to an event of any kind in it `act` would be too large to stand in its callers' code. Claims, finishes
+/// that give a value, and completions with a number are nearly all words, and are told apart by a comparison or two each.
 #[inline(never)]
 fn redo(replica: &mut Graph, word: u64) -> bool
     requires { IfSome (event_of word) (λ e. EventFits (length replica.old.state.plan.stages) e) }
@@ -31,6 +32,10 @@ fn redo(replica: &mut Graph, word: u64) -> bool
     }
     if let Some((who, stage, v)) = giving_of(word) {
         replica.finish(who, stage, Answer::Give(v));
+        return true;
+    }
+    if let Some((_, stage, number)) = completing_of(word) {
+        replica.complete(stage, Value::Int(number));
         return true;
     }
     match decode(word) {

@@ -1,8 +1,7 @@
 use Rattle.std.proofs.Common.{◌≡◌, ◌≤◌, ◌+◌, ◌++◌, [], List, All, vec_len, vec_capacity}
 use Rattle.std.specs.Vec.Iter.{into_iter_items, into_iter_len}
-use Rattle.cf_desk.specs.Views.{Pass, knowns}
+use Rattle.cf_desk.specs.Views.{Pass, IsLatest, knowns}
 use Rattle.cf_desk.specs.Keepings.{AreKept, IsCallers, IsFit}
-use Rattle.cf_desk.proofs.Gathers.{LatestSoFar}
 use Rattle.cf_desk.proofs.desk.closing.gather.Given as goal
 
 abbrev pub invariant-next : goal.invariant-next
@@ -13,7 +12,7 @@ invariant-next l = record {
   table : l.seat.table_id ≡ l.row.shared.table_id;
   seat : l.seat.me ≡ (knowns done, []);
   kept : AreKept l.kept.items done;
-  replica : LatestSoFar l.replica l.most done;
+  replica : IsLatest l.most l.latest.state (knowns done);
   callers : All IsCallers done;
   fit : All IsFit done;
 }
