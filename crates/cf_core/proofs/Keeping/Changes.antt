@@ -12,11 +12,14 @@ use Rattle.cf_model.specs.States.{is_ready, outcome_of}
 use Rattle.cf_model.specs.Graphs.{AreChanges, MovesAlone, NoneLeftUpTo, rank, stage_in}
 use Rattle.cf_model.proofs.StateLemmas.{slice_get-set_other}
 use Rattle.cf_core.specs.declared.kept.KeptStage.{KeptStage}
+use Rattle.cf_core.specs.declared.kept.Treated.{Treated}
+use Rattle.cf_core.specs.declared.kept.Treated.TheVariants.{Same}
 use Rattle.cf_core.specs.declared.stages.Stages.{Stages}
 use Rattle.cf_core.specs.Keeping.Changes.{HaveMoved}
-use Rattle.cf_core.specs.Keeping.Treatment.{due_kept, late_due, linked_kept, stages_of, dated_in, treated, treated_by}
+use Rattle.cf_core.specs.Keeping.Treatment.{became, due_kept, late_due, linked_kept, stages_of, dated_in, treated, treated_by}
 use Rattle.cf_core.specs.Keeping.Sound.{kept_at}
 use Rattle.cf_core.specs.Keeping.SoundStages.{AreSound, KeptMovesAlone, lowest_marked_in, settled_view_of}
+use Rattle.cf_core.specs.Keeping.Taking.{made_of}
 use Rattle.cf_core.specs.Keeping.Turns.{planned_at, turned}
 use Rattle.cf_core.proofs.Keeping.Above.{leaves_none}
 use Rattle.cf_core.proofs.Keeping.Marking.{get-set_same}
@@ -138,6 +141,67 @@ pub turn_alone : (plan : List PlannedStage) (kept : List KeptStage) (m : ℕ) �
 turn_alone plan kept m l =
     let k = kept_at kept m in
     alone_written kept m (treated kept (planned_at plan m) k) l (treated_onward kept (planned_at plan m) k.stage k.step) (treated_stays kept (planned_at plan m) k.stage k.step)
+
+-- what a turn tells: that its stage is as before, or that it has come further
+
+due_same : (due : Due) (at step : ℕ) → became ((due_kept due at step).stage) ≡ Same → rank ((due_kept due at step).stage) ≤ 0
+due_same Waits at step e = omega arith
+due_same (Settles o) at step e = cc
+due_same (Needs args) at step e = cc
+
+due_further : (due : Due) (at step : ℕ) → became ((due_kept due at step).stage) ≢ Same → 0 < rank ((due_kept due at step).stage)
+due_further Waits at step ne = absurd (ne refl)
+due_further (Settles o) at step ne = omega arith
+due_further (Needs args) at step ne = omega arith
+
+link_same : (j step : ℕ) (x : Option (Outcome × ℕ)) → became ((linked_kept j step x).stage) ≡ Same → rank ((linked_kept j step x).stage) ≤ 3
+link_same j step None e = omega arith
+link_same j step (Some x) e = cc
+
+link_further : (j step : ℕ) (x : Option (Outcome × ℕ)) → became ((linked_kept j step x).stage) ≢ Same → 3 < rank ((linked_kept j step x).stage)
+link_further j step None ne = absurd (ne refl)
+link_further j step (Some x) ne = omega arith
+
+treated_same : (below : List KeptStage) (p : PlannedStage) (stage : Stage) (step : ℕ) → made_of stage ((treated_by below p stage step).stage) ≡ Same → rank ((treated_by below p stage step).stage) ≤ rank stage
+treated_same below p Pending step e = let due = late_due p.form (map (dated_in below) p.sources) in due_same due.0 due.1 step e
+treated_same below p (Linked j) step e = link_same j step (dated_in below j) e
+treated_same below p (Ready args) step e = omega arith
+treated_same below p Claimed step e = omega arith
+treated_same below p (Settled o) step e = omega arith
+
+treated_further : (below : List KeptStage) (p : PlannedStage) (stage : Stage) (step : ℕ) → made_of stage ((treated_by below p stage step).stage) ≢ Same → rank stage < rank ((treated_by below p stage step).stage)
+treated_further below p Pending step ne = let due = late_due p.form (map (dated_in below) p.sources) in due_further due.0 due.1 step ne
+treated_further below p (Linked j) step ne = link_further j step (dated_in below j) ne
+treated_further below p (Ready args) step ne = absurd (ne refl)
+treated_further below p Claimed step ne = absurd (ne refl)
+treated_further below p (Settled o) step ne = absurd (ne refl)
+
+module _ (plan : List PlannedStage) (kept new : List KeptStage) (m : ℕ) (told : Treated) (l : m < length kept) (is : new ≡ turned plan kept m)
+    (says : told ≡ made_of ((kept_at kept m).stage) ((kept_at new m).stage)) where
+  there : kept_at new m ≡ treated kept (planned_at plan m) (kept_at kept m)
+  there = ap (λ ks. kept_at ks m) is ∙ kept_put kept m (treated kept (planned_at plan m) (kept_at kept m)) l
+
+  by_treatment : told ≡ made_of ((kept_at kept m).stage) ((treated kept (planned_at plan m) (kept_at kept m)).stage)
+  by_treatment = says ∙ ap (λ (k : KeptStage). made_of ((kept_at kept m).stage) k.stage) there
+
+  rank_now : rank (stage_in (stages_of new) m) ≡ rank ((treated kept (planned_at plan m) (kept_at kept m)).stage)
+  rank_now = ap rank (kept_stage new m ∙ ap (λ (k : KeptStage). k.stage) there)
+
+  pub turn_same_rank : told ≡ Same → rank (stage_in (stages_of new) m) ≤ rank (stage_in (stages_of kept) m)
+  turn_same_rank e =
+      let k = kept_at kept m in
+      let least = treated_same kept (planned_at plan m) k.stage k.step (sym by_treatment ∙ e) in
+      let was = ap rank (kept_stage kept m) in
+      let now = rank_now in
+      omega (arith, least, was, now)
+
+  pub turn_further : told ≢ Same → rank (stage_in (stages_of kept) m) < rank (stage_in (stages_of new) m)
+  turn_further ne =
+      let k = kept_at kept m in
+      let more = treated_further kept (planned_at plan m) k.stage k.step (λ e. ne (by_treatment ∙ e)) in
+      let was = ap rank (kept_stage kept m) in
+      let now = rank_now in
+      omega (arith, more, was, now)
 
 -- ---- flags
 
