@@ -2,6 +2,7 @@
 use Rattle.std.proofs.Common.{◌≡◌, ◌≢◌, ℕ, ◌<◌, ◌≤◌, ◌∷◌, ◌++◌, [], List, Bool, true, false, Option, Some, None, length, suc, zero, arith, ap, sym, ◌∙◌, subst, refl, set, map, inl, inr}
 use Rattle.std.specs.Prelude.{slice_get, position, unwrap_or}
 use Rattle.std.proofs.lemmas.Bool.Decides.{eqb_tells}
+use Rattle.std.proofs.lemmas.Option.{slice_get_within}
 use Rattle.cf_outcome.specs.declared.outcome.Outcome.{Outcome}
 use Rattle.cf_forms.specs.declared.forms.Due.{Due}
 use Rattle.cf_forms.specs.declared.forms.Due.TheVariants.{Waits, Settles, Needs}
@@ -22,6 +23,7 @@ use Rattle.cf_core.specs.Keeping.SoundStages.{AreSound, KeptMovesAlone, lowest_m
 use Rattle.cf_core.specs.Keeping.Taking.{made_of}
 use Rattle.cf_core.specs.Keeping.Turns.{planned_at, turned}
 use Rattle.cf_core.proofs.Keeping.Above.{leaves_none}
+use Rattle.cf_core.proofs.Keeping.Flags.{past_flags}
 use Rattle.cf_core.proofs.Keeping.Marking.{get-set_same}
 use Rattle.cf_core.proofs.Keeping.Lowest.{all_steady, none_marked}
 use Rattle.cf_core.proofs.Keeping.Places.{kept_put}
@@ -205,21 +207,11 @@ module _ (plan : List PlannedStage) (kept new : List KeptStage) (m : ℕ) (told 
 
 -- ---- flags
 
-flag_within : (flags : List Bool) (i : ℕ) (b : Bool) → slice_get flags i ≡ Some b → i < length flags
-flag_within [] i b e = cc
-flag_within (x ∷ flags) zero b e = omega arith
-flag_within (x ∷ flags) (suc i) b e = let h = flag_within flags i b e in omega (arith, h)
-
-not_within : (flags : List Bool) (i : ℕ) → slice_get flags i ≡ None → length flags ≤ i
-not_within [] i e = omega arith
-not_within (x ∷ flags) zero e = cc
-not_within (x ∷ flags) (suc i) e = let h = not_within flags i e in omega (arith, h)
-
 -- at the beginning no flag is set, and no stage has moved
 pub moved_none : (stages : List Stage) (changed : List Bool) → position (λ b. b) changed ≡ None → HaveMoved stages stages changed
 moved_none stages changed none = record {
   same = λ i e. refl;
-  further = λ i e. (let no = none_marked changed (length changed) none (omega arith) i (flag_within changed i true e) in let is : Some true ≡ Some false = sym e ∙ no in cc);
+  further = λ i e. (let no = none_marked changed (length changed) none (omega arith) i (slice_get_within changed i true e) in let is : Some true ≡ Some false = sym e ∙ no in cc);
 }
 
 -- a stage moves, and its flag is set
@@ -237,7 +229,7 @@ moved_on old mid new changed d l h alone less = record {
 }
   where
     further_here : (x : Option Bool) → slice_get changed d ≡ x → rank (stage_in old d) < rank (stage_in new d)
-    further_here None e = absurd (omega (arith, l, not_within changed d e))
+    further_here None e = absurd (omega (arith, l, past_flags changed d e))
     further_here (Some false) e = let a = ap rank (h.same d e) in omega (arith, a, less)
     further_here (Some true) e = let a = h.further d e in omega (arith, a, less)
 
