@@ -8,10 +8,10 @@ ghost use Rattle.cf_forms.specs.Forms.{due_one};
 ghost use Rattle.cf_model.specs.declared.stage.Stage.TheVariants.{Claimed, Linked, Pending, Ready, Settled};
 ghost use Rattle.cf_model.specs.States.{is_ready, outcome_of};
 ghost use Rattle.cf_core.specs.Keeping.Cells.{kept_of, outcome_of_cell, taken_from, value_in, wrapped_of_cell};
-ghost use Rattle.cf_core.specs.Keeping.Treatment.{ready_kept, settled_kept};
+ghost use Rattle.cf_core.specs.Keeping.Treatment.{became, ready_kept, settled_kept};
 ghost use Rattle.cf_core.specs.Keeping.Sound.{is_waiting};
 
-use crate::kept::KeptStage;
+use crate::kept::{KeptStage, Treated};
 use cf_forms::{Args, Form};
 use cf_model::Stage;
 use cf_outcome::{Cause, Outcome, Value};
@@ -325,8 +325,9 @@ impl Cell {
 
     /// Settles it with the outcome of another, wrapped. What kind of outcome it is isn't looked at.
     #[inline(always)]
-    fn pass(&mut self, from: Cell, step: u32)
-        ensures { kept_of self.new ≡ settled_kept (wrapped_of_cell from) step }
+    fn pass(&mut self, from: Cell, step: u32) -> Treated
+        ensures kept { kept_of self.new ≡ settled_kept (wrapped_of_cell from) step }
+        ensures told { result ≡ became ((kept_of self.new).stage) }
     {
         self.kind = Kind::Settled;
         self.detail = from.detail;
@@ -334,65 +335,73 @@ impl Cell {
         self.step = step;
         self.number = from.number;
         self.payload = from.payload;
+        Treated::Settled
     }
 
     /// Makes it ready with the outcome of another. Its step stays.
     #[inline(always)]
-    fn get(&mut self, from: Cell)
-        ensures { kept_of self.new ≡ ready_kept (Got (outcome_of_cell from)) self.old.step }
+    fn get(&mut self, from: Cell) -> Treated
+        ensures kept { kept_of self.new ≡ ready_kept (Got (outcome_of_cell from)) self.old.step }
+        ensures told { result ≡ became ((kept_of self.new).stage) }
     {
         self.kind = Kind::Got;
         self.detail = from.detail;
         self.flag = from.flag;
         self.number = from.number;
         self.payload = from.payload;
+        Treated::Ready
     }
 
     /// Makes it ready with the value of another. Its step stays.
     #[inline(always)]
-    fn get_value(&mut self, from: Cell)
-        ensures { kept_of self.new ≡ ready_kept (One (value_in from.detail from.number)) self.old.step }
+    fn get_value(&mut self, from: Cell) -> Treated
+        ensures kept { kept_of self.new ≡ ready_kept (One (value_in from.detail from.number)) self.old.step }
+        ensures told { result ≡ became ((kept_of self.new).stage) }
     {
         self.kind = Kind::One;
         self.detail = from.detail;
         self.number = from.number;
+        Treated::Ready
     }
 
     /// Makes it ready without arguments. Its step stays.
     #[inline(always)]
-    fn get_none(&mut self)
-        ensures { kept_of self.new ≡ ready_kept NoArgs self.old.step }
+    fn get_none(&mut self) -> Treated
+        ensures kept { kept_of self.new ≡ ready_kept NoArgs self.old.step }
+        ensures told { result ≡ became ((kept_of self.new).stage) }
     {
         self.kind = Kind::None;
+        Treated::Ready
     }
 
     /// Lets a pending stage take what its one source has, which has settled.
     #[inline(always)]
-    pub fn take_one(&mut self, form: Form, from: Cell)
-        ensures { kept_of self.new ≡ taken_from form from self.old.step }
+    pub fn take_one(&mut self, form: Form, from: Cell) -> Treated
+        ensures kept { kept_of self.new ≡ taken_from form from self.old.step }
+        ensures told { result ≡ became ((kept_of self.new).stage) }
     {
         match form {
             Form::Handle | Form::WhenComplete => self.get(from),
             Form::AnyOf => self.pass(from, from.step),
             Form::Exceptionally | Form::ExceptionallyCompose => {
                 if from.is_fault() {
-                    self.get(from);
+                    self.get(from)
                 } else {
-                    self.pass(from, from.step);
+                    self.pass(from, from.step)
                 }
             }
             Form::ThenRun | Form::RunEither => {
                 if from.is_fault() {
-                    self.pass(from, from.step);
+                    self.pass(from, from.step)
                 } else {
-                    self.get_none();
+                    self.get_none()
                 }
             }
             _ => {
                 if from.is_fault() {
-                    self.pass(from, from.step);
+                    self.pass(from, from.step)
                 } else {
-                    self.get_value(from);
+                    self.get_value(from)
                 }
             }
         }

@@ -6,13 +6,13 @@ ghost use Rattle.cf_model.specs.declared.stage.Stage.TheVariants.{Pending};
 ghost use Rattle.cf_model.specs.States.{is_ready, outcome_of};
 ghost use Rattle.cf_core.specs.Keeping.Cells.{blank};
 ghost use Rattle.cf_core.specs.Keeping.Taking.{due_by_one, ready_with, with_one_taken};
-ghost use Rattle.cf_core.specs.Keeping.Treatment.{settled_kept};
+ghost use Rattle.cf_core.specs.Keeping.Treatment.{became, settled_kept};
 ghost use Rattle.cf_core.specs.Keeping.Sound.{is_waiting, kept_at};
 ghost use Rattle.cf_core.specs.Keeping.Offers.{args_of};
 ghost use Rattle.cf_core.specs.Keeping.Starts.{untreated};
 
 use crate::cell::{Cell, Detail, Kind};
-use crate::kept::KeptStage;
+use crate::kept::{KeptStage, Treated};
 use cf_forms::{Args, Form};
 use cf_model::Stage;
 use cf_outcome::{Outcome, Value};
@@ -190,16 +190,18 @@ impl Cells {
 
     /// Lets a pending stage take what its one source has, if that has settled.
     #[inline(always)]
-    pub fn take_one(&mut self, form: Form, j: u16, m: u16)
+    pub fn take_one(&mut self, form: Form, j: u16, m: u16) -> Treated
         requires stage { m < length self.old.items }
         requires source { j < length self.old.items }
         requires pending { (kept_at self.old.items m).stage ≡ Pending }
         ensures kept { self.new.items ≡ with_one_taken self.old.items form j m }
+        ensures told { result ≡ became ((kept_at self.new.items m).stage) }
         ensures room { self.new.capacity ≡ self.old.capacity }
     {
         let from = self.cells[j as usize];
-        if let Kind::Settled = from.kind {
-            self.cells[m as usize].take_one(form, from);
+        match from.kind {
+            Kind::Settled => self.cells[m as usize].take_one(form, from),
+            _ => Treated::Same,
         }
     }
 

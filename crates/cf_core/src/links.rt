@@ -1,5 +1,5 @@
 //! The stages that are linked to each stage.
-ghost use Rattle.std.specs.Prelude.{◌≡◌, ◌<◌, ◌∷◌, [], IfOk, IfSome, drop, length, replicate, slice_get, slice_set};
+ghost use Rattle.std.specs.Prelude.{◌≡◌, ◌<◌, ◌∷◌, [], IfOk, IfSome, drop, is_some, length, replicate, slice_get, slice_set};
 ghost use Rattle.cf_core.specs.Keeping.Links.{IsFree, list_at};
 
 use std::alloc::{AllocError, Global};
@@ -47,6 +47,18 @@ impl Links {
         ensures { self.new ≡ replicate (length self.old) [] }
     {
         self.heads.fill(Head { first: 0, count: 0 });
+    }
+
+    /// Whether there is a stage in the list of `target`.
+    #[inline(always)]
+    pub fn has(&self, target: u16) -> bool
+        ensures { result ≡ is_some (slice_get (list_at self.now target) 0) }
+    {
+        if (target as usize) < self.heads.len() {
+            self.heads[target as usize].count > 0
+        } else {
+            false
+        }
     }
 
     /// Empties the list of `target`, if there is one.

@@ -20,8 +20,21 @@ pub fn mark(kept: &Cells, marks: &mut BitSet, i: u16)
     }
 }
 
-/// Marks those of these stages that wait.
+/// Marks those of these stages that wait. Where there is one at most, as most often, it needs no call of its own.
 #[inline(always)]
+pub fn mark_few(kept: &Cells, marks: &mut BitSet, stages: &[u16])
+    requires stages { All (λ i. i < length kept.now.items) stages.now }
+    requires all { length marks.old ≡ length kept.now.items }
+    ensures { marks.new ≡ mark_all kept.now.items stages.now marks.old }
+{
+    match stages {
+        [] => {}
+        [i] => mark(kept, marks, *i),
+        _ => mark_each(kept, marks, stages),
+    }
+}
+
+/// Marks those of these stages that wait.
 pub fn mark_each(kept: &Cells, marks: &mut BitSet, stages: &[u16])
     requires stages { All (λ i. i < length kept.now.items) stages.now }
     requires all { length marks.old ≡ length kept.now.items }

@@ -3,13 +3,15 @@ mod attaching;
 mod restarting;
 mod sweeping;
 
-ghost use Rattle.std.specs.Prelude.{◌≡◌, ◌+◌, ◌<◌, ◌≤◌, [], All, IfNone, IfOk, IfSome, None, Some, drop, false, length, position, slice_set, true, vec_capacity, if◌then◌else◌, ℕ};
+ghost use Rattle.std.specs.Prelude.{◌≡◌, ◌+◌, ◌<◌, ◌≤◌, [], All, IfNone, IfOk, IfSome, None, Some, drop, false, length, position, slice_get, slice_set, true, vec_capacity, if◌then◌else◌, ℕ};
 ghost use Rattle.cf_forms.specs.declared.forms.Landing.TheVariants.{Links as LinksTo};
 ghost use Rattle.cf_forms.specs.Forms.{composes, starts};
-ghost use Rattle.cf_forms.specs.Plans.{form_at};
+ghost use Rattle.cf_forms.specs.Plans.{dependents_of, form_at};
+ghost use Rattle.cf_plan.specs.Growing.{opening_dependents};
 ghost use Rattle.cf_model.specs.declared.stage.Stage.TheVariants.{Claimed};
 ghost use Rattle.cf_model.specs.Graphs.{NoneLeftFor, NoneLeftUpTo, NoneReady, rank, stage_in};
 ghost use Rattle.cf_model.specs.States.{is_ready, outcome_of};
+ghost use Rattle.cf_core.specs.declared.kept.Treated.TheVariants.{Ready as MadeReady};
 ghost use Rattle.cf_core.specs.Keeping.Changes.{HasPlaces, TellOn, WriteOn};
 ghost use Rattle.cf_core.specs.Keeping.Landings.{first_source};
 ghost use Rattle.cf_core.specs.Keeping.Links.{list_at};
@@ -18,13 +20,14 @@ ghost use Rattle.cf_core.specs.Keeping.SoundStages.{AreSound, HasListRoom, HasRo
 ghost use Rattle.cf_core.specs.Keeping.Sweeps.{AreSwept};
 ghost use Rattle.cf_core.specs.Keeping.Turns.{TurnsBelowReady, TurnsUpTo, turned};
 ghost use Rattle.cf_core.specs.Keeping.Starts.{mark_starts, mark_those};
-ghost use Rattle.cf_core.specs.Keeping.Treatment.{stages_of};
+ghost use Rattle.cf_core.specs.Keeping.Taking.{made_of};
+ghost use Rattle.cf_core.specs.Keeping.Treatment.{became, stages_of};
 ghost use Rattle.cf_core.specs.Keeping.Steps.{AreAtStart, StageIsClaimed, StageIsLinked, StageLands, StageSettles};
 
 use crate::cells::Cells;
-use crate::kept::KeptStage;
+use crate::kept::{KeptStage, Treated};
 use crate::links::Links;
-use crate::mark::{mark_attached_dependents, mark_each, mark_linked};
+use crate::mark::{mark_attached_dependents, mark_each, mark_few, mark_linked};
 use crate::treat::treat;
 use cf_bits::BitSet;
 use cf_forms::{Form, Landing, composes, starts};
@@ -113,15 +116,75 @@ impl Stages {
         match self.kept.stage(d) {
             Stage::Settled(_) => {
                 self.ready.remove(d);
-                self.mark_after(plan, d);
+                self.mark_all_after(plan, d);
             }
             Stage::Ready(_) => self.ready.insert(d),
             _ => self.ready.remove(d),
         }
     }
 
-    /// Marks the dependents of a stage that settled, and the stages linked to it, of which there are none then.
+    /// Notes what its treatment made of a stage, which waited and so wasn't among the ready ones.
+    #[inline(always)]
+    fn note_treated(&mut self, plan: &GrowingPlan, d: u16, treated: Treated)
+        requires stage { d < length plan.now.stages }
+        requires told { treated ≡ became ((kept_at self.old.kept.items d).stage) }
+        requires waited { slice_get self.old.ready d ≡ Some false }
+        requires all_kept { length self.old.kept.items ≡ length plan.now.stages }
+        requires all_marks { length self.old.marks ≡ length plan.now.stages }
+        requires linked { All (λ i. i < length plan.now.stages) (list_at self.old.links d) }
+        ensures kept { self.new.kept ≡ self.old.kept }
+        ensures marks { self.new.marks ≡ marks_once_noted plan.now.stages self.old d }
+        ensures ready { self.new.ready ≡ slice_set self.old.ready d (is_ready ((kept_at self.old.kept.items d).stage)) }
+        ensures links { self.new.links ≡ links_after self.old.links d ((kept_at self.old.kept.items d).stage) }
+        ensures steps { self.new.steps ≡ self.old.steps }
+        ensures turns { self.new.turns ≡ self.old.turns }
+        ensures room { SameRoom self.old self.new }
+    {
+        match treated {
+            Treated::Same => {}
+            Treated::Ready => self.ready.insert(d),
+            Treated::Settled => self.mark_all_after(plan, d),
+        }
+    }
+
+    /// Marks the dependents of a stage that settled, and the stages linked to it, of which there are none then. Most stages
+    /// have one dependent at most, and none is attached or linked to them: this takes no call of its own.
+    #[inline(always)]
     fn mark_after(&mut self, plan: &GrowingPlan, d: u16)
+        requires stage { d < length plan.now.stages }
+        requires all_kept { length self.old.kept.items ≡ length plan.now.stages }
+        requires all_marks { length self.old.marks ≡ length plan.now.stages }
+        requires linked { All (λ i. i < length plan.now.stages) (list_at self.old.links d) }
+        ensures marks { self.new.marks ≡ marks_once_settled plan.now.stages self.old d }
+        ensures links { self.new.links ≡ slice_set self.old.links d [] }
+        ensures kept { self.new.kept ≡ self.old.kept }
+        ensures ready { self.new.ready ≡ self.old.ready }
+        ensures steps { self.new.steps ≡ self.old.steps }
+        ensures turns { self.new.turns ≡ self.old.turns }
+    {
+        if self.has_attached_or_linked(plan, d) {
+            self.mark_all_after(plan, d);
+        } else {
+            mark_few(&self.kept, &mut self.marks, plan.dependents(d));
+        }
+    }
+
+    /// Whether attached stages name a stage as a source, or stages are linked to it.
+    #[inline(always)]
+    fn has_attached_or_linked(&self, plan: &GrowingPlan, d: u16) -> bool
+        requires stage { d < length plan.now.stages }
+        ensures dependents { result ≡ false → dependents_of plan.now.stages d ≡ opening_dependents plan.now d }
+        ensures links { result ≡ false → list_at self.now.links d ≡ [] }
+    {
+        let mut attached = plan.attached_dependents(d);
+        match attached.pop() {
+            Some(_) => true,
+            None => self.links.has(d),
+        }
+    }
+
+    /// Marks the dependents of a stage that settled, the attached ones too, and the stages linked to it.
+    fn mark_all_after(&mut self, plan: &GrowingPlan, d: u16)
         requires stage { d < length plan.now.stages }
         requires all_kept { length self.old.kept.items ≡ length plan.now.stages }
         requires all_marks { length self.old.marks ≡ length plan.now.stages }
@@ -138,16 +201,16 @@ impl Stages {
         mark_linked(&self.kept, &mut self.marks, &mut self.links, d);
     }
 
-    /// Treats the lowest marked stage: this is a turn. Nothing else is called a turn. It says whether the stage is ready
-    /// then.
+    /// Treats the lowest marked stage: this is a turn. Nothing else is called a turn. It says what it made of the stage.
     #[inline(always)]
-    fn turn(&mut self, plan: &GrowingPlan, m: u16) -> bool
+    fn turn(&mut self, plan: &GrowingPlan, m: u16) -> Treated
         requires sound { AreSound plan.now.stages self.old }
         requires lowest { position (λ b. b) self.old.marks ≡ Some m }
         ensures turned { self.new.kept.items ≡ turned plan.now.stages self.old.kept.items m }
+        ensures told { result ≡ made_of ((kept_at self.old.kept.items m).stage) ((kept_at self.new.kept.items m).stage) }
         ensures counted { self.new.turns ≡ self.old.turns + 1 }
-        ensures ready { result ≡ true → self.new.ready ≡ slice_set self.old.ready m true }
-        ensures marks { result ≡ true → self.new.marks ≡ slice_set self.old.marks m false }
+        ensures ready { result ≡ MadeReady → self.new.ready ≡ slice_set self.old.ready m true }
+        ensures marks { result ≡ MadeReady → self.new.marks ≡ slice_set self.old.marks m false }
         ensures above { NoneLeftUpTo m (lowest_marked_in self.new) }
         ensures same { SameView plan.now.stages self.old self.new }
         ensures taken { StayTaken self.old.kept.items self.new.kept.items }
@@ -157,11 +220,11 @@ impl Stages {
         self.marks.remove(m);
         self.turns += 1;
         if self.kept.is_waiting(m) {
-            treat(&mut self.kept, plan.form(m), plan.sources(m), m);
-            self.note(plan, m);
-            self.kept.is_ready(m)
+            let treated = treat(&mut self.kept, plan.form(m), plan.sources(m), m);
+            self.note_treated(plan, m, treated);
+            treated
         } else {
-            false
+            Treated::Same
         }
     }
 
@@ -213,7 +276,25 @@ impl Stages {
     }
 
     /// The lowest ready stage. All marked stages below it are treated.
+    #[inline(always)]
     pub fn lowest_ready(&mut self, plan: &GrowingPlan) -> Option<u16>
+        requires sound { AreSound plan.now.stages self.old }
+        ensures told { result ≡ lowest_ready_in plan.now.stages self.old }
+        ensures same { SameView plan.now.stages self.old self.new }
+        ensures taken { StayTaken self.old.kept.items self.new.kept.items }
+        ensures turns { TurnsBelowReady plan.now.stages self.old self.new }
+        ensures still { NoneLeftFor result (position (λ b. b) self.old.marks) → self.new ≡ self.old }
+        ensures room { SameRoom self.old self.new }
+        ensures sound { AreSound plan.now.stages self.new }
+    {
+        match self.marks.lowest() {
+            None => self.ready.lowest(),
+            Some(_) => self.lowest_ready_marked(plan),
+        }
+    }
+
+    /// The same in a call of its own.
+    fn lowest_ready_marked(&mut self, plan: &GrowingPlan) -> Option<u16>
         requires sound { AreSound plan.now.stages self.old }
         ensures told { result ≡ lowest_ready_in plan.now.stages self.old }
         ensures same { SameView plan.now.stages self.old self.new }
@@ -225,7 +306,7 @@ impl Stages {
     {
         // A stage that a turn made ready here is the lowest, so it isn't looked for again.
         while let Some(m) = self.marked_below_ready() {
-            if self.turn(plan, m) {
+            if let Treated::Ready = self.turn(plan, m) {
                 return Some(m);
             }
         }
@@ -287,10 +368,9 @@ impl Stages {
         ensures sound { AreSound plan.now.stages self.new }
     {
         while let Some(m) = self.marks.lowest() {
-            let before = self.rank(plan, m);
-            self.turn(plan, m);
-            if self.rank(plan, m) > before {
-                changed.insert(m);
+            match self.turn(plan, m) {
+                Treated::Same => {}
+                _ => changed.insert(m),
             }
         }
     }
@@ -333,10 +413,9 @@ impl Stages {
         ensures sound { AreSound plan.now.stages self.new }
     {
         while let Some(m) = self.marks.lowest() {
-            let before = self.rank(plan, m);
-            self.turn(plan, m);
-            if self.rank(plan, m) > before {
-                news.push_reserved(m);
+            match self.turn(plan, m) {
+                Treated::Same => {}
+                _ => news.push_reserved(m),
             }
         }
     }

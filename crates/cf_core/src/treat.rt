@@ -6,28 +6,30 @@ ghost use Rattle.cf_forms.specs.declared.forms.Due.TheVariants.{Needs};
 ghost use Rattle.cf_forms.specs.Forms.{first_fault, due_of_both};
 ghost use Rattle.cf_model.specs.declared.stage.Stage.TheVariants.{Linked, Pending};
 ghost use Rattle.cf_core.specs.Keeping.Sound.{kept_at};
-ghost use Rattle.cf_core.specs.Keeping.Taking.{IsTreatedAs, WouldBeReady, due_by, with_due_taken, with_link_taken};
-ghost use Rattle.cf_core.specs.Keeping.Treatment.{dated_in, due_kept, earlier, earliest, latest, outcome_part, outcomes_in};
+ghost use Rattle.cf_core.specs.Keeping.Taking.{IsTreatedAs, WouldBeReady, due_by, made_of, with_due_taken, with_link_taken};
+ghost use Rattle.cf_core.specs.Keeping.Treatment.{became, dated_in, due_kept, earlier, earliest, latest, outcome_part, outcomes_in};
 ghost use Rattle.cf_core.specs.Keeping.Offers.{takes_values, two_values};
 
 use crate::cells::Cells;
-use crate::kept::KeptStage;
+use crate::kept::{KeptStage, Treated};
 use cf_forms::{Args, Due, Form, due_one, due_two, is_decided_by_first};
 use cf_model::Stage;
 use cf_outcome::{Outcome, Value, is_exceptional, wrap};
 
-/// Treats stage `m`, which waits, by its form and its sources, and writes what becomes of it part by part.
+/// Treats stage `m`, which waits, by its form and its sources, and writes what becomes of it part by part. It says what
+/// that is.
 #[inline(always)]
-pub fn treat(kept: &mut Cells, form: Form, sources: &[u16], m: u16)
+pub fn treat(kept: &mut Cells, form: Form, sources: &[u16], m: u16) -> Treated
     requires stage { m < length kept.old.items }
     requires sources { All (λ j. j < length kept.old.items) sources.now }
     ensures kept { IsTreatedAs form sources.now m kept.old.items kept.new.items }
+    ensures told { result ≡ made_of ((kept_at kept.old.items m).stage) ((kept_at kept.new.items m).stage) }
     ensures room { kept.new.capacity ≡ kept.old.capacity }
 {
     match kept.stage(m) {
         Stage::Pending => take_due(kept, form, sources, m),
         Stage::Linked(j) => take_linked(kept, j, m),
-        _ => {}
+        _ => Treated::Same,
     }
 }
 
@@ -146,31 +148,34 @@ fn dated_if(kept: &Cells, j: u16) -> Option<(Outcome, u32)>
 }
 
 /// Lets a stage that is linked to a stage below take what that one has.
-fn take_linked(kept: &mut Cells, j: u16, m: u16)
+fn take_linked(kept: &mut Cells, j: u16, m: u16) -> Treated
     requires stage { m < length kept.old.items }
     requires linked { (kept_at kept.old.items m).stage ≡ Linked j }
     ensures kept { kept.new.items ≡ with_link_taken kept.old.items j m }
+    ensures told { result ≡ became ((kept_at kept.new.items m).stage) }
     ensures room { kept.new.capacity ≡ kept.old.capacity }
 {
     if let Some((o, settled)) = dated_if(kept, j) {
         let step = kept.step(m).max(settled);
         kept.settle(m, wrap(o), step);
+        return Treated::Settled;
     }
+    Treated::Same
 }
 
 /// Lets a pending stage take what its sources have.
 #[inline(always)]
-fn take_due(kept: &mut Cells, form: Form, sources: &[u16], m: u16)
+fn take_due(kept: &mut Cells, form: Form, sources: &[u16], m: u16) -> Treated
     requires stage { m < length kept.old.items }
     requires sources { All (λ j. j < length kept.old.items) sources.now }
     requires pending { (kept_at kept.old.items m).stage ≡ Pending }
     ensures kept { kept.new.items ≡ with_due_taken kept.old.items form sources.now m }
+    ensures told { result ≡ became ((kept_at kept.new.items m).stage) }
     ensures room { kept.new.capacity ≡ kept.old.capacity }
 {
     if let [j] = sources {
         if is_decided_by_first(form) {
-            kept.take_one(form, *j, m);
-            return;
+            return kept.take_one(form, *j, m);
         }
     }
     match form {
@@ -179,7 +184,7 @@ fn take_due(kept: &mut Cells, form: Form, sources: &[u16], m: u16)
         Form::Combine | Form::AcceptBoth | Form::RunBoth => match due_both(kept, form, sources) {
             Due::Settles(o) => {
                 let at = latest(kept, sources);
-                take(kept, Due::Settles(o), at, m);
+                take(kept, Due::Settles(o), at, m)
             }
             Due::Needs(args) => take(kept, Due::Needs(args), 0, m),
             Due::Waits => take(kept, Due::Waits, 0, m),
@@ -188,9 +193,9 @@ fn take_due(kept: &mut Cells, form: Form, sources: &[u16], m: u16)
             if all_settled(kept, sources) {
                 let due = Due::Settles(joint_outcome(kept, sources));
                 let at = latest(kept, sources);
-                take(kept, due, at, m);
+                take(kept, due, at, m)
             } else {
-                take(kept, Due::Waits, 0, m);
+                take(kept, Due::Waits, 0, m)
             }
         }
         _ => match earliest(kept, sources) {
@@ -202,16 +207,23 @@ fn take_due(kept: &mut Cells, form: Form, sources: &[u16], m: u16)
 
 /// Lets a pending stage take what is due, where this is the step at which it settles.
 #[inline(always)]
-fn take(kept: &mut Cells, due: Due, at: u32, m: u16)
+fn take(kept: &mut Cells, due: Due, at: u32, m: u16) -> Treated
     requires stage { m < length kept.old.items }
     requires pending { (kept_at kept.old.items m).stage ≡ Pending }
     ensures kept { kept.new.items ≡ slice_set kept.old.items m (due_kept due at (kept_at kept.old.items m).step) }
+    ensures told { result ≡ became ((kept_at kept.new.items m).stage) }
     ensures room { kept.new.capacity ≡ kept.old.capacity }
 {
     match due {
-        Due::Waits => {}
-        Due::Settles(o) => kept.settle(m, o, at),
-        Due::Needs(args) => kept.make_ready(m, args),
+        Due::Waits => Treated::Same,
+        Due::Settles(o) => {
+            kept.settle(m, o, at);
+            Treated::Settled
+        }
+        Due::Needs(args) => {
+            kept.make_ready(m, args);
+            Treated::Ready
+        }
     }
 }
 

@@ -6,6 +6,7 @@ use Rattle.std.proofs.lemmas.Bool.Decides.{nat_tests}
 use Rattle.std.proofs.lemmas.List.{map-append}
 use Rattle.std.proofs.lemmas.List.Elements.{All-head, All-tail}
 use Rattle.std.proofs.lemmas.List.Sums.{sum_by-cons, sum_by-append}
+use Rattle.std.proofs.lemmas.Option.{slice_get_within}
 use Rattle.cf_forms.specs.declared.forms.Due.{Due}
 use Rattle.cf_forms.specs.declared.forms.Due.TheVariants.{Waits, Settles, Needs}
 use Rattle.cf_forms.specs.Plans.{PlannedStage, HasLowerSources, dependents_of, edges_of, form_at, mentions}
@@ -21,7 +22,7 @@ use Rattle.cf_core.specs.Keeping.Treatment.{StepsUpTo, dated_in, dated_of, due_k
 use Rattle.cf_core.specs.Keeping.Sound.{IsSound, StayTaken, is_bound, kept_at, link_marks, marks_of, marks_from, steps_of}
 use Rattle.cf_core.specs.Keeping.Attaching.{due_now, open_one, open_count}
 use Rattle.cf_core.proofs.Keeping.Attaching.{due_again}
-use Rattle.cf_core.proofs.Keeping.Sums.{there_within, StepsUpTo-le}
+use Rattle.cf_core.proofs.Keeping.Sums.{StepsUpTo-le}
 use Rattle.cf_core.proofs.Keeping.Waiting.{never_linked, sources_below}
 use Rattle.cf_core.proofs.Keeping.Soundness.{All-more, bound_within, due_marks, due_steps}
 
@@ -242,7 +243,7 @@ attach_sound plan kept marks ready links steps turns h p due turns2 is few edges
     let at : 0 + length kept ≡ n = omega (arith, all_kept) in
     let linkable : link_marks (form_at (plan ++ p ∷ []) (0 + length kept)) ≡ link_marks p.form = ap (λ m. link_marks (form_at (plan ++ p ∷ []) m)) at ∙ ap link_marks (form_new plan p) in
     let none_yet : length (dependents_of (plan ++ p ∷ []) (0 + length kept)) ≡ 0 = ap (λ m. length (dependents_of (plan ++ p ∷ []) m)) at ∙ no_dependents plan p h.sources_lower lower in
-    let not_yet : (i : ℕ) (k : KeptStage) → slice_get kept i ≡ Some k → i < n = λ i k e. (let l = there_within kept i k e in omega (arith, all_kept)) in
+    let not_yet : (i : ℕ) (k : KeptStage) → slice_get kept i ≡ Some k → i < n = λ i k e. (let l = slice_get_within kept i k e in omega (arith, all_kept)) in
     let again : treated kept p fresh ≡ fresh = due_again kept p due (steps + 1) is in
     record {
       few_stages = omega (arith, longer);
@@ -253,7 +254,7 @@ attach_sound plan kept marks ready links steps turns h p due turns2 is few edges
       all_links = λ d c. omega (arith, longer);
       ready_are = ap (λ xs. xs ++ is_ready fresh.stage ∷ []) h.ready_are ∙ sym (map-append (λ (k : KeptStage). is_ready k.stage) kept (fresh ∷ []));
       waits = λ i q k eq ek em. elim (slice_get-push plan p i q eq) [
-        | inl old ↦ (let l = there_within plan i q old in
+        | inl old ↦ (let l = slice_get_within plan i q old in
             let ek' : slice_get kept i ≡ Some k = sym (slice_get-front kept (fresh ∷ []) i (in_kept i l)) ∙ ek in
             let em' : slice_get marks i ≡ Some false = sym (slice_get-front marks (false ∷ []) i (omega (arith, all_marks))) ∙ em in
             let below = sources_below plan i q h.sources_lower old in

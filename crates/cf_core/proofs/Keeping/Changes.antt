@@ -2,6 +2,7 @@
 use Rattle.std.proofs.Common.{◌≡◌, ◌≢◌, ℕ, ◌<◌, ◌≤◌, ◌∷◌, ◌++◌, [], List, Bool, true, false, Option, Some, None, length, suc, zero, arith, ap, sym, ◌∙◌, subst, refl, set, map, inl, inr}
 use Rattle.std.specs.Prelude.{slice_get, position, unwrap_or}
 use Rattle.std.proofs.lemmas.Bool.Decides.{eqb_tells}
+use Rattle.std.proofs.lemmas.Option.{slice_get_within}
 use Rattle.cf_outcome.specs.declared.outcome.Outcome.{Outcome}
 use Rattle.cf_forms.specs.declared.forms.Due.{Due}
 use Rattle.cf_forms.specs.declared.forms.Due.TheVariants.{Waits, Settles, Needs}
@@ -12,13 +13,17 @@ use Rattle.cf_model.specs.States.{is_ready, outcome_of}
 use Rattle.cf_model.specs.Graphs.{AreChanges, MovesAlone, NoneLeftUpTo, rank, stage_in}
 use Rattle.cf_model.proofs.StateLemmas.{slice_get-set_other}
 use Rattle.cf_core.specs.declared.kept.KeptStage.{KeptStage}
+use Rattle.cf_core.specs.declared.kept.Treated.{Treated}
+use Rattle.cf_core.specs.declared.kept.Treated.TheVariants.{Same}
 use Rattle.cf_core.specs.declared.stages.Stages.{Stages}
 use Rattle.cf_core.specs.Keeping.Changes.{HaveMoved}
-use Rattle.cf_core.specs.Keeping.Treatment.{due_kept, late_due, linked_kept, stages_of, dated_in, treated, treated_by}
+use Rattle.cf_core.specs.Keeping.Treatment.{became, due_kept, late_due, linked_kept, stages_of, dated_in, treated, treated_by}
 use Rattle.cf_core.specs.Keeping.Sound.{kept_at}
 use Rattle.cf_core.specs.Keeping.SoundStages.{AreSound, KeptMovesAlone, lowest_marked_in, settled_view_of}
+use Rattle.cf_core.specs.Keeping.Taking.{made_of}
 use Rattle.cf_core.specs.Keeping.Turns.{planned_at, turned}
 use Rattle.cf_core.proofs.Keeping.Above.{leaves_none}
+use Rattle.cf_core.proofs.Keeping.Flags.{past_flags}
 use Rattle.cf_core.proofs.Keeping.Marking.{get-set_same}
 use Rattle.cf_core.proofs.Keeping.Lowest.{all_steady, none_marked}
 use Rattle.cf_core.proofs.Keeping.Places.{kept_put}
@@ -139,23 +144,74 @@ turn_alone plan kept m l =
     let k = kept_at kept m in
     alone_written kept m (treated kept (planned_at plan m) k) l (treated_onward kept (planned_at plan m) k.stage k.step) (treated_stays kept (planned_at plan m) k.stage k.step)
 
+-- what a turn tells: that its stage is as before, or that it has come further
+
+due_same : (due : Due) (at step : ℕ) → became ((due_kept due at step).stage) ≡ Same → rank ((due_kept due at step).stage) ≤ 0
+due_same Waits at step e = omega arith
+due_same (Settles o) at step e = cc
+due_same (Needs args) at step e = cc
+
+due_further : (due : Due) (at step : ℕ) → became ((due_kept due at step).stage) ≢ Same → 0 < rank ((due_kept due at step).stage)
+due_further Waits at step ne = absurd (ne refl)
+due_further (Settles o) at step ne = omega arith
+due_further (Needs args) at step ne = omega arith
+
+link_same : (j step : ℕ) (x : Option (Outcome × ℕ)) → became ((linked_kept j step x).stage) ≡ Same → rank ((linked_kept j step x).stage) ≤ 3
+link_same j step None e = omega arith
+link_same j step (Some x) e = cc
+
+link_further : (j step : ℕ) (x : Option (Outcome × ℕ)) → became ((linked_kept j step x).stage) ≢ Same → 3 < rank ((linked_kept j step x).stage)
+link_further j step None ne = absurd (ne refl)
+link_further j step (Some x) ne = omega arith
+
+treated_same : (below : List KeptStage) (p : PlannedStage) (stage : Stage) (step : ℕ) → made_of stage ((treated_by below p stage step).stage) ≡ Same → rank ((treated_by below p stage step).stage) ≤ rank stage
+treated_same below p Pending step e = let due = late_due p.form (map (dated_in below) p.sources) in due_same due.0 due.1 step e
+treated_same below p (Linked j) step e = link_same j step (dated_in below j) e
+treated_same below p (Ready args) step e = omega arith
+treated_same below p Claimed step e = omega arith
+treated_same below p (Settled o) step e = omega arith
+
+treated_further : (below : List KeptStage) (p : PlannedStage) (stage : Stage) (step : ℕ) → made_of stage ((treated_by below p stage step).stage) ≢ Same → rank stage < rank ((treated_by below p stage step).stage)
+treated_further below p Pending step ne = let due = late_due p.form (map (dated_in below) p.sources) in due_further due.0 due.1 step ne
+treated_further below p (Linked j) step ne = link_further j step (dated_in below j) ne
+treated_further below p (Ready args) step ne = absurd (ne refl)
+treated_further below p Claimed step ne = absurd (ne refl)
+treated_further below p (Settled o) step ne = absurd (ne refl)
+
+module _ (plan : List PlannedStage) (kept new : List KeptStage) (m : ℕ) (told : Treated) (l : m < length kept) (is : new ≡ turned plan kept m)
+    (says : told ≡ made_of ((kept_at kept m).stage) ((kept_at new m).stage)) where
+  there : kept_at new m ≡ treated kept (planned_at plan m) (kept_at kept m)
+  there = ap (λ ks. kept_at ks m) is ∙ kept_put kept m (treated kept (planned_at plan m) (kept_at kept m)) l
+
+  by_treatment : told ≡ made_of ((kept_at kept m).stage) ((treated kept (planned_at plan m) (kept_at kept m)).stage)
+  by_treatment = says ∙ ap (λ (k : KeptStage). made_of ((kept_at kept m).stage) k.stage) there
+
+  rank_now : rank (stage_in (stages_of new) m) ≡ rank ((treated kept (planned_at plan m) (kept_at kept m)).stage)
+  rank_now = ap rank (kept_stage new m ∙ ap (λ (k : KeptStage). k.stage) there)
+
+  pub turn_same_rank : told ≡ Same → rank (stage_in (stages_of new) m) ≤ rank (stage_in (stages_of kept) m)
+  turn_same_rank e =
+      let k = kept_at kept m in
+      let least = treated_same kept (planned_at plan m) k.stage k.step (sym by_treatment ∙ e) in
+      let was = ap rank (kept_stage kept m) in
+      let now = rank_now in
+      omega (arith, least, was, now)
+
+  pub turn_further : told ≢ Same → rank (stage_in (stages_of kept) m) < rank (stage_in (stages_of new) m)
+  turn_further ne =
+      let k = kept_at kept m in
+      let more = treated_further kept (planned_at plan m) k.stage k.step (λ e. ne (by_treatment ∙ e)) in
+      let was = ap rank (kept_stage kept m) in
+      let now = rank_now in
+      omega (arith, more, was, now)
+
 -- ---- flags
-
-flag_within : (flags : List Bool) (i : ℕ) (b : Bool) → slice_get flags i ≡ Some b → i < length flags
-flag_within [] i b e = cc
-flag_within (x ∷ flags) zero b e = omega arith
-flag_within (x ∷ flags) (suc i) b e = let h = flag_within flags i b e in omega (arith, h)
-
-not_within : (flags : List Bool) (i : ℕ) → slice_get flags i ≡ None → length flags ≤ i
-not_within [] i e = omega arith
-not_within (x ∷ flags) zero e = cc
-not_within (x ∷ flags) (suc i) e = let h = not_within flags i e in omega (arith, h)
 
 -- at the beginning no flag is set, and no stage has moved
 pub moved_none : (stages : List Stage) (changed : List Bool) → position (λ b. b) changed ≡ None → HaveMoved stages stages changed
 moved_none stages changed none = record {
   same = λ i e. refl;
-  further = λ i e. (let no = none_marked changed (length changed) none (omega arith) i (flag_within changed i true e) in let is : Some true ≡ Some false = sym e ∙ no in cc);
+  further = λ i e. (let no = none_marked changed (length changed) none (omega arith) i (slice_get_within changed i true e) in let is : Some true ≡ Some false = sym e ∙ no in cc);
 }
 
 -- a stage moves, and its flag is set
@@ -173,7 +229,7 @@ moved_on old mid new changed d l h alone less = record {
 }
   where
     further_here : (x : Option Bool) → slice_get changed d ≡ x → rank (stage_in old d) < rank (stage_in new d)
-    further_here None e = absurd (omega (arith, l, not_within changed d e))
+    further_here None e = absurd (omega (arith, l, past_flags changed d e))
     further_here (Some false) e = let a = ap rank (h.same d e) in omega (arith, a, less)
     further_here (Some true) e = let a = h.further d e in omega (arith, a, less)
 

@@ -4,6 +4,7 @@ use Rattle.std.specs.Prelude.{slice_get, position}
 use Rattle.std.proofs.lemmas.Bool.Decides.{eqb_tells}
 use Rattle.std.proofs.lemmas.Bool.{cases_lt}
 use Rattle.std.proofs.lemmas.List.Elements.{All-head, All-nil, All-push, All-tail, Contains-push, Contains-append_left}
+use Rattle.std.proofs.lemmas.Option.{slice_get_within}
 use Rattle.cf_model.specs.declared.stage.Stage.{Stage}
 use Rattle.cf_model.specs.declared.stage.Stage.TheVariants.{Pending}
 use Rattle.cf_model.specs.Graphs.{AreChanges, AreNews, IsClimbing, WritesNews, stage_in}
@@ -14,12 +15,7 @@ use Rattle.cf_core.proofs.Keeping.Places.{lowest_below, lowest_marked, lowest_wi
 use Rattle.cf_core.proofs.Keeping.Soundness.{All-more}
 use Rattle.cf_core.specs.Keeping.Changes.{AreFlagged, Drains}
 
-within_flags : (flags : List Bool) (i : ℕ) → slice_get flags i ≡ Some true → i < length flags
-within_flags [] i e = cc
-within_flags (x ∷ flags) zero e = omega arith
-within_flags (x ∷ flags) (suc i) e = let h = within_flags flags i e in omega (arith, h)
-
-past_flags : (flags : List Bool) (i : ℕ) → slice_get flags i ≡ None → length flags ≤ i
+pub past_flags : (flags : List Bool) (i : ℕ) → slice_get flags i ≡ None → length flags ≤ i
 past_flags [] i e = omega arith
 past_flags (x ∷ flags) zero e = cc
 past_flags (x ∷ flags) (suc i) e = let h = past_flags flags i e in omega (arith, h)
@@ -98,7 +94,7 @@ taken_all flags now old all none h = record {
     set = h.set;
     all = λ i e. elim (h.all_set i e) [
       | inl there ↦ there
-      | inr is ↦ (let no = none_marked now (length now) none (omega arith) i (within_flags now i is) in let wrong : Some true ≡ Some false = sym is ∙ no in cc)
+      | inr is ↦ (let no = none_marked now (length now) none (omega arith) i (slice_get_within now i true is) in let wrong : Some true ≡ Some false = sym is ∙ no in cc)
     ];
   };
 }

@@ -1,6 +1,7 @@
 -- Lists threaded through arrays, as a stage is put in or taken out.
-use Rattle.std.proofs.Common.{◌≡◌, ◌≢◌, ℕ, ◌+◌, ◌-◌, ◌<◌, ◌∷◌, [], List, All, Some, None, length, suc, zero, arith, ap, sym, ◌∙◌, subst, refl, set, get_or, replicate, drop, add-one, length-set, get_or-set_same, get_or-set_other}
-use Rattle.std.specs.Prelude.{slice_get, slice_index}
+use Rattle.std.proofs.Common.{◌≡◌, ◌≢◌, ℕ, ◌+◌, ◌-◌, ◌<◌, ◌∷◌, [], List, All, Some, None, is_some, true, length, suc, zero, arith, ap, sym, ◌∙◌, subst, refl, set, get_or, replicate, drop, add-one, length-set, get_or-set_same, get_or-set_other}
+use Rattle.std.specs.Prelude.{nat_lt, slice_get, slice_index}
+use Rattle.std.proofs.lemmas.Bool.Decides.{nat_tests}
 use Rattle.std.proofs.lemmas.List.{map-set, length-replicate}
 use Rattle.std.proofs.lemmas.List.Elements.{All-head, All-tail, All-cons, All-set, All-drop, All-replicate}
 use Rattle.cf_core.specs.declared.links.Head.{Head}
@@ -149,6 +150,14 @@ lists_of-pop_none next heads t head l e none =
 
 pub none_listed : (next : List ℕ) (heads : List Head) (t : ℕ) (head : Head) → t < length heads → head ≡ get_or heads t head → head.count ≡ 0 → slice_get (list_at (lists_of next heads) t) 0 ≡ None
 none_listed next heads t head l e none = ap (λ xs. slice_get xs 0) (list_at-head next heads t head l e ∙ ap (λ n. walk n next head.first) none)
+
+-- a list has a stage where its head counts one
+pub has_listed : (next : List ℕ) (heads : List Head) (t : ℕ) (head : Head) → t < length heads → head ≡ get_or heads t head → nat_lt 0 head.count ≡ is_some (slice_get (list_at (lists_of next heads) t) 0)
+has_listed next heads t head l e = sym (ap (λ xs. is_some (slice_get xs 0)) (list_at-head next heads t head l e) ∙ by_count head.count)
+  where
+    by_count : (n : ℕ) → is_some (slice_get (walk n next head.first) 0) ≡ nat_lt 0 n
+    by_count zero = refl
+    by_count (suc n) = let yes : nat_lt 0 (suc n) ≡ true = grind (arith, nat_tests) in sym yes
 
 -- ---- at first
 

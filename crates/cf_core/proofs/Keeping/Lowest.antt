@@ -5,7 +5,7 @@ use Rattle.std.specs.List.{position_or_len}
 use Rattle.std.specs.Option.{option_map}
 use Rattle.std.proofs.lemmas.Bool.Decides.{eqb_tells, nat_tests}
 use Rattle.std.proofs.Math.Seq.{take-length}
-use Rattle.std.proofs.lemmas.List.{length-map, set-get_or}
+use Rattle.std.proofs.lemmas.List.{length-map}
 use Rattle.std.proofs.lemmas.List.Quantifiers.{position-Some}
 use Rattle.cf_bits.proofs.Positions.{position_is, position_is_none}
 use Rattle.cf_forms.specs.Plans.{PlannedStage}
@@ -19,7 +19,7 @@ use Rattle.cf_core.proofs.Keeping.Sums.{kept_is, kept_there}
 use Rattle.cf_core.proofs.Keeping.Waiting.{sources_below, stays, treated-take}
 use Rattle.cf_core.proofs.Keeping.Marks.{steady_by_stage}
 use Rattle.cf_core.proofs.Keeping.Moves.{get-map, is_steady, settled_view_at}
-use Rattle.cf_core.proofs.Keeping.Places.{lowest_below, lowest_within}
+use Rattle.cf_core.proofs.Keeping.Places.{lowest_below, lowest_within, out_already}
 
 -- ---- where no flag is set
 
@@ -102,10 +102,7 @@ module _ (plan : List PlannedStage) (kept : List KeptStage) (marks ready : List 
 
   -- to take out one that isn't ready changes nothing
   pub unready_out : (d : ℕ) → d < length plan → is_ready ((kept_at kept d).stage) ≡ false → ready ≡ set ready d false
-  unready_out d l e =
-      let in_kept : d < length kept = omega (arith, h.all_kept, l) in
-      let out = get_is ready d false false (flag_at d in_kept ∙ ap (λ b. Some b) e) in
-      sym (ap (set ready d) (sym out) ∙ set-get_or ready d false)
+  unready_out d l e = out_already ready d (flag_at d (omega (arith, h.all_kept, l)) ∙ ap (λ b. Some b) e)
 
   pub ready_first : (r : ℕ) → position (λ b. b) ready ≡ Some r → AreTreated r marks → position is_ready (settled_view plan kept) ≡ Some r
   ready_first r lowest treated =

@@ -1,5 +1,5 @@
 -- A stage is taken out of the list of linked stages, and marked.
-use Rattle.std.proofs.Common.{◌≡◌, ◌≢◌, ℕ, ◌<◌, ◌∷◌, ◌++◌, [], List, Bool, true, false, cond, Some, None, length, suc, zero, arith, ap, sym, ◌∙◌, refl, set, drop, subst, All}
+use Rattle.std.proofs.Common.{◌≡◌, ◌≢◌, ℕ, ◌<◌, ◌∷◌, ◌++◌, [], List, Bool, true, false, cond, Some, None, is_some, length, suc, zero, arith, ap, sym, ◌∙◌, refl, set, drop, subst, All}
 use Rattle.std.specs.Prelude.{reverse, slice_get, unwrap_or}
 use Rattle.std.proofs.lemmas.List.{reverse-append}
 use Rattle.std.proofs.lemmas.List.Elements.{All-head, All-tail}
@@ -21,9 +21,19 @@ shorter : (stages : List ℕ) (i : ℕ) → Some i ≡ slice_get stages 0 → le
 shorter [] i e = cc
 shorter (j ∷ stages) i e = omega arith
 
-nothing_left : (stages : List ℕ) → None ≡ slice_get stages 0 → stages ≡ []
+pub nothing_left : (stages : List ℕ) → None ≡ slice_get stages 0 → stages ≡ []
 nothing_left [] e = refl
 nothing_left (j ∷ stages) e = cc
+
+pub none_first : (stages : List ℕ) → is_some (slice_get stages 0) ≡ false → stages ≡ []
+none_first [] e = refl
+none_first (j ∷ stages) e = cc
+
+-- to empty a list that is empty changes nothing
+pub empty_already : (lists : List (List ℕ)) (t : ℕ) → list_at lists t ≡ [] → lists ≡ set lists t []
+empty_already [] t e = refl
+empty_already (x ∷ lists) zero e = ap (λ xs. xs ∷ lists) e
+empty_already (x ∷ lists) (suc t) e = ap (λ r. x ∷ r) (empty_already lists t e)
 
 list_is : (lists : List (List ℕ)) (t : ℕ) → list_at (set lists t (drop 1 (list_at lists t))) t ≡ drop 1 (list_at lists t)
 list_is [] t = refl

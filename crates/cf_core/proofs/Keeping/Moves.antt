@@ -4,6 +4,7 @@ use Rattle.std.specs.Prelude.{slice_get, option_and_then, unwrap_or}
 use Rattle.std.specs.Option.{option_map}
 use Rattle.std.proofs.lemmas.Bool.Decides.{eqb_tells}
 use Rattle.std.proofs.lemmas.List.Elements.{All-head, All-tail, All-cons, All-nil, All-set}
+use Rattle.std.proofs.lemmas.Option.{slice_get_within}
 use Rattle.cf_outcome.specs.declared.outcome.Outcome.{Outcome}
 use Rattle.cf_forms.specs.declared.forms.Args.{Args}
 use Rattle.cf_forms.specs.Forms.{composes}
@@ -16,7 +17,7 @@ use Rattle.cf_core.specs.Keeping.Treatment.{IsSteady, all_treated, dated_in, lin
 use Rattle.cf_core.specs.Keeping.Links.{list_at}
 use Rattle.cf_core.specs.Keeping.Sound.{AreBound, IsSound, is_bound, kept_at, mark_all, marks_of, link_marks, settled_view, steps_of}
 use Rattle.cf_core.proofs.Keeping.Marking.{get-set_same}
-use Rattle.cf_core.proofs.Keeping.Sums.{sum_by-set_at, list_in_sum, kept_there, kept_is, list_there, there_within}
+use Rattle.cf_core.proofs.Keeping.Sums.{sum_by-set_at, list_in_sum, kept_there, kept_is, list_there}
 use Rattle.cf_core.proofs.Keeping.Waiting.{steady_below, steady_at, treated-take, sources_below}
 use Rattle.cf_core.proofs.Keeping.Turns.{turns_change_nothing}
 use Rattle.cf_core.proofs.Keeping.Settling.{settling_is_after}
@@ -53,7 +54,7 @@ module _ (plan : List PlannedStage) (kept : List KeptStage) (marks ready : List 
   pub turn_same : (m : ℕ) (p : PlannedStage) → slice_get plan m ≡ Some p → IsSteady [] plan kept m → settled_view plan (set kept m (treated kept p (kept_at kept m))) ≡ settled_view plan kept
   turn_same m p planned steady =
       let k = kept_at kept m in
-      let l = there_within plan m p planned in
+      let l = slice_get_within plan m p planned in
       let there = kept_there kept m (omega (arith, h.all_kept, l)) in
       let same = treated-take kept m p k.stage k.step (sources_below plan m p h.sources_lower planned) (λ j e. (let b = h.listed m j k there e in b.lower)) in
       ap stages_of (ap (λ new. all_treated [] plan (set kept m new)) (sym same) ∙ turns_change_nothing plan kept m p k planned there steady)
@@ -83,7 +84,7 @@ module _ (plan : List PlannedStage) (kept : List KeptStage) (marks ready : List 
       let budget = ap (marks_of plan d) e in
       unsettled_sound plan kept marks ready links steps turns h d new steps turns marks links l before refl (omega arith) few (omega (arith, two)) refl (λ i ne. refl)
       (λ p ep em. refl) refl (kept_lists kept links d new k there before refl h.listed (λ j s. cc))
-      (bound_more kept links d new (there_within kept d k there) (λ b. (let f = ap is_bound e in cc)) h.bound) h.above
+      (bound_more kept links d new (slice_get_within kept d k there) (λ b. (let f = ap is_bound e in cc)) h.bound) h.above
       (omega (arith, budget))
 
   pub claim_same : (d step m : ℕ) (args : Args) → d < length plan → IsSteady [] plan kept m → d < m → (kept_at kept d).stage ≡ Ready args →
@@ -128,8 +129,8 @@ module _ (plan : List PlannedStage) (kept : List KeptStage) (marks ready : List 
       let one : link_marks (form_at plan d) ≡ 1 = ap (λ b. cond b 1 0) composing in
       let longer = sum_by-set_at {X = List ℕ} length links j (list_at links j) (d ∷ list_at links j) (list_there links j in_links) in
       let P : ℕ → Type 0 = λ i. is_bound ((kept_at (set kept d new) i).stage) ≡ true in
-      let here : P d = ap (λ (x : KeptStage). is_bound x.stage) (kept_is (set kept d new) d new (get-set_same kept d new (there_within kept d k there))) in
-      let others = bound_more kept links d new (there_within kept d k there) (λ b. refl) h.bound in
+      let here : P d = ap (λ (x : KeptStage). is_bound x.stage) (kept_is (set kept d new) d new (get-set_same kept d new (slice_get_within kept d k there))) in
+      let others = bound_more kept links d new (slice_get_within kept d k there) (λ b. refl) h.bound in
       let at_j = list_all_at (All P) links j in_links others in
       unsettled_sound plan kept marks ready links steps turns h d new (steps + 1) turns marks (set links j (d ∷ list_at links j)) l before refl (omega arith) (omega arith) (omega (arith, two)) refl (λ i ne. refl)
       (λ p ep em. (let same : dated_in (set kept d new) j ≡ None = dated_in-set kept d j new (λ s. absurd (omega arith)) ∙ open_target in ap (linked_kept j (steps + 1)) same))

@@ -12,11 +12,12 @@ use Rattle.cf_model.specs.declared.stage.Stage.TheVariants.{Pending, Ready, Clai
 use Rattle.cf_model.specs.States.{is_ready, outcome_of}
 use Rattle.cf_model.proofs.StateLemmas.{slice_get-set_other}
 use Rattle.cf_core.specs.declared.kept.KeptStage.{KeptStage}
-use Rattle.cf_core.specs.Keeping.Treatment.{dated_in, dated_of, treated, treated_by}
+use Rattle.cf_core.specs.declared.kept.Treated.TheVariants as made
+use Rattle.cf_core.specs.Keeping.Treatment.{became, dated_in, dated_of, treated, treated_by}
 use Rattle.cf_core.specs.Keeping.Turns.{planned_at, turned}
 use Rattle.std.proofs.lemmas.List.{length-set, set-get_or}
 use Rattle.cf_bits.proofs.Positions.{position_is}
-use Rattle.cf_core.specs.Keeping.Sound.{AreTreated, IsSound, StayTaken, StayTakenBut, is_taken, is_waiting, kept_at, links_after, marks_after, settled_view}
+use Rattle.cf_core.specs.Keeping.Sound.{AreTreated, IsSound, StayTaken, StayTakenBut, is_taken, is_waiting, kept_at, links_after, marks_after, marks_settled, settled_view}
 use Rattle.cf_core.proofs.Keeping.Marking.{get-set_same}
 use Rattle.cf_core.proofs.Keeping.Sums.{kept_is, kept_there}
 use Rattle.cf_core.proofs.Keeping.Soundness.{idle_sound, turn_sound}
@@ -138,6 +139,57 @@ pub StayTakenBut-set : (kept : List KeptStage) (d : ℕ) (new : KeptStage) → S
 StayTakenBut-set kept d new i ne b =
     let is : kept_at (set kept d new) i ≡ kept_at kept i = ap (λ x. unwrap_or x (record { stage = Pending; step = 0 })) (slice_get-set_other kept d i new ne) in
     ap (λ (k : KeptStage). is_taken k.stage) is ∙ b
+
+-- ---- what a treatment made of a stage that waited
+
+-- one that waits isn't ready
+pub waiting_unready : (stage : Stage) → is_waiting stage ≡ true → is_ready stage ≡ false
+waiting_unready Pending e = refl
+waiting_unready (Linked j) e = refl
+waiting_unready (Ready args) e = cc
+waiting_unready Claimed e = cc
+waiting_unready (Settled o) e = cc
+
+pub made_ready : (stage : Stage) → became stage ≡ made.Ready → is_ready stage ≡ true
+made_ready (Ready args) e = refl
+made_ready Pending e = cc
+made_ready Claimed e = cc
+made_ready (Linked j) e = cc
+made_ready (Settled o) e = cc
+
+-- to take out one that isn't in changes nothing
+pub out_already : (ready : List Bool) (d : ℕ) → slice_get ready d ≡ Some false → ready ≡ set ready d false
+out_already [] d e = refl
+out_already (b ∷ ready) zero e = let is : b ≡ false = cc in ap (λ x. x ∷ ready) is
+out_already (b ∷ ready) (suc d) e = ap (λ xs. b ∷ xs) (out_already ready d e)
+
+-- the marks, the ready stages and the lists of linked stages once that is noted
+pub record Noted (plan : List PlannedStage) (kept : List KeptStage) (links : List (List ℕ)) (marks ready : List Bool) (d : ℕ) (stage : Stage) (marks' ready' : List Bool) (links' : List (List ℕ)) : Type 0 where
+  pub marks_are : marks' ≡ marks_after plan kept links marks d stage
+  pub ready_are : ready' ≡ set ready d (is_ready stage)
+  pub links_are : links' ≡ links_after links d stage
+
+module _ (plan : List PlannedStage) (kept : List KeptStage) (links : List (List ℕ)) (marks ready : List Bool) (d : ℕ) where
+  pub noted_same : (stage : Stage) → made.Same ≡ became stage → slice_get ready d ≡ Some false → Noted plan kept links marks ready d stage marks ready links
+  noted_same Pending e out = record { marks_are = refl; ready_are = out_already ready d out; links_are = refl }
+  noted_same Claimed e out = record { marks_are = refl; ready_are = out_already ready d out; links_are = refl }
+  noted_same (Linked j) e out = record { marks_are = refl; ready_are = out_already ready d out; links_are = refl }
+  noted_same (Ready args) e out = cc
+  noted_same (Settled o) e out = cc
+
+  pub noted_ready : (stage : Stage) → made.Ready ≡ became stage → Noted plan kept links marks ready d stage marks (set ready d true) links
+  noted_ready (Ready args) e = record { marks_are = refl; ready_are = refl; links_are = refl }
+  noted_ready Pending e = cc
+  noted_ready Claimed e = cc
+  noted_ready (Linked j) e = cc
+  noted_ready (Settled o) e = cc
+
+  pub noted_settled : (stage : Stage) → made.Settled ≡ became stage → slice_get ready d ≡ Some false → Noted plan kept links marks ready d stage (marks_settled plan kept links marks d) ready (set links d [])
+  noted_settled (Settled o) e out = record { marks_are = refl; ready_are = out_already ready d out; links_are = refl }
+  noted_settled Pending e out = cc
+  noted_settled (Ready args) e out = cc
+  noted_settled Claimed e out = cc
+  noted_settled (Linked j) e out = cc
 
 -- ---- a stage that a turn has made ready
 

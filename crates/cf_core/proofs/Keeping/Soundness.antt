@@ -8,6 +8,7 @@ use Rattle.std.proofs.lemmas.List.{map-set}
 use Rattle.std.proofs.lemmas.List.Elements.{All-head, All-tail, All-cons, All-nil, All-set}
 use Rattle.cf_outcome.specs.declared.outcome.Outcome.{Outcome}
 use Rattle.std.specs.Option.{option_map_or}
+use Rattle.std.proofs.lemmas.Option.{slice_get_within}
 use Rattle.cf_forms.specs.declared.forms.Due.{Due}
 use Rattle.cf_forms.specs.declared.forms.Due.TheVariants.{Waits as IsWaits, Settles, Needs}
 use Rattle.cf_forms.specs.Plans.{PlannedStage, dependents_of, form_at, mentions, sources_at}
@@ -22,7 +23,7 @@ use Rattle.cf_core.specs.Keeping.Marks.{WaitsNow}
 use Rattle.cf_core.specs.Keeping.Links.{list_at, IsFree}
 use Rattle.cf_core.specs.Keeping.Sound.{IsSound, IsListed, AreAbove, AreListed, AreBound, is_waiting, is_bound, kept_at, mark_all, marks_after, links_after, marks_of, steps_of, link_marks}
 use Rattle.cf_core.proofs.Keeping.Marking.{mentioned, get-set_same, length-mark_all, count-mark_all, count-set_false}
-use Rattle.cf_core.proofs.Keeping.Sums.{sum_by-set_at, marks_from-set, kept_there, kept_is, emptied_sum, there_within, StepsUpTo-set, StepsUpTo-le, StepsUpTo-at}
+use Rattle.cf_core.proofs.Keeping.Sums.{sum_by-set_at, marks_from-set, kept_there, kept_is, emptied_sum, StepsUpTo-set, StepsUpTo-le, StepsUpTo-at}
 use Rattle.cf_core.proofs.Keeping.Waiting.{never_linked, links_same, NamesDependents, but_marks, but_closed, but_unsettled, but_settled, stays, treated_again, treated-few, sources_below}
 
 -- ---- pieces
@@ -134,7 +135,7 @@ pub listed_unsettled : (kept : List KeptStage) (links more : List (List ℕ)) (d
     ((i j : ℕ) → Contains (list_at links j) i → Contains (list_at more j) i) → ((j : ℕ) → new.stage ≡ Linked j → IsListed (set kept d new) more d j) → AreListed (set kept d new) more
 listed_unsettled kept links more d new old at e f h longer here i j k there linked = elim (eqb_tells i d) [
   | inl s ↦ (let same = s.1 in
-      let is : Some k ≡ Some new = sym there ∙ ap (slice_get (set kept d new)) same ∙ get-set_same kept d new (there_within kept d old at) in
+      let is : Some k ≡ Some new = sym there ∙ ap (slice_get (set kept d new)) same ∙ get-set_same kept d new (slice_get_within kept d old at) in
       let same_k : k ≡ new = cc in
       subst (λ n. IsListed (set kept d new) more n j) (sym same) (here j (ap (λ (x : KeptStage). x.stage) (sym same_k) ∙ linked)))
   | inr s ↦ (let b = h i j k (sym (slice_get-set_other kept d i new s.1) ∙ there) linked in
@@ -334,7 +335,7 @@ module _ (plan : List PlannedStage) (kept : List KeptStage) (marks ready : List 
 
   module _ (waiting : is_waiting ((kept_at kept m).stage) ≡ true) where
     within : m < length plan
-    within = there_within plan m p planned
+    within = slice_get_within plan m p planned
 
     there : slice_get kept m ≡ Some (kept_at kept m)
     there = kept_there kept m (let l = within in omega (arith, h.all_kept, l))
@@ -370,7 +371,7 @@ module _ (plan : List PlannedStage) (kept : List KeptStage) (marks ready : List 
         unsettled_sound plan kept marks ready links steps turns h m new steps (turns + 1) (set marks m false) links within before none (omega arith) s (omega (arith, fewer_steps))
         (length-set marks m false) (λ i ne. slice_get-set_other marks m i false ne)
         (λ q eq em. (let same : q ≡ p = (let t : Some q ≡ Some p = sym eq ∙ planned in cc) in rw same again))
-        refl (kept_lists kept links m new k there before none h.listed linked) (bound_more kept links m new (there_within kept m k there) bound h.bound) h.above
+        refl (kept_lists kept links m new k there before none h.listed linked) (bound_more kept links m new (slice_get_within kept m k there) bound h.bound) h.above
         (omega (arith, fewer_marks, f))
 
     by_stage : (x : Stage) (step : ℕ) → treated kept p (kept_at kept m) ≡ record { stage = x; step = step } →

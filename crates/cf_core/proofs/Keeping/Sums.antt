@@ -68,11 +68,6 @@ list_there [] d l = absurd (omega arith)
 list_there (x ∷ links) zero l = refl
 list_there (x ∷ links) (suc d) l = list_there links d (omega arith)
 
-pub there_within : {X : Type 0} (xs : List X) (i : ℕ) (x : X) → slice_get xs i ≡ Some x → i < length xs
-there_within [] i x e = cc
-there_within (y ∷ xs) zero x e = omega arith
-there_within (y ∷ xs) (suc i) x e = let h = there_within xs i x e in omega arith
-
 -- ---- steps
 
 pub StepsUpTo-set : (n : ℕ) (kept : List KeptStage) (d : ℕ) (new : KeptStage) → StepsUpTo n kept → new.step ≤ n → StepsUpTo n (set kept d new)

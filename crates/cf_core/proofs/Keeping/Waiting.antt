@@ -4,6 +4,7 @@ use Rattle.std.specs.Prelude.{slice_get, option_and_then, nat_le}
 use Rattle.std.specs.Option.{option_map}
 use Rattle.std.proofs.lemmas.Bool.Decides.{eqb_tells}
 use Rattle.std.proofs.lemmas.List.Elements.{All-head, All-tail}
+use Rattle.std.proofs.lemmas.Option.{slice_get_within}
 use Rattle.cf_outcome.specs.declared.outcome.Outcome.{Outcome}
 use Rattle.cf_forms.specs.declared.forms.Form.{Form}
 use Rattle.cf_forms.specs.declared.forms.Due.{Due}
@@ -23,7 +24,7 @@ use Rattle.cf_core.specs.Keeping.Sound.{Waits, AreListed, is_waiting, kept_at, m
 use Rattle.cf_core.proofs.Keeping.Marking.{mentioned, mark_all-marks, mark_all-unmarked, length-mark_all}
 use Rattle.cf_core.proofs.Keeping.Marks.{treated-set, others_wait, steady_by_stage}
 use Rattle.cf_core.proofs.Keeping.Turns.{stage_twice}
-use Rattle.cf_core.proofs.Keeping.Sums.{kept_is, there_within}
+use Rattle.cf_core.proofs.Keeping.Sums.{kept_is}
 use Rattle.cf_core.proofs.Keeping.Writes.{Alike, treated-alike, unsettled}
 
 -- all but stage d
@@ -85,7 +86,7 @@ module _ (plan : List PlannedStage) (kept : List KeptStage) (links : List (List 
       let is : kept_at (set kept d new) i ≡ k = kept_is (set kept d new) i k ek in
       let waits : is_waiting ((kept_at (set kept d new) i).stage) ≡ true = ap (λ (x : KeptStage). is_waiting x.stage) is ∙ w in
       let before : slice_get kept i ≡ Some k = sym (slice_get-set_other kept d i new ne) ∙ ek in
-      let within : i < length marks = (let l = there_within plan i p ep in omega (arith, count)) in
+      let within : i < length marks = (let l = slice_get_within plan i p ep in omega (arith, count)) in
       let within2 : i < length (mark_all (set kept d new) (dependents_of plan d) marks) = omega (arith, length-mark_all (set kept d new) (dependents_of plan d) marks) in
       let unmarked = mark_all-unmarked (set kept d new) (list_at links d) (mark_all (set kept d new) (dependents_of plan d) marks) i em in
       let no_source : (j : ℕ) → Contains p.sources j → j ≢ d = λ j c e.

@@ -4,6 +4,7 @@ use Rattle.std.specs.Prelude.{slice_get, unwrap_or}
 use Rattle.std.proofs.lemmas.Bool.{cases_lt}
 use Rattle.std.proofs.lemmas.Bool.Decides.{eqb_tells}
 use Rattle.std.proofs.lemmas.List.Elements.{All-cons, All-head, All-nil, All-push, All-tail, Contains-push, Contains-append_left}
+use Rattle.std.proofs.lemmas.Option.{slice_get_within}
 use Rattle.cf_forms.specs.declared.forms.Args.{Args}
 use Rattle.cf_model.specs.declared.stage.Stage.{Stage}
 use Rattle.cf_model.specs.declared.stage.Stage.TheVariants.{Pending, Ready, Claimed}
@@ -14,7 +15,6 @@ use Rattle.cf_core.proofs.Keeping.Above.{all_contained}
 use Rattle.cf_core.proofs.Keeping.Flags.{climbing_push, none_there}
 use Rattle.cf_core.proofs.Keeping.Marking.{get-set_same}
 use Rattle.cf_core.proofs.Keeping.Soundness.{All-more}
-use Rattle.cf_core.proofs.Keeping.Sums.{there_within}
 
 all_both : (P Q R : ℕ → Type 0) (xs : List ℕ) → ((i : ℕ) → P i → Q i → R i) → All P xs → All Q xs → All R xs
 all_both P Q R [] f p q = All-nil R
@@ -166,7 +166,7 @@ same_news stages row = record {
 pub claimed_news : (seen new : List Stage) (i : ℕ) (args : Args) (row : List ℕ) → slice_get seen i ≡ Some (Ready args) → new ≡ set seen i Claimed → WritesNews seen new row (row ++ i ∷ [])
 claimed_news seen new i args row is written =
     let was : stage_in seen i ≡ Ready args = ap (λ x. unwrap_or x Pending) is in
-    let now : stage_in new i ≡ Claimed = ap (λ stages. stage_in stages i) written ∙ ap (λ x. unwrap_or x Pending) (get-set_same seen i Claimed (there_within seen i (Ready args) is)) in
+    let now : stage_in new i ≡ Claimed = ap (λ stages. stage_in stages i) written ∙ ap (λ x. unwrap_or x Pending) (get-set_same seen i Claimed (slice_get_within seen i (Ready args) is)) in
     record {
       xs = i ∷ [];
       written = refl;

@@ -1,12 +1,15 @@
 -- What a stage that waits takes of the stages below it, and what is kept then.
-use Rattle.std.specs.Prelude.{◌≡◌, ℕ, Option, List, map, slice_set}
+use Rattle.std.specs.Prelude.{◌≡◌, ℕ, Option, List, map, slice_set, if◌then◌else◌}
 use Rattle.cf_forms.specs.declared.forms.Args.{Args}
 use Rattle.cf_forms.specs.declared.forms.Due.{Due}
 use Rattle.cf_forms.specs.declared.forms.Form.{Form}
 use Rattle.cf_forms.specs.Forms.{due_of_first}
+use Rattle.cf_model.specs.declared.stage.Stage.{Stage}
 use Rattle.cf_core.specs.declared.kept.KeptStage.{KeptStage}
-use Rattle.cf_core.specs.Keeping.Sound.{kept_at}
-use Rattle.cf_core.specs.Keeping.Treatment.{dated_in, due_kept, late_due, linked_kept, outcome_part, ready_kept, step_part, treated}
+use Rattle.cf_core.specs.declared.kept.Treated.{Treated}
+use Rattle.cf_core.specs.declared.kept.Treated.TheVariants.{Same}
+use Rattle.cf_core.specs.Keeping.Sound.{is_waiting, kept_at}
+use Rattle.cf_core.specs.Keeping.Treatment.{became, dated_in, due_kept, late_due, linked_kept, outcome_part, ready_kept, step_part, treated}
 
 -- stage m is ready with these arguments, and its step stays
 abbrev pub ready_with : List KeptStage → ℕ → Args → List KeptStage
@@ -47,3 +50,7 @@ IsTreatedAs form sources m old new = (function : Option ℕ) → new ≡ slice_s
 abbrev pub WouldBeReady : Form → List ℕ → ℕ → List KeptStage → Args → Type 0
 WouldBeReady form sources m kept args =
     (function : Option ℕ) → treated_as kept form sources function m ≡ ready_kept args (kept_at kept m).step
+
+-- what a treatment makes of a stage, by what it was and what it is then: one that doesn't wait stays as it is
+abbrev pub made_of : Stage → Stage → Treated
+made_of was is = if is_waiting was then became is else Same

@@ -13,6 +13,8 @@ use Rattle.cf_model.specs.declared.stage.Stage.{Stage}
 use Rattle.cf_model.specs.declared.stage.Stage.TheVariants.{Pending, Ready, Linked, Settled}
 use Rattle.cf_model.specs.States.{outcome_of, outcome_in, new_states}
 use Rattle.cf_core.specs.declared.kept.KeptStage.{KeptStage}
+use Rattle.cf_core.specs.declared.kept.Treated.{Treated}
+use Rattle.cf_core.specs.declared.kept.Treated.TheVariants as made
 
 -- an outcome with the step of its settling
 abbrev pub dated_of : KeptStage → Option (Outcome × ℕ)
@@ -78,6 +80,12 @@ treated_by below p stage step = record { stage = stage; step = step }
 
 abbrev pub treated : List KeptStage → PlannedStage → KeptStage → KeptStage
 treated below p k = treated_by below p k.stage k.step
+
+-- what its treatment makes of a stage that waited, by what it is then
+abbrev pub became : Stage → Treated
+became (Ready args) = made.Ready
+became (Settled o) = made.Settled
+became stage = made.Same
 
 -- All stages treated, in rising number.
 abbrev pub all_treated : List KeptStage → List PlannedStage → List KeptStage → List KeptStage

@@ -1,19 +1,18 @@
-use Rattle.std.proofs.Common.{rules, ◌≡◌, ◌∙◌, ap}
-use Rattle.cf_forms.specs.Plans.{dependents_of, opening_of}
-use Rattle.cf_core.specs.Keeping.Links.{list_at}
+use Rattle.std.proofs.Common.{◌∙◌, ap, sym}
+use Rattle.cf_forms.specs.Plans.{dependents_of}
 use Rattle.cf_core.specs.Keeping.Sound.{mark_all}
-use Rattle.cf_core.proofs.Keeping.MarkLemmas.{mark_all-both}
+use Rattle.cf_core.proofs.Keeping.MarkLemmas.{empty_already}
 use Rattle.cf_core.proofs.stages.Stages.mark_after.Goals as goal
 
-pub returns-clause-marks : goal.returns-clause-marks
-returns-clause-marks c =
+pub returns-else-has_attached_or_linked-clause-marks : goal.returns-else-has_attached_or_linked-clause-marks
+returns-else-has_attached_or_linked-clause-marks c =
+    let s = c.args.self.now in
     let plan = c.args.plan.now in
-    let kept = c.args.self.now.kept.items in
-    let marks = c.args.self.now.marks in
-    let first : c.mark_each.new.marks ≡ mark_all kept (dependents_of (opening_of plan).stages c.args.d) marks = search rules in
-    let attached : c.mark_attached_dependents.new.marks ≡ mark_all kept c.attached_dependents.result c.mark_each.new.marks = search rules in
-    let linked : c.mark_linked.new.marks ≡ mark_all kept (list_at c.args.self.now.links c.args.d) c.mark_attached_dependents.new.marks = search rules in
-    linked
-    ∙ ap (mark_all kept (list_at c.args.self.now.links c.args.d))
-    (attached ∙ ap (mark_all kept c.attached_dependents.result) first
-    ∙ mark_all-both kept (dependents_of (opening_of plan).stages c.args.d) c.attached_dependents.result (dependents_of plan.stages c.args.d) marks c.attached_dependents.ensures.rest)
+    let kept = s.kept.items in
+    let late = c.has_attached_or_linked.ensures in
+    c.mark_few.ensures
+    ∙ ap (λ stages. mark_all kept stages s.marks) (c.dependents.ensures.dependents ∙ sym (late.dependents c.if-has_attached_or_linked.false))
+    ∙ ap (λ stages. mark_all kept stages (mark_all kept (dependents_of plan.stages c.args.d) s.marks)) (sym (late.links c.if-has_attached_or_linked.false))
+
+pub returns-else-has_attached_or_linked-clause-links : goal.returns-else-has_attached_or_linked-clause-links
+returns-else-has_attached_or_linked-clause-links c = empty_already c.args.self.now.links c.args.d (c.has_attached_or_linked.ensures.links c.if-has_attached_or_linked.false)

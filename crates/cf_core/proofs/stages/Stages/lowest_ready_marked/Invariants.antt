@@ -6,7 +6,7 @@ use Rattle.cf_model.specs.States.{is_ready}
 use Rattle.cf_core.specs.Keeping.Sound.{StayTaken}
 use Rattle.cf_core.specs.Keeping.Turns.{TurnsBelowReady}
 use Rattle.cf_core.specs.Keeping.SoundStages.{AreSound, SameRoom, settled_view_of}
-use Rattle.cf_core.proofs.stages.Stages.lowest_ready.Given as goal
+use Rattle.cf_core.proofs.stages.Stages.lowest_ready_marked.Given as goal
 
 -- what the stages lead to stays, which were treated, there are only so many turns in all, and none where none is left
 abbrev pub invariant-loop-m : goal.invariant-loop-m
