@@ -7,6 +7,7 @@
 //! - `fan-out rayon, scope`: each function is spawned in a scope.
 //! - `fan-out rayon, par_iter`: the functions are the steps of one parallel iterator.
 use super::{one_more, show, PARTS, THREADS};
+#[cfg(any(feature = "tokio", feature = "rayon"))]
 use std::time::{Duration, Instant};
 
 #[cfg(any(feature = "futures", feature = "tokio"))]
