@@ -4,10 +4,13 @@
 //! - fan-out: a source is completed, 510 functions take its value on eight threads, and all have answered. What is built before isn't counted.
 //! - chain: 16 functions, each of the value before it, on one thread, making included.
 //! - bytes: what a request of 512 stages takes beside one of none, once all are settled, or before.
+#[path = "../joined.rs"]
+mod joined;
 #[path = "../left.rs"]
 mod left;
 
 use cf::{Inline, Pool, Request, Spawn, Stage, SystemClock};
+use joined::by_futures;
 use left::{let_wait, Left};
 use std::hint::black_box;
 use std::sync::{Arc, Mutex};
@@ -54,22 +57,6 @@ impl<'a> Ways<'a> {
 }
 
 // ---- Others ----
-
-fn by_futures(pool: &futures::executor::ThreadPool) -> Duration {
-    use futures::future::{join_all, FutureExt};
-    use futures::task::SpawnExt;
-    let (source, came) = futures::channel::oneshot::channel::<i32>();
-    let came = came.map(|value| value.expect("it is sent")).shared();
-    let part = |_| pool.spawn_with_handle(came.clone().map(one_more)).expect("it is spawned");
-    let parts: Vec<_> = (0..PARTS).map(part).collect();
-    let_wait();
-    let since = Instant::now();
-    source.send(1).expect("it is received");
-    let answers = futures::executor::block_on(join_all(parts));
-    let took = since.elapsed();
-    assert!(answers.iter().all(|it| *it == 2));
-    took
-}
 
 fn by_tokio(runtime: &tokio::runtime::Runtime) -> Duration {
     use futures::future::FutureExt;
@@ -339,7 +326,7 @@ fn main() {
     ];
     let inline: Arc<dyn Spawn> = Arc::new(Inline);
     let mut ways = Ways { rows: Vec::new(), words: args.collect() };
-    ways.add("fan-out futures", || by_futures(&pool));
+    ways.add("fan-out futures", || by_futures(&pool, PARTS));
     ways.add("fan-out tokio", || by_tokio(&runtime));
     ways.add("fan-out rayon", || by_rayon(&rayon));
     for (name, spawn) in &spawns {

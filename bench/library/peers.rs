@@ -7,36 +7,22 @@
 //! - `fan-out rayon, scope`: each function is spawned in a scope.
 //! - `fan-out rayon, par_iter`: the functions are the steps of one parallel iterator.
 use super::{one_more, show, PARTS, THREADS};
+#[cfg(any(feature = "tokio", feature = "rayon"))]
 use std::time::{Duration, Instant};
 
 #[cfg(any(feature = "futures", feature = "tokio"))]
 #[path = "../left.rs"]
 #[cfg_attr(not(feature = "tokio"), allow(dead_code))]
 mod left;
-#[cfg(any(feature = "futures", feature = "tokio"))]
-use left::let_wait;
+
+#[cfg(feature = "futures")]
+#[path = "../joined.rs"]
+mod joined;
 
 #[cfg(feature = "futures")]
 pub fn by_futures() {
-    use futures::channel::oneshot;
-    use futures::executor::{block_on, ThreadPool};
-    use futures::future::{join_all, FutureExt};
-    use futures::task::SpawnExt;
-
-    let pool = ThreadPool::builder().pool_size(THREADS).create().expect("there are threads");
-    show("fan-out futures", || {
-        let (source, came) = oneshot::channel::<i32>();
-        let came = came.map(|value| value.expect("it is sent")).shared();
-        let part = |_| pool.spawn_with_handle(came.clone().map(one_more)).expect("it is spawned");
-        let parts: Vec<_> = (0..PARTS).map(part).collect();
-        let_wait();
-        let since = Instant::now();
-        source.send(1).expect("it is received");
-        let answers = block_on(join_all(parts));
-        let took = since.elapsed();
-        assert!(answers.iter().all(|it| *it == 2));
-        took
-    });
+    let pool = futures::executor::ThreadPool::builder().pool_size(THREADS).create().expect("there are threads");
+    show("fan-out futures", || joined::by_futures(&pool, PARTS));
 }
 
 #[cfg(feature = "tokio")]
@@ -45,7 +31,7 @@ pub use with_tokio::run as by_tokio;
 #[cfg(feature = "tokio")]
 mod with_tokio {
     use super::*;
-    use super::left::Left;
+    use super::left::{let_wait, Left};
     use tokio::runtime::{Builder, Runtime};
     use tokio::sync::watch;
 

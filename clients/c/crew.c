@@ -1,6 +1,7 @@
 /* Two threads share a desk, each with one call a step: cf_desk_next finishes what the task holds, and claims what is ready. The sources come by
  * one call, cf_desk_complete_many. Then what these refuse, and that a task that is refused stays as it was. */
 #include "cf.h"
+#include "rows.h"
 #include <pthread.h>
 #include <sched.h>
 #include <stdio.h>
@@ -8,19 +9,6 @@
 
 enum { SOURCES = 100, STAGES = 2 * SOURCES, CREW = 2, LOG = 2000, CALLS = 1000 };
 enum { FEW = 3, SHORT_LOG = 4 };
-
-static int rows, wrong;
-
-/* One row: a call's code, and the one that is wanted. */
-static void row(const char *what, uint32_t code, uint32_t wanted) {
-  rows++;
-  if (code == wanted) return;
-  wrong++;
-  printf("%s: code %u, not %u\n", what, code, wanted);
-}
-
-/* The same of a fact. */
-static void holds(const char *what, bool fact) { row(what, fact, true); }
 
 /* So many sources, and a double of each. */
 static void build(cf_handle *plan, uint16_t sources) {
@@ -210,6 +198,5 @@ int main(void) {
   full(&plan);
   rows_refused(&plan);
   cf_free(&plan);
-  printf("%d rows, %d wrong\n", rows, wrong);
-  return wrong != 0;
+  return end_rows();
 }

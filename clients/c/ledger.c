@@ -1,24 +1,13 @@
 /* One request as a ledger: each call is a word, and each word tells which stages it changed, so that whoever waits for one is woken. The
  * words are kept, and a ledger is made again of them, which says the same. Then what a ledger refuses, and that it stays then. */
 #include "cf.h"
+#include "rows.h"
 #include <stdio.h>
 #include <string.h>
 
 enum { ME = 1, STOCK = 0, PRICE = 1, TOTAL = 2, LATE = 3, STAGES = 4, WORDS = 16, BUDGET = 30 };
 
 static const char *const names[] = {"stock", "price", "total", "receipt"};
-static int rows, wrong;
-
-/* One row: a call's code, and the one that is wanted. */
-static void row(const char *what, uint32_t code, uint32_t wanted) {
-  rows++;
-  if (code == wanted) return;
-  wrong++;
-  printf("%s: code %u, not %u\n", what, code, wanted);
-}
-
-/* The same of a fact. */
-static void holds(const char *what, bool fact) { row(what, fact, true); }
 
 static uint64_t word_of(cf_event event) {
   uint64_t word = 0;
@@ -174,6 +163,5 @@ int main(void) {
   refused(&plan, &ledger);
   cf_free(&plan);
   cf_free(&ledger);
-  printf("%d rows, %d wrong\n", rows, wrong);
-  return wrong != 0;
+  return end_rows();
 }

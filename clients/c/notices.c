@@ -1,19 +1,11 @@
 /* Notices: what one thread has done stands before what another does, however the other hears of it. Here by a mailbox, which knows nothing
  * of the desk. Then rows of what the two calls refuse. */
 #include "cf.h"
+#include "rows.h"
 #include <pthread.h>
 #include <stdio.h>
 
 enum { CALLERS = 2, LOG = 8 };
-
-static unsigned rows, wrong;
-
-static void row(const char *what, uint32_t code, uint32_t wanted) {
-  rows++;
-  if (code == wanted) return;
-  wrong++;
-  printf("%s: %s, not %s\n", what, cf_code_name(code), cf_code_name(wanted));
-}
 
 /* One letter at a time. */
 static struct {
@@ -84,7 +76,7 @@ static void refusals(cf_handle *plan) {
   row("a notice is no caller", cf_desk_seen(&notice, &seen), CF_WRONG_KIND);
   row("nor is it given back", cf_close_begin(&notice), CF_WRONG_KIND);
   row("of another desk", cf_desk_heed(&others[1], &notice), CF_OTHER_DESK);
-  row("how many the other has seen", cf_desk_seen(&others[1], &seen), seen == 0 ? CF_OK : CF_NOTHING);
+  holds("how many the other has seen", cf_desk_seen(&others[1], &seen) == CF_OK && seen == 0);
   row("the closing begins", cf_close_begin(&callers[0]), CF_OK);
   row("the second is given back", cf_close_add(&callers[0], &callers[1]), CF_OK);
   row("a notice holds the desk", cf_close_end(&callers[0]), CF_STILL_SHARED);
@@ -93,7 +85,7 @@ static void refusals(cf_handle *plan) {
   row("a notice of nothing", cf_desk_notice(&others[0], &notice), CF_OK);
   row("an event", cf_desk_complete(&others[1], 0, (cf_value){CF_INT, 1}, &reply), CF_OK);
   row("who has seen more heeds it, too", cf_desk_heed(&others[1], &notice), CF_OK);
-  row("how many it has seen", cf_desk_seen(&others[1], &seen), seen == 1 && !notice.full ? CF_OK : CF_NOTHING);
+  holds("how many it has seen", cf_desk_seen(&others[1], &seen) == CF_OK && seen == 1 && !notice.full);
   cf_free(&callers[0]);
   for (int k = 0; k < CALLERS; k++) cf_free(&others[k]);
 }
@@ -112,6 +104,5 @@ int main(void) {
   for (int k = 0; k < CALLERS; k++) cf_free(&callers[k]);
   refusals(&plan);
   cf_free(&plan);
-  printf("%u rows, %u wrong\n", rows, wrong);
-  return 0;
+  return end_rows();
 }

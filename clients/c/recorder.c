@@ -2,40 +2,11 @@
  * that it wrote, and which stages the finish changed. The words go into a journal, of which another ledger does the whole row again. Then
  * what the calls refuse, and that a ledger which refuses stays as it was. */
 #include "cf.h"
+#include "sum.h"
 #include <stdio.h>
 #include <string.h>
 
-enum { ME = 1, OTHER = 2, GIVE_SEVEN = 0, DOUBLE = 1, BOTH = 2, STAGES = 4, WORDS = 16 };
-
-static int rows, wrong;
-
-/* One row: a call's code, and the one that is wanted. */
-static void row(const char *what, uint32_t code, uint32_t wanted) {
-  rows++;
-  if (code == wanted) return;
-  wrong++;
-  printf("%s: code %u, not %u\n", what, code, wanted);
-}
-
-/* The same of a fact. */
-static void holds(const char *what, bool fact) { row(what, fact, true); }
-
-static cf_answer answer_to(const cf_task *task) {
-  int32_t first = task->args.first.number;
-  int32_t number = task->function == GIVE_SEVEN ? 7 : task->function == DOUBLE ? first * 2 : first + task->args.second.number;
-  return (cf_answer){.kind = CF_GIVE, .value = {CF_INT, number}};
-}
-
-/* Supply, twice; the double of the first; the sum of the double and the second. */
-static void build(cf_handle *plan) {
-  uint16_t stage;
-  row("builder", cf_builder_new(plan, 0, 0), CF_OK);
-  row("supply", cf_builder_stage(plan, CF_SUPPLY, NULL, 0, GIVE_SEVEN, &stage), CF_OK);
-  row("supply", cf_builder_stage(plan, CF_SUPPLY, NULL, 0, GIVE_SEVEN, &stage), CF_OK);
-  row("apply", cf_builder_stage(plan, CF_APPLY, (uint16_t[]){0}, 1, DOUBLE, &stage), CF_OK);
-  row("combine", cf_builder_stage(plan, CF_COMBINE, (uint16_t[]){2, 1}, 2, BOTH, &stage), CF_OK);
-  row("build", cf_build(plan), CF_OK);
-}
+enum { OTHER = 2, STAGES = SUM + 1, WORDS = 16 };
 
 static size_t count_of(cf_handle *ledger) {
   size_t n = 0;
@@ -45,7 +16,7 @@ static size_t count_of(cf_handle *ledger) {
 
 static void holds_sum(const char *what, cf_handle *ledger, int32_t wanted) {
   cf_stage sum;
-  row("sum", cf_ledger_stage(ledger, STAGES - 1, &sum), CF_OK);
+  row("sum", cf_ledger_stage(ledger, SUM, &sum), CF_OK);
   holds(what, sum.kind == CF_IS_SETTLED && sum.outcome.kind == CF_VALUE && sum.outcome.value.number == wanted);
 }
 
@@ -159,7 +130,8 @@ static void refused(cf_handle *plan) {
 int main(void) {
   cf_handle plan = {0}, ledger = {0};
   uint64_t journal[WORDS] = {0};
-  build(&plan);
+  begin_plan(&plan);
+  row("build", cf_build(&plan), CF_OK);
   row("ledger", cf_ledger_new(&plan, 0, &ledger), CF_OK);
   size_t written = work(&ledger, journal);
   holds_sum("the sum", &ledger, 21);
@@ -168,6 +140,5 @@ int main(void) {
   refused(&plan);
   cf_free(&plan);
   cf_free(&ledger);
-  printf("%d rows, %d wrong\n", rows, wrong);
-  return wrong != 0;
+  return end_rows();
 }

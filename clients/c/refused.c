@@ -1,22 +1,14 @@
 /* What each call of the header is answered where its handle is null, empty or of another kind, where another pointer is null, and where a
  * number is out of range or a buffer too short; and that what stands behind the handles is as it was then. */
 #include "cf.h"
-#include <stdio.h>
+#include "rows.h"
 #include <string.h>
 
 enum { SOURCE = 0, TWICE = 1, STAGES = 2, NOT_THERE = STAGES, CALLERS = 2, LOG = 64, CALLS = 64, TEXT = 64 };
 static const uint16_t NEVER = UINT16_MAX;
 
-static int rows, wrong;
-
-static void row(const char *what, uint32_t code, uint32_t wanted) {
-  rows++;
-  if (code == wanted) return;
-  wrong++;
-  printf("%s: code %u, not %u\n", what, (unsigned)code, (unsigned)wanted);
-}
 #define ROW(call, wanted) row(#call, (call), (wanted))
-#define HOLDS(fact) row(#fact, (fact), true)
+#define HOLDS(fact) holds(#fact, (fact))
 
 /* What calls write. Each is filled with one byte before, and has to be so afterwards. */
 static struct {
@@ -486,6 +478,5 @@ int main(void) {
   are_as_before();
   for (int kind = 0; kind < KINDS; kind++) cf_free(&held[kind]);
   cf_free(&other_caller);
-  printf("%d rows, %d wrong\n", rows, wrong);
-  return wrong != 0;
+  return end_rows();
 }

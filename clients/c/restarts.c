@@ -1,22 +1,10 @@
 /* One plan for many requests: cf_restart_with starts a graph again with what a request brings, and cf_work does the rest. cf_plan_of gives
  * the plan of a graph, for another. Then what both refuse, and that a graph which refuses stays as it was. */
 #include "cf.h"
+#include "rows.h"
 #include <stdio.h>
 
 enum { ME = 1, WIDTH = 0, HEIGHT = 1, AREA = 2, LATER = 3, TIMES = 0 };
-
-static int rows, wrong;
-
-/* One row: a call's code, and the one that is wanted. */
-static void row(const char *what, uint32_t code, uint32_t wanted) {
-  rows++;
-  if (code == wanted) return;
-  wrong++;
-  printf("%s: code %u, not %u\n", what, code, wanted);
-}
-
-/* The same of a fact. */
-static void holds(const char *what, bool fact) { row(what, fact, true); }
 
 static void times(void *context, const cf_task *task, cf_answer *answer) {
   (void)context;
@@ -100,6 +88,5 @@ int main(void) {
   refused(&plan, &graph);
   another(&graph);
   cf_free(&plan);
-  printf("%d rows, %d wrong\n", rows, wrong);
-  return wrong != 0;
+  return end_rows();
 }

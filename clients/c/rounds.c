@@ -1,24 +1,11 @@
 /* Several stages at once: cf_round finishes what the tasks of one caller hold, and claims a ready stage for each. Then what it refuses, and
  * that a round that is refused changes nothing. */
 #include "cf.h"
+#include "rows.h"
 #include <stdio.h>
-#include <stdlib.h>
 #include <string.h>
 
 enum { ME = 1, OTHER = 2, TASKS = 3, WIDTH = 5, SUM = WIDTH };
-
-static int rows, wrong;
-
-/* One row: a call's code, and the one that is wanted. */
-static void row(const char *what, uint32_t code, uint32_t wanted) {
-  rows++;
-  if (code == wanted) return;
-  wrong++;
-  printf("%s: code %u, not %u\n", what, code, wanted);
-}
-
-/* The same of a fact. */
-static void holds(const char *what, bool fact) { row(what, fact, true); }
 
 /* Five supplies, and an allOf of them. */
 static void build(cf_handle *plan) {
@@ -115,6 +102,5 @@ int main(void) {
   refused(&plan, &graph);
   cf_free(&graph);
   cf_free(&plan);
-  printf("%d rows, %d wrong\n", rows, wrong);
-  return wrong != 0;
+  return end_rows();
 }

@@ -1,49 +1,20 @@
 /* A caller's loop in one call a step: cf_next finishes what the task holds and claims what is ready; cf_work is the whole loop. Then what
  * these refuse, and that a task that is refused stays as it was. */
 #include "cf.h"
+#include "sum.h"
 #include <stdio.h>
-#include <stdlib.h>
 #include <string.h>
 
-enum { ME = 1, OTHER = 2, GIVE_SEVEN = 0, DOUBLE = 1, BOTH = 2, FUNCTIONS = 3 };
-
-static int rows, wrong;
-
-/* One row: a call's code, and the one that is wanted. */
-static void row(const char *what, uint32_t code, uint32_t wanted) {
-  rows++;
-  if (code == wanted) return;
-  wrong++;
-  printf("%s: code %u, not %u\n", what, code, wanted);
-}
-
-/* The same of a fact. */
-static void holds(const char *what, bool fact) { row(what, fact, true); }
-
-static int32_t answer_to(const cf_task *task) {
-  if (task->function == GIVE_SEVEN) return 7;
-  return task->function == DOUBLE ? task->args.first.number * 2 : task->args.first.number + task->args.second.number;
-}
+enum { OTHER = 2, FUNCTIONS = 3 };
 
 static void give(void *context, const cf_task *task, cf_answer *answer) {
   ++*(int *)context;
-  *answer = (cf_answer){.kind = CF_GIVE, .value = {CF_INT, answer_to(task)}};
-}
-
-/* Supply, twice; its double; the sum of the double and the second. */
-static void build(cf_handle *plan) {
-  uint16_t stage;
-  row("builder", cf_builder_new(plan, 0, 0), CF_OK);
-  row("supply", cf_builder_stage(plan, CF_SUPPLY, NULL, 0, GIVE_SEVEN, &stage), CF_OK);
-  row("supply", cf_builder_stage(plan, CF_SUPPLY, NULL, 0, GIVE_SEVEN, &stage), CF_OK);
-  row("apply", cf_builder_stage(plan, CF_APPLY, (uint16_t[]){0}, 1, DOUBLE, &stage), CF_OK);
-  row("combine", cf_builder_stage(plan, CF_COMBINE, (uint16_t[]){2, 1}, 2, BOTH, &stage), CF_OK);
-  row("build", cf_build(plan), CF_OK);
+  *answer = answer_to(task);
 }
 
 static int32_t sum_of(cf_handle *graph) {
   cf_outcome sum;
-  row("get", cf_get(graph, 3, &sum), CF_OK);
+  row("get", cf_get(graph, SUM, &sum), CF_OK);
   return sum.kind == CF_VALUE ? sum.value.number : -1;
 }
 
@@ -52,7 +23,7 @@ static void by_steps(cf_handle *graph) {
   int steps = 0;
   uint32_t code;
   while ((code = cf_next(graph, ME, &task)) == CF_OK) {
-    task.answer = (cf_answer){.kind = CF_GIVE, .value = {CF_INT, answer_to(&task)}};
+    task.answer = answer_to(&task);
     steps++;
   }
   row("the last step", code, CF_NOTHING);
@@ -113,7 +84,8 @@ static void refused(cf_handle *plan, cf_handle *graph) {
 
 int main(void) {
   cf_handle plan = {0}, graph = {0};
-  build(&plan);
+  begin_plan(&plan);
+  row("build", cf_build(&plan), CF_OK);
   row("graph", cf_graph_new(&plan, 0, &graph), CF_OK);
   by_steps(&graph);
   row("restart", cf_restart(&graph), CF_OK);
@@ -122,6 +94,5 @@ int main(void) {
   refused(&plan, &graph);
   cf_free(&graph);
   cf_free(&plan);
-  printf("%d rows, %d wrong\n", rows, wrong);
-  return wrong != 0;
+  return end_rows();
 }

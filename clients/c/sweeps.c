@@ -1,43 +1,22 @@
 /* A graph settled in one sweep: cf_sweep_next takes the answer of the last stage and gives the next one. Then what a sweep refuses, and that
  * a call that is refused changes nothing; sweeps that are freed under way, and that begin where stages are claimed, settled and attached. */
 #include "cf.h"
+#include "sum.h"
 #include <stdio.h>
-#include <stdlib.h>
 #include <string.h>
 
-enum { ME = 1, GIVE_SEVEN = 0, DOUBLE = 1, BOTH = 2, STAGES = 5, LINKED = 4 };
+enum { LINKED = SUM + 1, STAGES };
 
-static int rows, wrong;
-
-/* One row: a call's code, and the one that is wanted. */
-static void row(const char *what, uint32_t code, uint32_t wanted) {
-  rows++;
-  if (code == wanted) return;
-  wrong++;
-  printf("%s: code %u, not %u\n", what, code, wanted);
-}
-
-/* The same of a fact. */
-static void holds(const char *what, bool fact) { row(what, fact, true); }
-
-static cf_answer number(int32_t number) { return (cf_answer){.kind = CF_GIVE, .value = {CF_INT, number}}; }
-
-/* Supply, twice; the double of the first; the sum of the double and the second; a stage that takes another's outcome over. */
+/* The plan of sum.h, and a stage that takes another's outcome over. */
 static void build(cf_handle *plan) {
   uint16_t stage;
-  row("builder", cf_builder_new(plan, 0, 0), CF_OK);
-  row("supply", cf_builder_stage(plan, CF_SUPPLY, NULL, 0, GIVE_SEVEN, &stage), CF_OK);
-  row("supply", cf_builder_stage(plan, CF_SUPPLY, NULL, 0, GIVE_SEVEN, &stage), CF_OK);
-  row("apply", cf_builder_stage(plan, CF_APPLY, (uint16_t[]){0}, 1, DOUBLE, &stage), CF_OK);
-  row("combine", cf_builder_stage(plan, CF_COMBINE, (uint16_t[]){2, 1}, 2, BOTH, &stage), CF_OK);
-  row("compose", cf_builder_stage(plan, CF_COMPOSE, (uint16_t[]){3}, 1, BOTH, &stage), CF_OK);
+  begin_plan(plan);
+  row("compose", cf_builder_stage(plan, CF_COMPOSE, (uint16_t[]){SUM}, 1, BOTH, &stage), CF_OK);
   row("build", cf_build(plan), CF_OK);
 }
 
-static cf_answer answer_to(const cf_task *task) {
-  if (task->stage == LINKED) return (cf_answer){.kind = CF_LINK, .stage = 2};
-  if (task->function == GIVE_SEVEN) return number(7);
-  return number(task->function == DOUBLE ? task->args.first.number * 2 : task->args.first.number + task->args.second.number);
+static cf_answer given_to(const cf_task *task) {
+  return task->stage == LINKED ? (cf_answer){.kind = CF_LINK, .stage = 2} : answer_to(task);
 }
 
 static cf_outcome outcome_of(cf_handle *graph, uint16_t stage) {
@@ -56,7 +35,7 @@ static int swept(cf_handle *sweep, cf_task *task) {
   int calls = 0;
   uint32_t code;
   while ((code = cf_sweep_next(sweep, task)) == CF_OK) {
-    task->answer = answer_to(task);
+    task->answer = given_to(task);
     calls++;
   }
   row("the last step", code, CF_NOTHING);
@@ -71,7 +50,7 @@ static void by_sweep(cf_handle *graph) {
   row("once more, nothing is ready", cf_sweep_next(graph, &task), CF_NOTHING);
   row("end", cf_sweep_end(graph), CF_OK);
   holds("the linked stage", has(graph, LINKED, 14));
-  printf("by a sweep: %d functions, sum %d\n", calls, outcome_of(graph, 3).value.number);
+  printf("by a sweep: %d functions, sum %d\n", calls, outcome_of(graph, SUM).value.number);
 }
 
 /* Whether a step has this code, and leaves the task as it was. */
@@ -127,7 +106,7 @@ static void refused(cf_handle *plan, cf_handle *graph) {
   row("end", cf_sweep_end(graph), CF_OK);
   row("a second end", cf_sweep_end(graph), CF_WRONG_KIND);
   holds("the throw", outcome_of(graph, 0).kind == CF_THROWN && outcome_of(graph, 0).code == 9);
-  holds("what followed from it", outcome_of(graph, 3).kind == CF_THROWN && outcome_of(graph, 3).wrapped == 1);
+  holds("what followed from it", outcome_of(graph, SUM).kind == CF_THROWN && outcome_of(graph, SUM).wrapped == 1);
   holds("the bad answer", outcome_of(graph, 1).kind == CF_BAD_ANSWER);
   row("nothing is ready", cf_lowest_ready(graph, &stage), CF_NOTHING);
 }
@@ -141,7 +120,7 @@ static void freed(cf_handle *plan) {
     row("begin", cf_sweep_begin(&graph), CF_OK);
     for (int step = 0; step < steps; step++) {
       row("a step", cf_sweep_next(&graph, &task), CF_OK);
-      task.answer = answer_to(&task);
+      task.answer = given_to(&task);
     }
     if (steps == 3) swept(&graph, &task);
     cf_free(&graph);
@@ -163,13 +142,13 @@ static void in_the_midst(cf_handle *plan) {
   printf("in the midst: %d functions\n", swept(&graph, &task));
   row("end", cf_sweep_end(&graph), CF_OK);
   holds("the double, and its double", has(&graph, 2, 10) && has(&graph, STAGES, 20));
-  holds("the sum waits", outcome_of(&graph, 3).kind == CF_PENDING);
-  row("finish", cf_finish(&graph, ME, 1, number(8), &reply), CF_OK);
+  holds("the sum waits", outcome_of(&graph, SUM).kind == CF_PENDING);
+  row("finish", cf_finish(&graph, ME, 1, (cf_answer){.kind = CF_GIVE, .value = {CF_INT, 8}}, &reply), CF_OK);
   holds("the claim was open", reply.answer == CF_WON);
   row("begin", cf_sweep_begin(&graph), CF_OK);
   printf("after the finish: %d functions\n", swept(&graph, &task));
   row("end", cf_sweep_end(&graph), CF_OK);
-  holds("the sum, and what is linked", has(&graph, 3, 18) && has(&graph, LINKED, 10));
+  holds("the sum, and what is linked", has(&graph, SUM, 18) && has(&graph, LINKED, 10));
   row("restart", cf_restart(&graph), CF_OK);
   by_sweep(&graph);
   cf_free(&graph);
@@ -186,6 +165,5 @@ int main(void) {
   in_the_midst(&plan);
   cf_free(&graph);
   cf_free(&plan);
-  printf("%d rows, %d wrong\n", rows, wrong);
-  return wrong != 0;
+  return end_rows();
 }

@@ -18,6 +18,7 @@ from facts import version  # noqa: E402
 
 HERE = Path(__file__).resolve().parent
 TOP = HERE.parents[2]
+PROGRAMS = TOP / "clients/c"
 HEADER = (HERE.parent / "include/cf.h").read_text(encoding="utf-8")
 SECTION = re.compile(r"^/\* ---- (.*?) ---- \*/$", re.M)
 CALL = re.compile(r"^[a-z].*?\b(cf_\w+)\(", re.M)
@@ -99,20 +100,25 @@ def described(text: str) -> Iterator[str]:
 
 
 def printed(example: str) -> str:
-    readme = (TOP / "clients/c/README.md").read_text(encoding="utf-8")
+    readme = (PROGRAMS / "README.md").read_text(encoding="utf-8")
     block = re.search(rf"^What `{re.escape(example)}` prints:\n+```\w*\n(.*?)^```$", readme, re.M | re.S)
     if not block:
         raise SystemExit(f"manual.py: clients/c/README.md doesn't say what {example} prints")
     return block[1]
 
 
+def code_of(example: str) -> str:
+    """The program, with rows.h in the place where it includes that: who reads the manual has cf.h alone."""
+    program, rows = ((PROGRAMS / name).read_text(encoding="utf-8") for name in [example, "rows.h"])
+    return program.replace('#include "rows.h"\n', rows.replace('#include "cf.h"\n', ""))
+
+
 def page_of(page: Page, text: str, calls: List[str]) -> str:
     number = ".".join(version(HEADER))
-    example = (TOP / "clients/c" / page.example).read_text(encoding="utf-8")
     lines = [f'.TH {page.name.upper()} 3 "" "cf {number}" "Library calls"', ".SH NAME"]
     lines += [f"{', '.join([page.name, *calls])} \\- {page.about}", ".SH SYNOPSIS", ".nf", ".B #include <cf.h>", ".PP"]
     lines += [escaped("cc FILE.c $(pkg-config --cflags --libs cf)"), ".fi", ".SH DESCRIPTION", *described(text), ".SH EXAMPLES"]
-    lines += [*shown(example.splitlines()), ".PP", "It prints:", *shown(printed(page.example).splitlines()), ".SH SEE ALSO"]
+    lines += [*shown(code_of(page.example).splitlines()), ".PP", "It prints:", *shown(printed(page.example).splitlines()), ".SH SEE ALSO"]
     lines += [f".BR {other.name} (3){',' if other != [it for it in PAGES if it != page][-1] else ''}" for other in PAGES if other != page]
     return "\n".join(lines) + "\n"
 

@@ -112,22 +112,6 @@ fn same_outcomes(a: &[Option<Outcome>], b: &[Option<Outcome>]) -> bool
     ensures same { result ≡ true → a.now ≡ b.now }
     ensures other { a.now ≡ b.now → result ≡ true }
 {
-    if a.len() != b.len() {
-        return false;
-    }
-    for i in 0..a.len() {
-        if !same_outcome(a[i], b[i]) {
-            return false;
-        }
-    }
-    true
-}
-
-/// Whether it is the same outcome.
-fn same_outcome(a: Option<Outcome>, b: Option<Outcome>) -> bool
-    ensures same { result ≡ true → a ≡ b }
-    ensures other { a ≡ b → result ≡ true }
-{
     a == b
 }
 

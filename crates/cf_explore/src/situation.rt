@@ -93,37 +93,13 @@ fn same_places(a: &[Place], b: &[Place]) -> bool
     ensures same { result ≡ true → a.now ≡ b.now }
     ensures other { a.now ≡ b.now → result ≡ true }
 {
-    if a.len() != b.len() {
-        return false;
-    }
-    for i in 0..a.len() {
-        if a[i].at != b[i].at || a[i].looks != b[i].looks {
-            return false;
-        }
-    }
-    true
+    a == b
 }
 
 /// Whether they are the same hands.
 fn same_hands(a: &[Hand], b: &[Hand]) -> bool
     ensures same { result ≡ true → a.now ≡ b.now }
     ensures other { a.now ≡ b.now → result ≡ true }
-{
-    if a.len() != b.len() {
-        return false;
-    }
-    for i in 0..a.len() {
-        if !same_hand(a[i], b[i]) {
-            return false;
-        }
-    }
-    true
-}
-
-/// Whether it is the same hand.
-fn same_hand(a: Hand, b: Hand) -> bool
-    ensures same { result ≡ true → a ≡ b }
-    ensures other { a ≡ b → result ≡ true }
 {
     a == b
 }
@@ -133,13 +109,5 @@ fn same_marks(a: &[bool], b: &[bool]) -> bool
     ensures same { result ≡ true → a.now ≡ b.now }
     ensures other { a.now ≡ b.now → result ≡ true }
 {
-    if a.len() != b.len() {
-        return false;
-    }
-    for i in 0..a.len() {
-        if a[i] != b[i] {
-            return false;
-        }
-    }
-    true
+    a == b
 }

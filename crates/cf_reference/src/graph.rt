@@ -191,21 +191,6 @@ fn no_claims(alloc: Global, count: usize) -> Result<Vec<Option<u8>>, AllocError>
 fn same_states(a: &[Stage], b: &[Stage]) -> bool
     ensures { IsTrue result ↔ (a.now ≡ b.now) }
 {
-    if a.len() != b.len() {
-        return false;
-    }
-    for i in 0..a.len() {
-        if !same_state(a[i], b[i]) {
-            return false;
-        }
-    }
-    true
-}
-
-/// Whether it is the same state.
-fn same_state(a: Stage, b: Stage) -> bool
-    ensures { IsTrue result ↔ (a ≡ b) }
-{
     a == b
 }
 
@@ -213,15 +198,7 @@ fn same_state(a: Stage, b: Stage) -> bool
 fn same_claims(a: &[Option<u8>], b: &[Option<u8>]) -> bool
     ensures { IsTrue result ↔ (a.now ≡ b.now) }
 {
-    if a.len() != b.len() {
-        return false;
-    }
-    for i in 0..a.len() {
-        if a[i] != b[i] {
-            return false;
-        }
-    }
-    true
+    a == b
 }
 
 /// The outcomes of these stages.

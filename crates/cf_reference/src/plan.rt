@@ -222,22 +222,7 @@ fn same_planned(a: &Plan, b: &Plan, i: u16) -> bool
 fn same_limits(a: &[Limit], b: &[Limit]) -> bool
     ensures { IsTrue result ↔ (a.now ≡ b.now) }
 {
-    if a.len() != b.len() {
-        return false;
-    }
-    for i in 0..a.len() {
-        if !same_limit(a[i], b[i]) {
-            return false;
-        }
-    }
-    true
-}
-
-/// Whether they are the same limit.
-fn same_limit(a: Limit, b: Limit) -> bool
-    ensures { IsTrue result ↔ (a ≡ b) }
-{
-    a.stage == b.stage && a.at == b.at && a.kind == b.kind
+    a == b
 }
 
 /// Whether they are the same stages.

@@ -17,20 +17,21 @@ from case import fails, inc, leaves, no_thread, program, starting, until
 from cf.service import Service
 
 
-class Shutdown(unittest.TestCase):
-    def ends(self, ending):
-        """Whether a service's threads end once it is shut down."""
-        ends = threading.Thread(target=ending.shutdown, daemon=True)
-        ends.start()
-        ends.join(20)
-        if not ends.is_alive():
-            return True
-        with contextlib.suppress(queue.Empty):  # (or they would never)
-            while True:
-                ending._works._stages.get(timeout=0.5)
-        ending._works._stages.put(None)
-        return False
+def ends(service):
+    """Whether a service's threads end once it is shut down."""
+    ending = threading.Thread(target=service.shutdown, daemon=True)
+    ending.start()
+    ending.join(20)
+    if not ending.is_alive():
+        return True
+    with contextlib.suppress(queue.Empty):  # (or they would never)
+        while True:
+            service._works._stages.get(timeout=0.5)
+    service._works._stages.put(None)
+    return False
 
+
+class Shutdown(unittest.TestCase):
     def test_shutdown_does_what_was_handed_in(self):
         ending, done = Service(2), []
         of_ending = ending.request()
@@ -99,7 +100,7 @@ class Shutdown(unittest.TestCase):
                 thread.join(20)
         lets_end.set()
         self.assertTrue(running.result(20))
-        self.assertTrue(self.ends(ending))
+        self.assertTrue(ends(ending))
 
     def test_shutdown_with_cancel_goes_on_after_a_callback(self):
         ending, lets_end = Service(1), threading.Event()
@@ -208,19 +209,6 @@ class Shutdown(unittest.TestCase):
 
 
 class Initializers(unittest.TestCase):
-    def ends(self, initialized):
-        """Whether a service's threads end once it is shut down."""
-        ends = threading.Thread(target=initialized.shutdown, daemon=True)
-        ends.start()
-        ends.join(20)
-        if not ends.is_alive():
-            return True
-        with contextlib.suppress(queue.Empty):  # (or they would never)
-            while True:
-                initialized._works._stages.get(timeout=0.5)
-        initialized._works._stages.put(None)
-        return False
-
     def test_initializers_that_fail_let_others_end(self):
         initialized, numbers = Service(3, initializer=lambda: init()), iter(range(3))
         begun, fail, lets_end = threading.Event(), threading.Event(), threading.Event()
@@ -238,7 +226,7 @@ class Initializers(unittest.TestCase):
                 self.assertIsInstance(stage.exception(20), concurrent.futures.BrokenExecutor)
         lets_end.set()
         self.assertTrue(running.result(20))
-        self.assertTrue(self.ends(initialized))
+        self.assertTrue(ends(initialized))
 
     def test_initializer(self):
         local = threading.local()

@@ -21,7 +21,7 @@ sys.path.insert(0, str(HERE))
 if not os.environ.get("CF_INSTALLED"):
     sys.path.insert(0, str(CLIENT))
 import shared_functions as f  # noqa: E402
-from cf.shared import DurableService, Functions, connect, new_session  # noqa: E402
+from cf.shared import DurableService, Functions, Memory, connect, new_session  # noqa: E402
 from cf.shared.plans import text_of  # noqa: E402
 
 STORES = os.environ.get("CF_STORES", "").split()
@@ -50,6 +50,14 @@ class Case(unittest.TestCase):
         made = DurableService(connect(address or self.address), 2, functions=f.functions, lease=self.lease, **more)
         self.services.append(made)
         return made
+
+    def memory_that_two_share(self):
+        """A store, a service over it that calls no function, and one that works on all requests."""
+        store = Memory()
+        asks = DurableService(store, 0, functions=f.functions, lease=0.5)
+        works = DurableService(store, 1, functions=f.functions, lease=0.5, takes_all=True)
+        self.services += [asks, works]
+        return store, asks, works
 
     def worker(self, address=None, lease=None):
         head = "import sys; sys.path[:0] = %r; from cf import worker; sys.exit(worker.main(sys.argv[1:]))"

@@ -83,11 +83,7 @@ class Closing(Case):
     def test_a_request_that_others_open_again(self):
         """It was let go here, and who waits for one of its stages is told all the same. A plain request that was
         ended is opened again, too."""
-        store = Memory()
-        asks, works = DurableService(store, 0, functions=f.functions,
-                                     lease=0.5), DurableService(store, 1, functions=f.functions, lease=0.5,
-                                                                takes_all=True)
-        self.services += [asks, works]
+        store, asks, works = self.memory_that_two_share()
         reopened = asks.request("r")
         promise = reopened.promise("p")
         reopened.end()
@@ -168,11 +164,7 @@ class NamesUsedAgain(Case):
     def test_a_name_that_began_anew_with_fewer_words(self):
         """A worker that has seen more words of an earlier request of the name works on the new one; who has the old
         one is told."""
-        store = Memory()
-        asks, works = DurableService(store, 0, functions=f.functions,
-                                     lease=0.5), DurableService(store, 1, functions=f.functions, lease=0.5,
-                                                                takes_all=True)
-        self.services += [asks, works]
+        store, asks, works = self.memory_that_two_share()
         old = asks.request("r")
         other = old.promise()
 

@@ -1,17 +1,14 @@
 //! The computer's clock: one for the process, so these tests have a process of their own, and go one after another.
+mod common;
+
 use cf::{Alarm, Clock, Error, Inline, Pool, Refusal, Request, SystemClock};
-use std::future::Future;
-use std::panic::panic_any;
-use std::pin::Pin;
+use common::{poll, Throws, LONG, SHORT};
 use std::sync::mpsc::channel;
 use std::sync::{Arc, Mutex, MutexGuard, PoisonError};
-use std::task::{Context, Wake, Waker};
+use std::task::Waker;
 use std::thread;
 use std::time::{Duration, Instant};
 
-/// Longer than a machine at its limit takes.
-const LONG: Duration = Duration::from_secs(30);
-const SHORT: Duration = Duration::from_millis(20);
 const HOUR: Duration = Duration::from_secs(3600);
 
 fn alone() -> MutexGuard<'static, ()> {
@@ -62,25 +59,8 @@ fn a_function_that_takes_long_delays_no_other_timeout() {
     }
 }
 
-/// A waker that panics, with something that panics as it is dropped.
-struct Panics;
-
-struct Drops;
-
-impl Drop for Drops {
-    fn drop(&mut self) {
-        panic!("in a drop");
-    }
-}
-
-impl Wake for Panics {
-    fn wake(self: Arc<Self>) {
-        panic_any(Drops);
-    }
-}
-
 fn panics_at_its_end(clocked_stage: &mut cf::Stage<i32>) {
-    assert!(Pin::new(clocked_stage).poll(&mut Context::from_waker(&Waker::from(Arc::new(Panics)))).is_pending());
+    assert!(!poll(clocked_stage, &Waker::from(Arc::new(Throws))));
 }
 
 #[test]

@@ -1,6 +1,8 @@
 //! Time-outs and bad answers: events of their own in all that is told, and errors that are kept for all that hangs on them.
-use cf::{Describe, Error, HandClock, Inline, Job, Request, Spawn, Stage};
-use std::collections::VecDeque;
+mod common;
+
+use cf::{Describe, Error, HandClock, Inline, Job, Request, Stage};
+use common::Keeps;
 use std::fmt::Debug;
 use std::sync::{Arc, Mutex};
 use std::time::Duration;
@@ -175,22 +177,11 @@ fn request_of_another(clock: &HandClock, failed_stage: &Stage<i32>) -> Stage<i32
     failing(clock).adopt(failed_stage).then(|n| n + 1)
 }
 
-/// Jobs that wait until a test runs them.
-#[derive(Clone, Default)]
-struct Later(Arc<Mutex<VecDeque<Job>>>);
-
-impl Spawn for Later {
-    fn spawn(&self, job: Job) -> Result<(), Job> {
-        self.0.lock().unwrap().push_back(job);
-        Ok(())
-    }
-}
-
 /// A worker that calls functions one after another calls each with the error of its own source.
 #[test]
 fn each_function_is_called_with_its_own() {
-    let (clock, later) = (HandClock::new(), Later::default());
-    let failing = Request::with_clock("functions", Arc::new(later.clone()), Arc::new(clock.clone()));
+    let (clock, keeps) = (HandClock::new(), Keeps::default());
+    let failing = Request::with_clock("functions", Arc::new(keeps.clone()), Arc::new(clock.clone()));
     let behind: Vec<Stage<String>> = [5, 3, 4]
         .into_iter()
         .map(|wait| {
@@ -203,11 +194,11 @@ fn each_function_is_called_with_its_own() {
     assert!(bad.fail(Error::BadAnswer));
     clock.turn(seconds(5));
     loop {
-        let job = later.0.lock().unwrap().pop_front();
-        match job {
-            Some(job) => job.run(),
-            None => break,
+        let jobs = std::mem::take(&mut *keeps.0.lock().unwrap());
+        if jobs.is_empty() {
+            break;
         }
+        jobs.into_iter().for_each(Job::run);
     }
     let texts: Vec<String> = behind.iter().map(|failed_stage| failed_stage.peek().unwrap().unwrap()).collect();
     assert_eq!(texts, ["timed out after 5s", "timed out after 3s", "timed out after 4s"]);

@@ -1,5 +1,8 @@
 //! What histories tell: nothing that a name, a value or an error could forge, as much of values and errors as is wanted, and all that came.
+mod common;
+
 use cf::{Describe, Error, History, Inline, Request, Stage};
+use common::{Drops, Looks, LONG};
 use std::error::Error as StdError;
 use std::fmt;
 use std::panic::{catch_unwind, panic_any, AssertUnwindSafe};
@@ -7,9 +10,6 @@ use std::sync::atomic::{AtomicUsize, Ordering};
 use std::sync::mpsc::channel;
 use std::sync::{Arc, Mutex};
 use std::thread;
-use std::time::Duration;
-
-const LONG: Duration = Duration::from_secs(20);
 
 /// Ends of lines for somebody, controls, formats, and what this crate itself writes between events.
 const ODD: &str = "a\n    0.000 ms  caller completes 9 b\r\u{85}\u{2028}\u{2029}\u{b}\u{c}\u{1b}[2K\u{202e}\u{200b}\u{e0041}; caller fails 9";
@@ -197,16 +197,10 @@ fn what_cannot_be_told_is_a_question_mark() {
     }
     impl fmt::Display for Panics {
         fn fmt(&self, _: &mut fmt::Formatter<'_>) -> fmt::Result {
-            panic_any(DropPanics)
+            panic_any(Drops)
         }
     }
     impl StdError for Panics {}
-    struct DropPanics;
-    impl Drop for DropPanics {
-        fn drop(&mut self) {
-            panic!("in a drop");
-        }
-    }
     #[derive(Debug)]
     struct Fails;
     impl fmt::Display for Fails {
@@ -229,7 +223,7 @@ fn what_cannot_be_told_is_a_question_mark() {
         other => panic!("{other:?}"),
     }
 
-    let (recorded, _) = secret(Some(Describe::by(|ended| if ended.is_ok() { panic_any(DropPanics) } else { "told".into() })));
+    let (recorded, _) = secret(Some(Describe::by(|ended| if ended.is_ok() { panic_any(Drops) } else { "told".into() })));
     let told = ends(&whole(|| recorded.history()));
     assert_eq!((&told[0][..], &told[4][..]), ("0 token: ?", "4 refused: told"));
 }
@@ -250,12 +244,6 @@ fn line_of<T>(recorded_stage: &Stage<T>) -> String {
 /// The function, and the drop of the one before, look at the request whose history is taken.
 #[test]
 fn a_function_is_asked_under_no_lock() {
-    struct Looks(Stage<i32>);
-    impl Drop for Looks {
-        fn drop(&mut self) {
-            assert!(self.0.is_settled());
-        }
-    }
     let (ends, end) = channel();
     let thread = thread::spawn(move || {
         let recorded = Request::new("looks", Inline);

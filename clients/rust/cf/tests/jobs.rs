@@ -2,20 +2,12 @@
 mod common;
 
 use cf::{Error, Job, Pool, Refusal, Request, Spawn, Stage};
-use common::LONG;
+use common::{Keeps, LONG};
 use std::sync::{Arc, Mutex};
 
 #[test]
 fn a_job_that_is_dropped_lets_what_is_ready_fail() {
-    #[derive(Default)]
-    struct Keeps(Mutex<Vec<Job>>);
-    impl Spawn for Keeps {
-        fn spawn(&self, job: Job) -> Result<(), Job> {
-            self.0.lock().unwrap().push(job);
-            Ok(())
-        }
-    }
-    let keeps = Arc::new(Keeps::default());
+    let keeps = Keeps::default();
     let of_jobs = Request::new("dropped", keeps.clone());
     let behind_job = of_jobs.supply(|| 1);
     assert!(!behind_job.is_settled());

@@ -2,11 +2,11 @@
 mod common;
 
 use cf::{Alarm, Clock, Error, Inline, Job, Pool, Request, Spawn, Stage};
-use common::{comes_back, poll, Counts, Keeps, Panics, LONG};
+use common::{comes_back, poll, Counts, Drops, Keeps, Panics, Throws, LONG};
 use std::panic::{catch_unwind, AssertUnwindSafe};
 use std::sync::atomic::{AtomicBool, AtomicUsize, Ordering};
 use std::sync::Arc;
-use std::task::{Wake, Waker};
+use std::task::Waker;
 use std::time::Duration;
 
 #[test]
@@ -39,12 +39,6 @@ fn a_worker_lives_on_after_a_waker_that_panics() {
 
 #[test]
 fn a_drop_that_panics_keeps_nobody_from_being_told() {
-    struct Drops;
-    impl Drop for Drops {
-        fn drop(&mut self) {
-            panic!("in a drop");
-        }
-    }
     let panicking = Request::new("panics", Inline);
     let before_panic = panicking.promise::<i32>();
     let behind = [Drops, Drops].map(|held| before_panic.clone().then(move |_| drop(held)));
@@ -157,12 +151,6 @@ fn a_clock_that_panics_leaves_no_stage_pending() {
 
 #[test]
 fn a_future_whose_drop_panics_gives_its_claim_back() {
-    struct Drops;
-    impl Drop for Drops {
-        fn drop(&mut self) {
-            panic!("in a drop");
-        }
-    }
     comes_back(|| {
         let panicking = Request::new("drops", Inline);
         let held = Drops;
@@ -179,18 +167,6 @@ fn a_future_whose_drop_panics_gives_its_claim_back() {
 /// Several things panic with what panics as it is dropped. All else is told, and the first is passed on.
 #[test]
 fn payloads_that_panic_keep_nobody_from_being_told() {
-    struct Drops;
-    impl Drop for Drops {
-        fn drop(&mut self) {
-            panic!("in a payload");
-        }
-    }
-    struct Throws;
-    impl Wake for Throws {
-        fn wake(self: Arc<Self>) {
-            std::panic::panic_any(Drops);
-        }
-    }
     comes_back(|| {
         let panicking = Request::new("payloads", Inline);
         let (before_panic, counts) = (panicking.promise::<i32>(), Arc::new(Counts::default()));

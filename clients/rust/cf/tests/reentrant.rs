@@ -3,7 +3,7 @@
 mod common;
 
 use cf::{Error, Inline, Pool, Request, Stage};
-use common::{comes_back, poll, Directly, Yields};
+use common::{comes_back, poll, Directly, Looks, Yields};
 use std::cell::RefCell;
 use std::future::Future;
 use std::pin::Pin;
@@ -56,12 +56,6 @@ fn a_waker_is_called_under_a_lock_that_the_poll_takes() {
 /// The last handle of another request goes with an answer that comes too late, and what that request holds looks at this one.
 #[test]
 fn a_late_answer_is_dropped_without_the_lock() {
-    struct Looks(Stage<i32>);
-    impl Drop for Looks {
-        fn drop(&mut self) {
-            assert!(self.0.is_settled());
-        }
-    }
     comes_back(|| {
         let reentered = Request::new("looks", Inline);
         let reentered_gate = reentered.promise::<i32>();

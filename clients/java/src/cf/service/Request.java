@@ -644,55 +644,47 @@ public final class Request implements AutoCloseable {
     // Settling.
 
     boolean complete(int stage, Object value, int by) {
-        checkDepth();
-        News news = new News();
-        boolean did;
-        synchronized (ledger) {
-            int who = who();
-            did = change(Words.complete(by < 0 ? who : by, stage, number(value)), who, news);
-            claimNext(news, who);
-        }
-        tell(news);
-        return did;
+        return settle(Words.COMPLETE, stage, value, by);
     }
 
     boolean fail(int stage, Throwable error) {
-        checkDepth();
-        News news = new News();
-        boolean did;
-        synchronized (ledger) {
-            int who = who();
-            did = change(Words.fail(who, stage, code(error)), who, news);
-            claimNext(news, who);
-        }
-        tell(news);
-        return did;
+        return settle(Words.FAIL, stage, error, -1);
     }
 
     boolean timeOut(int stage) {
+        return settle(Words.FAIL_AS, stage, null, CLOCK);
+    }
+
+    boolean cancel(int stage) {
+        return settle(Words.CANCEL, stage, null, -1);
+    }
+
+    /** Does one word by this caller, or by this thread's where it is below 0, and tells what came of it. Answers whether it settled the stage. */
+    private boolean settle(int kind, int stage, Object given, int by) {
         checkDepth();
         News news = new News();
         boolean did;
         synchronized (ledger) {
             int who = who();
-            did = change(Words.failAs(CLOCK, stage, Words.TIMED_OUT), who, news);
+            did = change(word(kind, by < 0 ? who : by, stage, given), who, news);
             claimNext(news, who);
         }
         tell(news);
         return did;
     }
 
-    boolean cancel(int stage) {
-        checkDepth();
-        News news = new News();
-        boolean did;
-        synchronized (ledger) {
-            int who = who();
-            did = change(Words.cancel(who, stage), who, news);
-            claimNext(news, who);
+    /** The word that settles a stage with what is given: a value, an exception, or nothing. */
+    private long word(int kind, int who, int stage, Object given) {
+        switch (kind) {
+            case Words.COMPLETE:
+                return Words.complete(who, stage, number(given));
+            case Words.FAIL:
+                return Words.fail(who, stage, code((Throwable) given));
+            case Words.FAIL_AS:
+                return Words.failAs(who, stage, Words.TIMED_OUT);
+            default:
+                return Words.cancel(who, stage);
         }
-        tell(news);
-        return did;
     }
 
     /** The word by which a relay is settled as a stage of this request or another one was; see {@link Link#wraps}. */

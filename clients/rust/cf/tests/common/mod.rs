@@ -1,8 +1,9 @@
-//! What several tests use: a limit of time, wakers that panic or count, futures that wake themselves, executors that keep jobs.
+//! What several tests use: a limit of time, wakers that panic or count, drops that panic or look, futures that wake themselves, executors that
+//! keep jobs.
 #![allow(dead_code)] // (each test takes a part)
 use cf::{Error, Job, Spawn, Stage};
 use std::future::Future;
-use std::panic::{catch_unwind, resume_unwind, AssertUnwindSafe};
+use std::panic::{catch_unwind, panic_any, resume_unwind, AssertUnwindSafe};
 use std::pin::Pin;
 use std::sync::atomic::{AtomicUsize, Ordering};
 use std::sync::mpsc::channel;
@@ -32,6 +33,33 @@ pub struct Panics;
 impl Wake for Panics {
     fn wake(self: Arc<Self>) {
         panic!("in a waker");
+    }
+}
+
+/// Panics as it is dropped.
+pub struct Drops;
+
+impl Drop for Drops {
+    fn drop(&mut self) {
+        panic!("in a drop");
+    }
+}
+
+/// A waker that panics with what panics as it is dropped.
+pub struct Throws;
+
+impl Wake for Throws {
+    fn wake(self: Arc<Self>) {
+        panic_any(Drops);
+    }
+}
+
+/// Looks at a stage as it is dropped.
+pub struct Looks(pub Stage<i32>);
+
+impl Drop for Looks {
+    fn drop(&mut self) {
+        assert!(self.0.is_settled());
     }
 }
 
