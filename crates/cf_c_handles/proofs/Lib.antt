@@ -1,5 +1,6 @@
 mod AsBox
 pub mod Callers
+pub mod Claims
 pub mod ClosedLemmas
 pub mod CodeNames
 pub mod DeskSteps

@@ -1,9 +1,11 @@
 -- What a ledger behind a handle is asked.
-use Rattle.std.specs.Prelude.{◌≡◌, ℕ, ◌+◌, ◌<◌, ◌≤◌, true, false, Option, Some, None, Result, Ok, Err, List, [], drop, get_or, length, map, nat_lt, slice_get, take, if◌then◌else◌}
+use Rattle.std.specs.Prelude.{◌≡◌, ℕ, ◌+◌, ◌<◌, ◌≤◌, true, false, Option, Some, None, Result, Ok, Err, List, [], ◌∷◌, drop, get_or, length, map, nat_lt, slice_get, take, if◌then◌else◌}
 use Rattle.std.specs.Option.{option_map}
 use Rattle.cf_outcome.specs.declared.outcome.Outcome.{Outcome}
 use Rattle.cf_forms.specs.Plans.{Planned, function_at, has_place, with_room}
 use Rattle.cf_model.specs.declared.events.Reply.{Reply}
+use Rattle.cf_model.specs.declared.replies.Claimed.{Claimed as Claimed'}
+use Rattle.cf_model.specs.declared.replies.Claimed.TheVariants.{Granted}
 use Rattle.cf_model.specs.declared.stage.Stage.{Stage}
 use Rattle.cf_model.specs.declared.stage.Stage.TheVariants.{Pending, Ready, Claimed, Linked, Settled}
 use Rattle.cf_model.specs.Graphs.{AreNews, NoneReady, stage_in}
@@ -147,6 +149,15 @@ pub record AreWritten {X : Type 0} (from : ℕ → X) (stages : List ℕ) (old n
   pub reach : length new ≡ length old
   pub given : (k : ℕ) → k < length stages → k < length old → slice_get new k ≡ option_map from (slice_get stages k)
   pub kept : (k : ℕ) → length stages ≤ k → slice_get new k ≡ slice_get old k
+
+-- a claim that is granted changes its own stage, and any other none
+abbrev pub claimed_stages : Claimed' → ℕ → List ℕ
+claimed_stages (Granted args) i = i ∷ []
+claimed_stages told i = []
+
+-- and what it is then
+abbrev pub claimed_news : ℕ → ℕ → CfNews
+claimed_news who i = record { stage = i; now = as_stage Claimed (Some who) }
 
 -- the stages that the event at a place changed are written, each as it is now
 pub record HaveNews (l : Ledger') (place : ℕ) (old new : List CfNews) (count : ℕ) : Type 0 where

@@ -1,6 +1,7 @@
 //! Values, outcomes, arguments, answers and replies as C has them. An unknown `kind` is read as the last one.
-ghost use Rattle.std.specs.Prelude.{◌≡◌};
+ghost use Rattle.std.specs.Prelude.{◌≡◌, None, Some};
 ghost use Rattle.cf_forms.specs.declared.forms.Args.TheVariants.{None as NoArgs};
+ghost use Rattle.cf_model.specs.declared.events.Reply.TheVariants.{Claim};
 ghost use Rattle.cf_c_handles.specs.Replies.{as_reply, finish_number, reply_with};
 ghost use Rattle.cf_c_handles.specs.Values.{answer_of, answer_with, args_with, as_answer, as_args, as_fault, as_now, as_outcome, as_value, cause_of, no_fault, outcome_of, value_of};
 
@@ -180,6 +181,21 @@ pub(crate) fn as_outcome(o: Option<Outcome>) -> CfOutcome
     }
 }
 
+/// Writes an outcome, where it was written that there is none.
+#[inline(always)]
+pub(crate) fn put_outcome(out: &mut CfOutcome, o: Outcome)
+    requires { out.old ≡ as_outcome None }
+    ensures { out.new ≡ as_outcome (Some o) }
+{
+    match o {
+        Outcome::Value(v) => {
+            out.kind = 1;
+            out.value = as_value(v);
+        }
+        Outcome::Fault { cause, wrapped } => *out = fault(cause, wrapped),
+    }
+}
+
 /// The outcome that C means, or that there is none.
 #[inline(always)]
 pub fn outcome_of(o: CfOutcome) -> Option<Outcome>
@@ -231,6 +247,31 @@ pub(crate) fn as_args(args: Args) -> CfArgs
         Args::One(v) => args_with(1, as_value(v), NIL, None),
         Args::Two(v, w) => args_with(2, as_value(v), as_value(w), None),
         Args::Got(o) => args_with(3, NIL, NIL, Some(o)),
+    }
+}
+
+/// Writes what a function is called with. Only the parts that aren't 0 are written one by one, so that nothing is put
+/// together in memory first and then copied.
+#[inline(always)]
+pub(crate) fn put_args(out: &mut CfArgs, args: Args)
+    ensures { out.new ≡ as_args args }
+{
+    *out = args_with(0, NIL, NIL, None);
+    match args {
+        Args::None => {}
+        Args::One(v) => {
+            out.kind = 1;
+            out.first = as_value(v);
+        }
+        Args::Two(v, w) => {
+            out.kind = 2;
+            out.first = as_value(v);
+            out.second = as_value(w);
+        }
+        Args::Got(o) => {
+            out.kind = 3;
+            out.outcome = as_outcome(Some(o));
+        }
     }
 }
 
@@ -299,7 +340,21 @@ pub(crate) fn no_reply() -> CfReply
     reply_with(0, 0, Args::None)
 }
 
-/// A reply for C.
+/// Writes what a claim is answered, as `put_args` does.
+#[inline(always)]
+pub(crate) fn put_claim(reply: &mut CfReply, told: Claimed)
+    ensures { reply.new ≡ as_reply (Claim told) }
+{
+    *reply = no_reply();
+    match told {
+        Claimed::Granted(args) => put_args(&mut reply.args, args),
+        Claimed::Settled => reply.answer = 1,
+        Claimed::Taken => reply.answer = 2,
+        Claimed::NotReady => reply.answer = 3,
+    }
+}
+
+/// A reply for C. A desk's call stands in its callers' code only as long as this stays small.
 #[inline(always)]
 pub(crate) fn as_reply(reply: Reply) -> CfReply
     ensures { result ≡ as_reply reply }

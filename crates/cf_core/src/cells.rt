@@ -6,7 +6,7 @@ ghost use Rattle.cf_model.specs.declared.stage.Stage.TheVariants.{Pending};
 ghost use Rattle.cf_model.specs.States.{is_ready, outcome_of};
 ghost use Rattle.cf_core.specs.Keeping.Cells.{blank};
 ghost use Rattle.cf_core.specs.Keeping.Taking.{due_by_one, ready_with, with_one_taken};
-ghost use Rattle.cf_core.specs.Keeping.Treatment.{became, settled_kept};
+ghost use Rattle.cf_core.specs.Keeping.Treatment.{became, claimed_kept, settled_kept};
 ghost use Rattle.cf_core.specs.Keeping.Sound.{is_waiting, kept_at};
 ghost use Rattle.cf_core.specs.Keeping.Offers.{args_of};
 ghost use Rattle.cf_core.specs.Keeping.Starts.{untreated};
@@ -176,6 +176,19 @@ impl Cells {
         ensures { self.new ≡ record self.old { items = slice_set self.old.items i (settled_kept o step) } }
     {
         self.cells[i as usize].settle(o, step);
+    }
+
+    /// Claims a stage. Its step stays.
+    #[inline(always)]
+    #[tactic(auto, using(crate::proofs::Keeping::CellLemmas::map_written, crate::proofs::Keeping::CellLemmas::kept_there))]
+    pub fn claim(&mut self, i: u16)
+        requires { i < length self.old.items }
+        ensures { self.new ≡ record self.old {
+          items = slice_set self.old.items i
+              (claimed_kept (kept_at self.old.items i).step);
+        } }
+    {
+        self.cells[i as usize].claim();
     }
 
     /// Makes a stage ready. Its step stays.

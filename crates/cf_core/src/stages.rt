@@ -524,15 +524,9 @@ impl Stages {
         ensures room { SameRoom self.old self.new }
         ensures sound { AreSound plan.now.stages self.new }
     {
-        let step = self.kept.step(d);
-        self.put(
-            plan,
-            d,
-            KeptStage {
-                stage: Stage::Claimed,
-                step,
-            },
-        );
+        let _plan = plan;
+        self.kept.claim(d);
+        self.ready.remove(d);
     }
 
     /// Links a claimed stage of a form that composes to a lower stage that isn't settled, in a step of its own. No stage up to it waits for

@@ -138,9 +138,9 @@ impl Ledger {
         self.apply_other(word)
     }
 
-    /// Does a claim, whose word this is.
+    /// Does a claim, whose word this is, as `apply` does. Whoever has read the word already saves reading it again.
     #[inline(always)]
-    fn claim(&mut self, who: u8, stage: u16, word: u64) -> Result<Claimed, LedgerFault>
+    pub fn claim(&mut self, who: u8, stage: u16, word: u64) -> Result<Claimed, LedgerFault>
         requires read { event_of word ≡ Some (Claims who stage) }
         requires named { word_of (Claims who stage) ≡ word }
         ensures done { IfOk result (λ told. Does word self.old (ToldClaim told) self.new) }
@@ -166,9 +166,9 @@ impl Ledger {
         ))
     }
 
-    /// Does a finish, whose word this is.
+    /// Does a finish, whose word this is, as `apply` does.
     #[inline(always)]
-    fn finish(
+    pub fn finish(
         &mut self,
         who: u8,
         stage: u16,
@@ -201,9 +201,9 @@ impl Ledger {
         ))
     }
 
-    /// Does a word of any kind, in a call of its own.
+    /// Does a word of any kind as `apply` does, in a call of its own.
     #[inline(never)]
-    fn apply_other(&mut self, word: u64) -> Result<Reply, LedgerFault>
+    pub fn apply_other(&mut self, word: u64) -> Result<Reply, LedgerFault>
         ensures done { IfOk result (λ reply. Does word self.old reply self.new) }
         ensures refused { OnErr result (self.new ≡ self.old) }
         ensures why { IfErr result (λ fault. LedgerRefuses (state_of self.old) word fault) }

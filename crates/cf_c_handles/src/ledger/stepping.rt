@@ -31,12 +31,13 @@ pub fn step(
     match ledger.step(step.who, held_by(task), step.from) {
         Err(fault) => Err(step_code(fault)),
         Ok(done) => {
-            *n = finish_news(ledger, place, done.finish, news);
+            task.finished = late_number(done.finish);
+            let told = take(task, done.taken);
             step.place = place;
             step.finish = finish_word(done.finish);
             step.claim = claim_word(done.taken);
-            task.finished = late_number(done.finish);
-            take(task, done.taken)
+            *n = finish_news(ledger, place, done.finish, news);
+            told
         }
     }
 }

@@ -1,10 +1,10 @@
 //! A stage as C has it.
 ghost use Rattle.std.specs.Prelude.{◌≡◌};
-ghost use Rattle.cf_c_handles.specs.Ledgers.{as_stage, stage_with, who_or_nobody};
+ghost use Rattle.cf_model.specs.declared.stage.Stage.TheVariants.{Pending};
+ghost use Rattle.cf_c_handles.specs.Ledgers.{as_stage, who_or_nobody};
 
-use crate::values::{CfOutcome, as_outcome};
+use crate::values::{CfOutcome, as_outcome, put_outcome};
 use cf_ledger::Stage;
-use cf_outcome::Outcome;
 
 /// Stands for the caller of a stage that nobody has claimed.
 const NOBODY: u32 = 4_294_967_295;
@@ -33,24 +33,44 @@ pub struct CfNews {
 pub(crate) fn as_stage(stage: Stage, claimant: Option<u8>) -> CfStage
     ensures { result ≡ as_stage stage claimant }
 {
-    match stage {
-        Stage::Pending => stage_with(0, claimant, 0, None),
-        Stage::Ready(_) => stage_with(1, claimant, 0, None),
-        Stage::Claimed => stage_with(2, claimant, 0, None),
-        Stage::Linked(target) => stage_with(3, claimant, target, None),
-        Stage::Settled(outcome) => stage_with(4, claimant, 0, Some(outcome)),
+    let mut now = pending(claimant);
+    move_on(&mut now, stage, claimant);
+    now
+}
+
+/// A pending stage: all of it is 0 but the caller.
+#[inline(always)]
+pub(crate) fn pending(claimant: Option<u8>) -> CfStage
+    ensures { result ≡ as_stage Pending claimant }
+{
+    CfStage {
+        kind: 0,
+        who: who_or_nobody(claimant),
+        target: 0,
+        outcome: as_outcome(None),
     }
 }
 
+/// Writes how far a stage has come, where it was written as pending. Only the parts that aren't 0 are written, so that
+/// nothing is put together in memory first and then copied.
 #[inline(always)]
-fn stage_with(kind: u32, claimant: Option<u8>, target: u16, outcome: Option<Outcome>) -> CfStage
-    ensures { result ≡ stage_with kind claimant target outcome }
+pub(crate) fn move_on(now: &mut CfStage, stage: Stage, claimant: Option<u8>)
+    requires { now.old ≡ as_stage Pending claimant }
+    ensures { now.new ≡ as_stage stage claimant }
 {
-    CfStage {
-        kind,
-        who: who_or_nobody(claimant),
-        target,
-        outcome: as_outcome(outcome),
+    let _claimant = claimant;
+    match stage {
+        Stage::Pending => {}
+        Stage::Ready(_) => now.kind = 1,
+        Stage::Claimed => now.kind = 2,
+        Stage::Linked(target) => {
+            now.kind = 3;
+            now.target = target;
+        }
+        Stage::Settled(outcome) => {
+            now.kind = 4;
+            put_outcome(&mut now.outcome, outcome);
+        }
     }
 }
 

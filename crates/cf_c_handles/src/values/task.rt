@@ -3,7 +3,7 @@ ghost use Rattle.std.specs.Prelude.{◌≡◌};
 ghost use Rattle.cf_c_handles.specs.Tasks.{finished_as, held_by, holding, number_or_none};
 
 use crate::code::Code;
-use crate::values::{CfAnswer, CfArgs, answer_of, as_args, finish_number};
+use crate::values::{CfAnswer, CfArgs, answer_of, finish_number, put_args};
 use cf_forms::Args;
 use cf_ledger::Held;
 use cf_model::Finished;
@@ -30,7 +30,7 @@ impl CfTask {
         self.held = 1;
         self.stage = stage;
         self.function = number_or_none(function);
-        self.args = as_args(args);
+        put_args(&mut self.args, args);
     }
 }
 

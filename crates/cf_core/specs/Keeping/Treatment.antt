@@ -10,7 +10,7 @@ use Rattle.cf_forms.specs.declared.forms.Due.TheVariants.{Waits, Settles, Needs}
 use Rattle.cf_forms.specs.Forms.{follows, due_of_first, is_decided_by_first}
 use Rattle.cf_forms.specs.Plans.{PlannedStage}
 use Rattle.cf_model.specs.declared.stage.Stage.{Stage}
-use Rattle.cf_model.specs.declared.stage.Stage.TheVariants.{Pending, Ready, Linked, Settled}
+use Rattle.cf_model.specs.declared.stage.Stage.TheVariants.{Pending, Ready, Claimed, Linked, Settled}
 use Rattle.cf_model.specs.States.{outcome_of, outcome_in, new_states}
 use Rattle.cf_core.specs.declared.kept.KeptStage.{KeptStage}
 use Rattle.cf_core.specs.declared.kept.Treated.{Treated}
@@ -54,12 +54,15 @@ late_due form q =
     if is_decided_by_first form then (due_of_first form (outcome_part (earliest q)), step_part (earliest q))
     else (follows form (map outcome_part q), latest q)
 
--- a stage that settled at this step, and one that is ready
+-- a stage that settled at this step, one that is ready, and one that is claimed
 abbrev pub settled_kept : Outcome → ℕ → KeptStage
 settled_kept o step = record { stage = Settled o; step = step }
 
 abbrev pub ready_kept : Args → ℕ → KeptStage
 ready_kept args step = record { stage = Ready args; step = step }
+
+abbrev pub claimed_kept : ℕ → KeptStage
+claimed_kept step = record { stage = Claimed; step = step }
 
 -- a pending stage, by its own step, once it has taken what is due, at the step at which that is
 abbrev pub due_kept : Due → ℕ → ℕ → KeptStage
