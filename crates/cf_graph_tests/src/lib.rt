@@ -12,6 +12,8 @@ mod event;
 #[cfg(test)]
 mod explore;
 #[cfg(test)]
+mod functions;
+#[cfg(test)]
 mod graph;
 #[cfg(test)]
 mod outcome;

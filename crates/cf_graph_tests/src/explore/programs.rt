@@ -2,28 +2,15 @@
 ghost use Rattle.std.specs.Prelude.{◌≡◌};
 
 use crate::checks::{holds, must};
+use crate::functions::Always;
 use cf_explore::{Caller, Program, Step};
-use cf_forms::{Answer, Args, Form, Limit, StageFn};
+use cf_forms::{Answer, Form, Limit};
 use cf_plan::{Plan, PlanBuilder};
 use std::alloc::Global;
 use std::process::Abort;
 
 /// A stage: its form, its sources and the number of its function.
 pub(crate) type Stage = (Form, &'static [u16], Option<u16>);
-
-/// A function that always answers so.
-#[derive(Clone, Copy, Drop)]
-pub(crate) struct Always {
-    pub(crate) answer: Answer,
-}
-
-impl StageFn for Always {
-    ghost meaning = { λ f args. f.answer };
-
-    fn call(&self, _args: &Args) -> Answer {
-        self.answer
-    }
-}
 
 /// A program.
 #[derive(Clone, Copy)]

@@ -1,37 +1,24 @@
 //! Work: chains, links and faults, and how many functions are called.
 use crate::checks::same;
+use crate::functions::Always;
 use crate::graph::plans::{Row, SOURCE, longest_chain};
 use crate::graph::steps::{Step, graph_in, graph_of, take};
 use cf_core::Graph;
-use cf_forms::{Answer, Args, Each, Form, StageFn};
+use cf_forms::{Answer, Each, Form};
 use cf_model::{Claimed, Finished};
 use cf_outcome::{Cause, Outcome, Value};
 use std::alloc::Global;
 use std::process::Abort;
 
-/// Answers the same, whatever it is called with.
-#[derive(Drop)]
-struct Fixed {
-    answer: Answer,
-}
-
-impl StageFn for Fixed {
-    ghost meaning = { λ f args. f.answer };
-
-    fn call(&self, _args: &Args) -> Answer {
-        self.answer
-    }
-}
-
 /// Functions that give 4, 5 and 6.
-const FUNCTIONS: [Fixed; 3] = [
-    Fixed {
+const FUNCTIONS: [Always; 3] = [
+    Always {
         answer: Answer::Give(Value::Int(4)),
     },
-    Fixed {
+    Always {
         answer: Answer::Give(Value::Int(5)),
     },
-    Fixed {
+    Always {
         answer: Answer::Give(Value::Int(6)),
     },
 ];
@@ -45,7 +32,7 @@ enum Turn {
 }
 
 /// The graph takes these turns, with these functions.
-fn take_turns(rt: &impl Abort, graph: &mut Graph, functions: &[Fixed], turns: &[Turn]) {
+fn take_turns(rt: &impl Abort, graph: &mut Graph, functions: &[Always], turns: &[Turn]) {
     for turn in turns {
         match *turn {
             Turn::Takes(step) => take(rt, graph, &[step]),
@@ -57,7 +44,7 @@ fn take_turns(rt: &impl Abort, graph: &mut Graph, functions: &[Fixed], turns: &[
 }
 
 /// The graph of these stages takes these turns, with these functions.
-fn works(rt: &impl Abort, alloc: Global, rows: &[Row<'_>], functions: &[Fixed], turns: &[Turn]) {
+fn works(rt: &impl Abort, alloc: Global, rows: &[Row<'_>], functions: &[Always], turns: &[Turn]) {
     let mut graph = graph_of(rt, alloc, rows);
     take_turns(rt, &mut graph, functions, turns);
     drop(graph);
@@ -88,7 +75,7 @@ fn works_down_a_chain(rt: HostRuntime) {
     works(&rt, rt.alloc(), &CHAIN, &FUNCTIONS, &DOWN);
 }
 
-const LINKS: [Fixed; 1] = [Fixed {
+const LINKS: [Always; 1] = [Always {
     answer: Answer::Link(1),
 }];
 
@@ -119,11 +106,11 @@ fn works_through_links(rt: HostRuntime) {
     works(&rt, rt.alloc(), &COMPOSED, &LINKS, &THROUGH_LINKS);
 }
 
-const THROWS: [Fixed; 2] = [
-    Fixed {
+const THROWS: [Always; 2] = [
+    Always {
         answer: Answer::Throw(7),
     },
-    Fixed {
+    Always {
         answer: Answer::Give(Value::Int(4)),
     },
 ];

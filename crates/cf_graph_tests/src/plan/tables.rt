@@ -2,6 +2,7 @@
 ghost use Rattle.std.specs.Prelude.{◌≡◌};
 
 use crate::checks::{holds, same};
+use crate::functions::Always;
 use cf_forms::{
     Answer, Args, Due, Form, Landing, Of, StageFn, calls_function, due_one, due_two, fits_form,
     landing, takes_count,
@@ -38,22 +39,6 @@ const GIVES: Answer = Answer::Give(INT);
 
 const THROWS: Answer = Answer::Throw(7);
 
-/// Gives its value, whatever it is called with.
-#[derive(Drop)]
-struct Fixed {
-    value: Value,
-}
-
-impl StageFn for Fixed {
-    ghost use Rattle.cf_forms.specs.declared.forms.Answer.TheVariants.{Give};
-
-    ghost meaning = { λ f args. Give f.value };
-
-    fn call(&self, _args: &Args) -> Answer {
-        Answer::Give(self.value)
-    }
-}
-
 /// Calls any function.
 fn answer_of<F: StageFn>(function: &F, args: &Args) -> Answer
     ensures { result ≡ F.meaning function.now args.now }
@@ -63,8 +48,8 @@ fn answer_of<F: StageFn>(function: &F, args: &Args) -> Answer
 
 #[test]
 fn a_function_answers_by_its_meaning(rt: HostRuntime) {
-    let fixed = Fixed { value: INT };
-    let answer = answer_of(&fixed, &Args::One(Value::Nil));
+    let always = Always { answer: GIVES };
+    let answer = answer_of(&always, &Args::One(Value::Nil));
     same(&rt, answer, GIVES);
 }
 
