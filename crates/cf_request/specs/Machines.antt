@@ -72,6 +72,7 @@ pub record GoesOn (who lane : ℕ) (held : Option Held) (old : Machine) (next : 
 
 -- a stage follows another, behind those that do already, and relays are settled
 pub record SetsFollow (relay stage : ℕ) (old : Machine) (all : Bool) (new : Machine) : Type 0 where
+  pub there : (relay < length (state_in old).plan.stages) × (stage < length (state_in old).plan.stages)
   pub set : new.follows ≡ old.follows ++ (record { relay = relay; stage = stage }) ∷ []
   pub catches_up : CatchesUp old.own new.follows old.teller all new.teller
   pub same : new ≡ record old { teller = new.teller; follows = new.follows }
@@ -82,8 +83,9 @@ IsNoFollow relay stage s NoStage = ¬ ((relay < length s.plan.stages) × (stage 
 IsNoFollow relay stage s Past = ⊥
 
 -- a deadline is set, behind those that are set already, and those of settled stages are forgotten
-abbrev pub SetsDeadline : Deadline → Machine → Machine → Type 0
-SetsDeadline d old new = new ≡ record old { deadlines = open_of (state_in old).stages (old.deadlines ++ d ∷ []) }
+pub record SetsDeadline (d : Deadline) (old new : Machine) : Type 0 where
+  pub there : d.stage < length (state_in old).plan.stages
+  pub same : new ≡ record old { deadlines = open_of (state_in old).stages (old.deadlines ++ d ∷ []) }
 
 abbrev pub IsNoDeadline : Deadline → State → MachineFault → Type 0
 IsNoDeadline d s NoMemory = d.stage < length s.plan.stages
