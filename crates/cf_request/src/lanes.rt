@@ -58,8 +58,8 @@ fn is_ready(stage: Stage) -> bool
     }
 }
 
-/// Finishes what a caller holds, if it holds a stage. It is refused for the first of: its caller's number, the stage, its
-/// claim, memory. A refused finish leaves all as it was.
+/// Finishes what a caller holds, if it holds a stage. It is refused for the first of: its caller's number, the stage,
+/// its claim, memory. A refused finish leaves all as it was.
 pub(crate) fn finish_held(
     teller: &mut Teller,
     who: u8,
@@ -122,8 +122,8 @@ fn finish_claimed(teller: &mut Teller, who: u8, held: Held) -> Result<Finish, Al
     }
 }
 
-/// Claims the lowest ready stage of a lane, if there is one. It fails only where there is no memory, and then all is as it
-/// was.
+/// Claims the lowest ready stage of a lane, if there is one. It fails only where there is no memory, and then all is
+/// as it was.
 pub(crate) fn take(
     teller: &mut Teller,
     lanes: &[u8],

@@ -45,8 +45,8 @@ pub struct Next {
 
 /// A request of a service.
 ///
-/// A contract sees its teller, of each stage the lane, which stages follow which, the deadlines in the order in which they
-/// were set, the last moment, and the caller by whose words the machine settles stages itself.
+/// A contract sees its teller, of each stage the lane, which stages follow which, the deadlines in the order in which
+/// they were set, the last moment, and the caller by whose words the machine settles stages itself.
 #[derive(Drop)]
 pub struct Machine {
     teller: Teller,
@@ -79,9 +79,9 @@ impl Model for Machine {
 }
 
 impl Machine {
-    /// The machine of a plan with room for so many stages more, and with the lanes of its stages. Nothing follows, nothing
-    /// is due, the moment is 0, and told are the stages that are settled from the start. It settles stages as this caller.
-    /// It fails only where there is no memory.
+    /// The machine of a plan with room for so many stages more, and with the lanes of its stages. Nothing follows,
+    /// nothing is due, the moment is 0, and told are the stages that are settled from the start. It settles stages as
+    /// this caller. It fails only where there is no memory.
     pub fn new(
         alloc: Global,
         plan: &Plan,
@@ -113,9 +113,9 @@ impl Machine {
         })
     }
 
-    /// Does a word as a ledger does; a stage that it attaches is this lane's. Then it settles the relays whose stages are
-    /// settled. A refused word leaves all as it was. Where there is no memory for a relay, the answer says so, and the
-    /// next call that settles relays goes on with them.
+    /// Does a word as a ledger does; a stage that it attaches is this lane's. Then it settles the relays whose stages
+    /// are settled. A refused word leaves all as it was. Where there is no memory for a relay, the answer says so, and
+    /// the next call that settles relays goes on with them.
     pub fn apply(&mut self, word: u64, lane: u8) -> Result<Done, LedgerFault>
         ensures done { IfOk result (λ done. AppliesWord word lane self.old done self.new) }
         ensures refused { OnErr result (self.new ≡ self.old) }
@@ -127,9 +127,9 @@ impl Machine {
         Ok(Done { reply, all })
     }
 
-    /// What a caller does next: it finishes what it holds, if it holds a stage. Then the relays whose stages are settled
-    /// are settled, and it claims the lowest ready stage of its lane, if there is one. It is refused for the first of: its
-    /// caller's number, the stage that is held, its claim, memory for the finish. Then all is as it was.
+    /// What a caller does next: it finishes what it holds, if it holds a stage. Then the relays whose stages are
+    /// settled are settled, and it claims the lowest ready stage of its lane, if there is one. It is refused for the
+    /// first of: its caller's number, the stage that is held, its claim, memory for the finish. Then all is as it was.
     pub fn next(&mut self, who: u8, lane: u8, held: Option<Held>) -> Result<Next, StepFault>
         ensures done { IfOk result (λ next. GoesOn who lane held self.old next self.new) }
         ensures refused { OnErr result (self.new ≡ self.old) }
@@ -159,14 +159,15 @@ impl Machine {
 
     /// How many stages of a lane are ready. It costs a look at each stage.
     pub fn ready(&self, lane: u8) -> u16
-        ensures { result ≡ ready_below (state_in self.now) self.now.lanes lane (length (state_in self.now).plan.stages) }
+        ensures { result
+            ≡ ready_below (state_in self.now) self.now.lanes lane (length (state_in self.now).plan.stages) }
     {
         ready_in(self.teller.ledger(), &self.lanes, lane)
     }
 
-    /// A stage ends from now on as another does, if it is open when that one settles. The answer says whether no relay is
-    /// open whose stage is settled: where it is false there was no memory to settle one. It is refused for the first of: a
-    /// stage that isn't there, memory. Then all is as it was.
+    /// A stage ends from now on as another does, if it is open when that one settles. The answer says whether no relay
+    /// is open whose stage is settled: where it is false there was no memory to settle one. It is refused for the
+    /// first of: a stage that isn't there, memory. Then all is as it was.
     pub fn follow(&mut self, relay: u16, stage: u16) -> Result<bool, MachineFault>
         ensures set { IfOk result (λ all. SetsFollow relay stage self.old all self.new) }
         ensures refused { OnErr result (self.new ≡ self.old) }
@@ -181,9 +182,8 @@ impl Machine {
         Ok(catch_up(&mut self.teller, &self.follows, self.own).is_ok())
     }
 
-    /// A stage has to be settled by a moment, or else `pass` settles it. Deadlines of settled stages are forgotten then. It
-    /// is refused for the first of: a stage that isn't
-    /// there, memory. Then all is as it was.
+    /// A stage has to be settled by a moment, or else `pass` settles it. Deadlines of settled stages are forgotten
+    /// then. It is refused for the first of: a stage that isn't there, memory. Then all is as it was.
     pub fn deadline(&mut self, deadline: Deadline) -> Result<(), MachineFault>
         ensures set { OnOk result (SetsDeadline deadline self.old self.new) }
         ensures refused { OnErr result (self.new ≡ self.old) }
@@ -199,8 +199,9 @@ impl Machine {
     }
 
     /// Lets time pass up to a moment. It settles all open stages whose moment has come, in order of moment and then of
-    /// setting, and before each of them, and at last, the relays whose stages are settled. A moment before the last one is
-    /// refused, and nothing changes. Where there is no memory some are left, and the same moment may be passed again.
+    /// setting, and before each of them, and at last, the relays whose stages are settled. A moment before the last
+    /// one is refused, and nothing changes. Where there is no memory some are left, and the same moment may be passed
+    /// again.
     pub fn pass(&mut self, moment: u64) -> Result<(), MachineFault>
         ensures none { OnOk result
             (NoneLeft self.new.follows moment self.new.deadlines (state_in self.new).stages) }
@@ -230,9 +231,9 @@ impl Machine {
         next_open(&self.teller, &self.deadlines)
     }
 
-    /// Nobody runs a lane any more: its ready stages fail with a code, from the lowest on, and before each of them, and at
-    /// last, the relays whose stages are settled are settled. It fails only where there is no memory: then some are left,
-    /// and it may be called again.
+    /// Nobody runs a lane any more: its ready stages fail with a code, from the lowest on, and before each of them,
+    /// and at last, the relays whose stages are settled are settled. It fails only where there is no memory: then some
+    /// are left, and it may be called again.
     pub fn refuse(&mut self, lane: u8, code: u32) -> Result<(), AllocError>
         ensures none { OnOk result (NoneToRefuse self.new.follows self.new.lanes lane (state_in self.new)) }
         ensures refuses { Refuses lane code self.old self.new }
@@ -248,8 +249,8 @@ impl Machine {
         )
     }
 
-    /// The stages that were settled and not yet taken, in the order of the events that settled them. With those that were
-    /// taken these are each settled stage, once.
+    /// The stages that were settled and not yet taken, in the order of the events that settled them. With those that
+    /// were taken these are each settled stage, once.
     pub fn told(&self) -> &[u16]
         ensures told { result.now ≡ self.now.teller.told }
         ensures once { IsOnce (state_in self.now) (self.now.teller.taken ++ self.now.teller.told) }
@@ -299,8 +300,8 @@ fn add_lane(lanes: &mut Vec<u8>, stages: u16, lane: u8)
     }
 }
 
-/// Settles the relays whose stages are settled, and claims the lowest ready stage of a lane, if there is one. It fails only
-/// where there is no memory, and then nothing is claimed.
+/// Settles the relays whose stages are settled, and claims the lowest ready stage of a lane, if there is one. It fails
+/// only where there is no memory, and then nothing is claimed.
 fn go_on(
     teller: &mut Teller,
     lanes: &[u8],

@@ -33,7 +33,11 @@ impl Model for Teller {
     ghost use Rattle.std.specs.Prelude.{drop, take, vec_capacity};
     ghost use Rattle.cf_request.specs.Telling.{IsKept};
 
-    ghost view = { λ t. record { ledger = t.ledger; taken = take t.count t.order.items; told = drop t.count t.order.items } };
+    ghost view = { λ t. record {
+      ledger = t.ledger;
+      taken = take t.count t.order.items;
+      told = drop t.count t.order.items;
+    } };
 
     ghost invariant = { λ t. IsKept t.ledger t.order.items (vec_capacity t.order) t.count };
 }
