@@ -1,0 +1,7 @@
+pub mod Lists
+pub mod Telling
+pub mod Words
+pub mod Turns
+pub mod Least
+pub mod Takings
+pub mod Machines

@@ -1,0 +1,238 @@
+-- Loops that settle one open stage at each turn.
+use Rattle.std.proofs.Common.{◌≡◌, ℕ, zero, suc, ◌+◌, ◌<◌, ◌≤◌, Bool, true, false, cond, Option, Some, None, List, [], ◌∷◌, ◌++◌, All, length, set, refl, ap, sym, ◌∙◌, arith, subst, inl, inr}
+use Rattle.std.specs.Prelude.{Err, Ok, OnErr, Result, is_some, slice_get, option_and_then}
+use Rattle.std.proofs.lemmas.List.Elements.{All-contains, All-weaker}
+use Rattle.cf_outcome.specs.declared.outcome.Cause.{Cause}
+use Rattle.cf_outcome.specs.declared.outcome.Cause.TheVariants.{Thrown, Cancelled, TimedOut, BadAnswer}
+use Rattle.cf_outcome.specs.declared.outcome.Outcome.{Outcome}
+use Rattle.cf_outcome.specs.declared.outcome.Outcome.TheVariants.{Value as Gives, Fault}
+use Rattle.cf_model.specs.declared.events.Event.{Event}
+use Rattle.cf_model.specs.declared.events.Reply.{Reply}
+use Rattle.cf_model.specs.declared.stage.Stage.{Stage}
+use Rattle.cf_model.specs.declared.stage.Stage.TheVariants.{Pending, Ready, Claimed, Linked, Settled}
+use Rattle.cf_model.specs.Calls.{is_attach}
+use Rattle.cf_model.specs.Events.{answered, cancelled_by, settled_by}
+use Rattle.cf_model.specs.Graphs.{stage_in}
+use Rattle.cf_model.specs.States.{State, after, is_ready, outcome_at, outcome_in, outcome_of}
+use Rattle.cf_model.proofs.Closed.{reached_length}
+use Rattle.cf_model.proofs.Moves.{new_states-settled}
+use Rattle.cf_model.proofs.StateLemmas.{after-unsettled}
+use Rattle.cf_event.specs.Words.{word_of}
+use Rattle.cf_ledger.specs.Ledgers.{Ledger, state_of}
+use Rattle.cf_request.specs.Deadlines.{HaveStages, IsOverdue, SomeLeft}
+use Rattle.cf_request.specs.Lanes.{HasLanes}
+use Rattle.cf_request.specs.Refusals.{IsRefused, SomeToRefuse}
+use Rattle.cf_request.specs.Relays.{AreThere, IsRelayDue, IsRelayOr, NoneBehind}
+use Rattle.cf_request.specs.Settling.{AreSettledInTurn, IsOpen, Settles, SettlesDue, fault_event, raw, settle_event}
+use Rattle.cf_request.specs.Telling.{Teller, TellsEvent, is_settled_in, most_stages}
+use Rattle.cf_request.specs.declared.deadlines.Deadline.{Deadline}
+use Rattle.cf_request.specs.declared.relays.Follow.{Follow}
+use Rattle.cf_request.specs.declared.settling.Due.{Due}
+use Rattle.cf_request.proofs.Least.{due_overdue}
+use Rattle.cf_request.proofs.Telling.{outcome_stage, same_most, stays}
+use Rattle.cf_request.proofs.Words.{same_count}
+
+-- ---- an open stage is settled
+
+none_of : (o : Option Outcome) → is_some o ≡ false → o ≡ None
+none_of None h = refl
+none_of (Some o) h = cc
+
+set_at : (xs : List Stage) (i : ℕ) (y : Stage) → i < length xs → slice_get (set xs i y) i ≡ Some y
+set_at [] i y l = absurd (omega (arith, l))
+set_at (x ∷ xs) zero y l = refl
+set_at (x ∷ xs) (suc i) y l = set_at xs i y (omega (arith, l))
+
+after_settled : (s : State) (i : ℕ) (o : Outcome) → outcome_at s i ≡ None → i < length s.stages → outcome_in ((after s i o).stages) i ≡ Some o
+after_settled s i o none l =
+    ap (λ (t : State). outcome_in t.stages i) (after-unsettled s i o none)
+    ∙ new_states-settled [] s.plan.stages (set s.stages i (Settled o)) i o (ap (option_and_then outcome_of) (set_at s.stages i (Settled o) l))
+
+settles_by : (x : Option Outcome) (s : State) (i : ℕ) (o : Outcome) → x ≡ None → outcome_at s i ≡ None → i < length s.stages → outcome_in ((settled_by x s i o).1.stages) i ≡ Some o
+settles_by None s i o e none l = after_settled s i o none l
+settles_by (Some p) s i o e none l = cc
+
+cancels_by : (x : Option Outcome) (s : State) (i : ℕ) → x ≡ None → outcome_at s i ≡ None → i < length s.stages → outcome_in ((cancelled_by x s i).1.stages) i ≡ Some (Fault Cancelled false)
+cancels_by None s i e none l = after_settled s i (Fault Cancelled false) none l
+cancels_by (Some p) s i e none l = cc
+
+faults_with : (s : State) (who i : ℕ) (cause : Cause) → outcome_at s i ≡ None → i < length s.stages → outcome_in ((answered s (fault_event who i cause)).1.stages) i ≡ Some (Fault cause false)
+faults_with s who i (Thrown code) none l = settles_by (outcome_at s i) s i (Fault (Thrown code) false) none none l
+faults_with s who i Cancelled none l = cancels_by (outcome_at s i) s i none none l
+faults_with s who i TimedOut none l = settles_by (outcome_at s i) s i (Fault TimedOut false) none none l
+faults_with s who i BadAnswer none l = settles_by (outcome_at s i) s i (Fault BadAnswer false) none none l
+
+ends_with : (s : State) (who i : ℕ) (o : Outcome) → outcome_at s i ≡ None → i < length s.stages → outcome_in ((answered s (settle_event who i o)).1.stages) i ≡ Some (raw o)
+ends_with s who i (Gives v) none l = settles_by (outcome_at s i) s i (Gives v) none none l
+ends_with s who i (Fault cause wrapped) none l = faults_with s who i cause none l
+
+after_event : (e : Event) (old new : Teller) (reply : Reply) → TellsEvent e old reply new → state_of new.ledger ≡ (answered (state_of old.ledger) e).1
+after_event e old new reply h = ap (λ p. p.1) h.answered
+
+-- it ends as it should
+pub settle_ends : (who i : ℕ) (o : Outcome) (old new : Teller) (reply : Reply) → IsOpen (state_of old.ledger) i → TellsEvent (settle_event who i o) old reply new → outcome_in (state_of new.ledger).stages i ≡ Some (raw o)
+settle_ends who i o old new reply waits h =
+    let all = reached_length old.ledger.plan old.ledger.events in
+    let there = waits.0 in
+    ap (λ (s : State). outcome_in s.stages i) (after_event (settle_event who i o) old new reply h)
+    ∙ ends_with (state_of old.ledger) who i o (none_of (outcome_at (state_of old.ledger) i) waits.1) (omega (arith, all, there))
+
+no_attach_by : (who i : ℕ) (cause : Cause) → is_attach (fault_event who i cause) ≡ false
+no_attach_by who i (Thrown code) = refl
+no_attach_by who i Cancelled = refl
+no_attach_by who i TimedOut = refl
+no_attach_by who i BadAnswer = refl
+
+no_attach : (who i : ℕ) (o : Outcome) → is_attach (settle_event who i o) ≡ false
+no_attach who i (Gives v) = refl
+no_attach who i (Fault cause wrapped) = no_attach_by who i cause
+
+-- a ready stage is open
+ready_open : (x : Stage) → is_ready x ≡ true → is_some (outcome_of x) ≡ false
+ready_open Pending h = refl
+ready_open (Ready args) h = refl
+ready_open Claimed h = refl
+ready_open (Linked j) h = refl
+ready_open (Settled o) h = cc
+
+pub ready_is_open : (s : State) (i : ℕ) → i < length s.plan.stages → is_ready (stage_in s.stages i) ≡ true → IsOpen s i
+ready_is_open s i l ready = (l, ap is_some (outcome_stage (slice_get s.stages i)) ∙ ready_open (stage_in s.stages i) ready)
+
+-- ---- what settling keeps
+
+abbrev pub StaySettled : List Stage → List Stage → Type 0
+StaySettled old new = (i : ℕ) → is_settled_in old i ≡ true → is_settled_in new i ≡ true
+
+-- what is settled stays so, and there are as many stages
+pub record Keeps (old new : Teller) : Type 0 where
+  pub settled : StaySettled (state_of old.ledger).stages (state_of new.ledger).stages
+  pub count : length (state_of new.ledger).plan.stages ≡ length (state_of old.ledger).plan.stages
+  pub most : most_stages (state_of new.ledger) ≡ most_stages (state_of old.ledger)
+
+pub keeps_same : (old new : Teller) → new ≡ old → Keeps old new
+keeps_same old new same = subst (λ (t : Teller). Keeps old t) (sym same) (record { settled = λ i h. h; count = refl; most = refl })
+
+pub keeps_then : (a b c : Teller) → Keeps a b → Keeps b c → Keeps a c
+keeps_then a b c h k = record { settled = λ i is. k.settled i (h.settled i is); count = k.count ∙ h.count; most = k.most ∙ h.most }
+
+pub keeps_event : (e : Event) (old new : Teller) (reply : Reply) → is_attach e ≡ false → TellsEvent e old reply new → Keeps old new
+keeps_event e old new reply isnt h =
+    let s = state_of old.ledger in
+    let next = after_event e old new reply h in
+    record {
+      settled = λ i is. ap (λ (t : State). is_settled_in t.stages i) next ∙ ap is_some (stays s e i is) ∙ is;
+      count = ap (λ (t : State). length t.plan.stages) next ∙ same_count e s isnt;
+      most = same_most old.ledger new.ledger (word_of e) reply h.tells.does;
+    }
+
+pub keeps_settle : (who : ℕ) (d : Due) (old new : Teller) → Settles who d old new → Keeps old new
+keeps_settle who d old new h = keeps_event (settle_event who d.stage d.outcome) old new h.reply (no_attach who d.stage d.outcome) h.done
+
+keeps_turns : (P : State → Due → Type 0) (who : ℕ) (dues : List Due) (a b : Teller) → AreSettledInTurn P who a dues b → Keeps a b
+keeps_turns P who [] a b same = keeps_same a b same
+keeps_turns P who (d ∷ dues) a b (between, waits, due, did, rest) = keeps_then a between b (keeps_settle who d a between did) (keeps_turns P who dues between b rest)
+
+pub keeps_dues : (P : State → Due → Type 0) (who : ℕ) (a b : Teller) → SettlesDue P who a b → Keeps a b
+keeps_dues P who a b h = keeps_turns P who h.dues a b h.are
+
+pub follows_kept : (a b : Teller) (follows : List Follow) → Keeps a b → AreThere (state_of a.ledger) follows → AreThere (state_of b.ledger) follows
+follows_kept a b follows keeps h = subst (λ (n : ℕ). All (λ (f : Follow). (f.relay < n) × (f.stage < n)) follows) (sym keeps.count) h
+
+pub limits_kept : (a b : Teller) (ds : List Deadline) → Keeps a b → HaveStages (state_of a.ledger) ds → HaveStages (state_of b.ledger) ds
+limits_kept a b ds keeps h = subst (λ (n : ℕ). All (λ (d : Deadline). d.stage < n) ds) (sym keeps.count) h
+
+pub lanes_kept : (a b : Teller) (lanes : List ℕ) → Keeps a b → HasLanes (state_of a.ledger) lanes → HasLanes (state_of b.ledger) lanes
+lanes_kept a b lanes keeps h = h ∙ sym keeps.count
+
+-- a word leaves what is named there
+pub follows_word : (a b : Ledger) (follows : List Follow) → length (state_of a).plan.stages ≤ length (state_of b).plan.stages → AreThere (state_of a) follows → AreThere (state_of b) follows
+follows_word a b follows l there =
+    All-weaker (λ (f : Follow). (f.relay < length (state_of a).plan.stages) × (f.stage < length (state_of a).plan.stages)) (λ (f : Follow). (f.relay < length (state_of b).plan.stages) × (f.stage < length (state_of b).plan.stages))
+    (λ f k. (let x = k.0 in omega (arith, x, l), let y = k.1 in omega (arith, y, l))) follows there
+
+pub limits_word : (a b : Ledger) (ds : List Deadline) → length (state_of a).plan.stages ≤ length (state_of b).plan.stages → HaveStages (state_of a) ds → HaveStages (state_of b) ds
+limits_word a b ds l there =
+    All-weaker (λ (d : Deadline). d.stage < length (state_of a).plan.stages) (λ (d : Deadline). d.stage < length (state_of b).plan.stages) (λ d k. omega (arith, k, l)) ds there
+
+-- ---- a turn more
+
+pub dues_none : (P : State → Due → Type 0) (who : ℕ) (a : Teller) → SettlesDue P who a a
+dues_none P who a = record { dues = []; are = refl }
+
+turns_push : (P : State → Due → Type 0) (who : ℕ) (dues : List Due) (a b c : Teller) (d : Due) → AreSettledInTurn P who a dues b → IsOpen (state_of b.ledger) d.stage → P (state_of b.ledger) d → Settles who d b c →
+    AreSettledInTurn P who a (dues ++ d ∷ []) c
+turns_push P who [] a b c d same waits due done =
+    (c, subst (λ (t : Teller). IsOpen (state_of t.ledger) d.stage) same waits, subst (λ (t : Teller). P (state_of t.ledger) d) same due, subst (λ (t : Teller). Settles who d t c) same done, refl)
+turns_push P who (x ∷ dues) a b c d (between, was, is, did, rest) waits due done = (between, was, is, did, turns_push P who dues between b c d rest waits due done)
+
+pub dues_more : (P : State → Due → Type 0) (who : ℕ) (a b c : Teller) (d : Due) → SettlesDue P who a b → IsOpen (state_of b.ledger) d.stage → P (state_of b.ledger) d → Settles who d b c → SettlesDue P who a c
+dues_more P who a b c d h waits due done = record { dues = h.dues ++ d ∷ []; are = turns_push P who h.dues a b c d h.are waits due done }
+
+-- ---- fewer stages are open
+
+abbrev pub open_in : List Stage → ℕ
+open_in [] = 0
+open_in (x ∷ xs) = cond (is_some (outcome_of x)) 0 1 + open_in xs
+
+less_by : (a b : Bool) → (a ≡ true → b ≡ true) → cond b 0 1 ≤ cond a 0 1
+less_by true true h = omega arith
+less_by true false h = let e = h refl in cc
+less_by false true h = omega arith
+less_by false false h = omega arith
+
+less_than : (a b : Bool) → a ≡ false → b ≡ true → cond b 0 1 < cond a 0 1
+less_than true b before now = cc
+less_than false true before now = omega arith
+less_than false false before now = cc
+
+no_more : (old new : List Stage) → length new ≡ length old → StaySettled old new → open_in new ≤ open_in old
+no_more [] [] size stay = omega arith
+no_more [] (y ∷ new) size stay = absurd (omega (arith, size))
+no_more (x ∷ old) [] size stay = absurd (omega (arith, size))
+no_more (x ∷ old) (y ∷ new) size stay =
+    let one = less_by (is_some (outcome_of x)) (is_some (outcome_of y)) (stay 0) in
+    let rest = no_more old new (omega (arith, size)) (λ i h. stay (suc i) h) in
+    omega (arith, one, rest)
+
+fewer_open : (old new : List Stage) (i : ℕ) → length new ≡ length old → StaySettled old new → is_settled_in old i ≡ false → is_settled_in new i ≡ true → open_in new < open_in old
+fewer_open [] [] i size stay before now = cc
+fewer_open [] (y ∷ new) i size stay before now = absurd (omega (arith, size))
+fewer_open (x ∷ old) [] i size stay before now = absurd (omega (arith, size))
+fewer_open (x ∷ old) (y ∷ new) zero size stay before now =
+    let one = less_than (is_some (outcome_of x)) (is_some (outcome_of y)) before now in
+    let rest = no_more old new (omega (arith, size)) (λ i h. stay (suc i) h) in
+    omega (arith, one, rest)
+fewer_open (x ∷ old) (y ∷ new) (suc i) size stay before now =
+    let one = less_by (is_some (outcome_of x)) (is_some (outcome_of y)) (stay 0) in
+    let rest = fewer_open old new i (omega (arith, size)) (λ k h. stay (suc k) h) before now in
+    omega (arith, one, rest)
+
+pub fewer_by : (who : ℕ) (d : Due) (old new : Teller) → IsOpen (state_of old.ledger) d.stage → Settles who d old new → open_in (state_of new.ledger).stages < open_in (state_of old.ledger).stages
+fewer_by who d old new waits h =
+    let keeps = keeps_settle who d old new h in
+    let before = reached_length old.ledger.plan old.ledger.events in
+    let after = reached_length new.ledger.plan new.ledger.events in
+    let count = keeps.count in
+    fewer_open (state_of old.ledger).stages (state_of new.ledger).stages d.stage (omega (arith, before, after, count)) keeps.settled waits.1 (ap is_some h.ends)
+
+-- ---- relays
+
+-- where a relay is due, one is behind
+pub due_behind : (follows : List Follow) (s : State) (d : Due) → IsOpen s d.stage → IsRelayDue follows s d → NoneBehind follows s.stages → ⊥
+due_behind follows s d waits due none =
+    let f = due.follow in
+    let on = All-contains (λ (f : Follow). is_settled_in s.stages f.stage ≡ true → is_settled_in s.stages f.relay ≡ true) follows f none due.is (ap is_some due.settled) in
+    let off = ap (is_settled_in s.stages) due.relay ∙ waits.1 in
+    cc
+
+pub on_err : {A E : Type 0} (r : Result A E) (P : Type 0) → P → OnErr r P
+on_err (Ok a) P p = tt
+on_err (Err e) P p = p
+
+pub left_due : (follows : List Follow) (moment : ℕ) (ds : List Deadline) (s : State) (d : Due) → IsOpen s d.stage → IsRelayOr follows (IsOverdue moment ds) s d → SomeLeft follows moment ds s.stages
+left_due follows moment ds s d waits (inl relay) none = due_behind follows s d waits relay none.0
+left_due follows moment ds s d waits (inr other) none = due_overdue moment ds s d waits other.1 none.1
+
+pub refused_due : (follows : List Follow) (lanes : List ℕ) (lane code : ℕ) (s : State) (d : Due) → IsOpen s d.stage → IsRelayOr follows (IsRefused lanes lane code) s d → SomeToRefuse follows lanes lane s
+refused_due follows lanes lane code s d waits (inl relay) none = due_behind follows s d waits relay none.0
+refused_due follows lanes lane code s d waits (inr other) none = let lowest = other.1.lowest in none.1 d.stage lowest.there lowest.ready lowest.its_lane

@@ -1,0 +1,71 @@
+-- Events by their words.
+use Rattle.std.proofs.Common.{◌≡◌, ℕ, zero, suc, ◌+◌, ◌≤◌, Some, List, [], ◌∷◌, false, refl, ap, ◌∙◌, arith, subst, length, length-append}
+use Rattle.cf_forms.specs.Plans.{Planned, PlannedStage, attached_stage}
+use Rattle.cf_model.specs.declared.events.Event.{Event}
+use Rattle.cf_model.specs.declared.events.Event.TheVariants.{Complete as Completes, Fail as Fails, FailAs as FailsAs, Cancel as Cancels, Claim as Claims, Finish as Finishes, Tick as Ticks, Attach as Attaches}
+use Rattle.cf_model.specs.declared.events.Reply.{Reply}
+use Rattle.cf_model.specs.Calls.{is_attach}
+use Rattle.cf_model.specs.Events.{answered, attached_by}
+use Rattle.cf_model.specs.Ranges.{EventFits}
+use Rattle.cf_model.specs.States.{State}
+use Rattle.cf_model.proofs.Shape.{answered-grows, answered-shape}
+use Rattle.cf_event.specs.Decoding.{event_of}
+use Rattle.cf_event.specs.Words.{word_of}
+use Rattle.cf_ledger.specs.Ledgers.{Does, HasRoomFor, Ledger, LedgerRefuses, state_of}
+use Rattle.cf_ledger.specs.declared.faults.LedgerFault.{LedgerFault}
+use Rattle.cf_ledger.specs.declared.faults.LedgerFault.TheVariants.{NoMemory, NoEvent, NoStage, NoRoom}
+use Rattle.cf_request.specs.Telling.{Teller, Tells, TellsEvent}
+use Rattle.cf_request.proofs.Telling.{next_is}
+
+pub event_told : (e : Event) (old new : Teller) (reply : Reply) → event_of (word_of e) ≡ Some e → Tells (word_of e) old reply new → TellsEvent e old reply new
+event_told e old new reply is h =
+    let same : h.does.event ≡ e = (let read = h.does.read in cc) in
+    record { tells = h; answered = h.does.told ∙ ap (answered (state_of old.ledger)) same }
+
+-- an event that fits is refused for want of memory alone
+pub only_memory : (s : State) (w : ℕ) (e : Event) (fault : LedgerFault) → event_of w ≡ Some e → EventFits (length s.plan.stages) e → HasRoomFor s e → LedgerRefuses s w fault → fault ≡ NoMemory
+only_memory s w e NoMemory is fits room h = refl
+only_memory s w e NoEvent is fits room h = cc
+only_memory s w e NoStage is fits room (d, read, not) =
+    let same : e ≡ d = cc in
+    absurd (not (subst (EventFits (length s.plan.stages)) same fits))
+only_memory s w e NoRoom is fits room (d, read, there, not) =
+    let same : e ≡ d = cc in
+    absurd (not (subst (HasRoomFor s) same room))
+
+-- ---- how many stages there are
+
+pub same_count : (e : Event) (s : State) → is_attach e ≡ false → length ((answered s e).1.plan.stages) ≡ length s.plan.stages
+same_count e s isnt = ap (λ (p : Planned). length p.stages) (answered-shape s e isnt).plan
+
+one_more : (room : ℕ) (s : State) (new : PlannedStage) → length ((attached_by room s new).1.plan.stages) ≤ length s.plan.stages + 1
+one_more zero s new = omega arith
+one_more (suc room) s new = let size = length-append s.plan.stages (new ∷ []) in omega (arith, size)
+
+same_few : (e : Event) (s : State) → is_attach e ≡ false → length ((answered s e).1.plan.stages) ≤ length s.plan.stages + 1
+same_few e s isnt = let same = same_count e s isnt in omega (arith, same)
+
+few_more : (e : Event) (s : State) → length ((answered s e).1.plan.stages) ≤ length s.plan.stages + 1
+few_more (Completes who i v) s = same_few (Completes who i v) s refl
+few_more (Fails who i code) s = same_few (Fails who i code) s refl
+few_more (FailsAs who i failure) s = same_few (FailsAs who i failure) s refl
+few_more (Cancels who i) s = same_few (Cancels who i) s refl
+few_more (Claims who i) s = same_few (Claims who i) s refl
+few_more (Finishes who i answer) s = same_few (Finishes who i answer) s refl
+few_more (Ticks who now) s = same_few (Ticks who now) s refl
+few_more (Attaches who form of function) s = one_more s.plan.room s (attached_stage form of function)
+
+-- a word leaves all stages there
+pub none_lost : (old new : Ledger) (word : ℕ) (reply : Reply) → Does word old reply new → length (state_of old).plan.stages ≤ length (state_of new).plan.stages
+none_lost old new word reply does =
+    let grows = answered-grows (state_of old) does.event in
+    let more = ap (λ (l : List PlannedStage). length l) grows.stages ∙ length-append (state_of old).plan.stages grows.more in
+    let now = ap (λ (s : State). length s.plan.stages) (next_is old new word reply does) in
+    omega (arith, more, now)
+
+-- and attaches at most one
+pub at_most_one : (old new : Ledger) (word : ℕ) (reply : Reply) → Does word old reply new → length (state_of new).plan.stages ≤ length (state_of old).plan.stages + 1
+at_most_one old new word reply does =
+    let few = few_more does.event (state_of old) in
+    let now = ap (λ (s : State). length s.plan.stages) (next_is old new word reply does) in
+    omega (arith, few, now)

@@ -1,0 +1,114 @@
+-- Which stages were settled, and told once.
+use Rattle.std.specs.Prelude.{◌≡◌, ◌≢◌, ◌⊎◌, ℕ, ◌+◌, ◌<◌, ◌≤◌, Bool, true, false, List, [], ◌∷◌, ◌++◌, All, Contains, drop, is_some, length, take}
+use Rattle.cf_model.specs.declared.events.Event.{Event}
+use Rattle.cf_model.specs.declared.events.Reply.{Reply}
+use Rattle.cf_model.specs.declared.stage.Stage.{Stage}
+use Rattle.cf_model.specs.Events.{answered}
+use Rattle.cf_model.specs.Graphs.{IsClimbing}
+use Rattle.cf_model.specs.States.{State, outcome_in, start}
+use Rattle.cf_event.specs.Words.{word_of}
+use Rattle.cf_ledger.specs.Ledgers.{Does, Ledger, state_of}
+
+-- whether a stage is settled
+abbrev pub is_settled_in : List Stage → ℕ → Bool
+is_settled_in stages i = is_some (outcome_in stages i)
+
+-- these are the stages that are settled now and weren't before, rising
+pub record AreFresh (old new : List Stage) (xs : List ℕ) : Type 0 where
+  pub rising : IsClimbing xs
+  pub before : All (λ i. is_settled_in old i ≡ false) xs
+  pub settled : All (λ i. is_settled_in new i ≡ true) xs
+  pub all : (i : ℕ) → is_settled_in old i ≡ false → is_settled_in new i ≡ true → Contains xs i
+
+-- these are, one behind the other, what each of these events settled
+abbrev pub AreSettledBy : State → List Event → List ℕ → Type 0
+AreSettledBy s [] xs = xs ≡ []
+AreSettledBy s (e ∷ events) xs =
+    (front : List ℕ) × (rest : List ℕ) × (xs ≡ front ++ rest) × AreFresh s.stages ((answered s e).1.stages) front × AreSettledBy ((answered s e).1) events rest
+
+-- and these what the opening settled, and then the events of a ledger
+pub record AreSettled (ledger : Ledger) (xs : List ℕ) : Type 0 where
+  pub opening : List ℕ
+  pub later : List ℕ
+  pub is : xs ≡ opening ++ later
+  pub first : AreFresh [] (start ledger.plan).stages opening
+  pub rest : AreSettledBy (start ledger.plan) ledger.events later
+
+-- the ledger, what the host has taken, and what is told and wasn't taken yet
+pub record Teller : Type 0 where
+  pub ledger : Ledger
+  pub taken : List ℕ
+  pub told : List ℕ
+
+-- how many stages there may ever be
+abbrev pub most_stages : State → ℕ
+most_stages s = length s.plan.stages + s.plan.room
+
+-- the row of settled stages has places for all of them, and so many are taken
+pub record IsKept (ledger : Ledger) (order : List ℕ) (places count : ℕ) : Type 0 where
+  pub settled : AreSettled ledger order
+  pub few : count ≤ length order
+  pub most : most_stages (state_of ledger) ≤ 4096
+  pub room : most_stages (state_of ledger) ≤ places
+
+-- a word is done, and what it settled is told behind the others
+pub record Tells (word : ℕ) (old : Teller) (reply : Reply) (new : Teller) : Type 0 where
+  pub does : Does word old.ledger reply new.ledger
+  pub fresh : List ℕ
+  pub are : AreFresh (state_of old.ledger).stages (state_of new.ledger).stages fresh
+  pub told : new.told ≡ old.told ++ fresh
+  pub taken : new.taken ≡ old.taken
+
+-- an event is done by its word
+pub record TellsEvent (event : Event) (old : Teller) (reply : Reply) (new : Teller) : Type 0 where
+  pub tells : Tells (word_of event) old reply new
+  pub answered : (reply, state_of new.ledger) ≡ answered (state_of old.ledger) event
+
+-- no number stands twice
+abbrev pub IsApart : List ℕ → Type 0
+IsApart [] = Unit {0}
+IsApart (x ∷ xs) = All (λ y. x ≢ y) xs × IsApart xs
+
+-- these are each settled stage, once
+pub record IsOnce (s : State) (xs : List ℕ) : Type 0 where
+  pub apart : IsApart xs
+  pub settled : All (λ i. is_settled_in s.stages i ≡ true) xs
+  pub all : (i : ℕ) → is_settled_in s.stages i ≡ true → Contains xs i
+
+-- the settled stages below a number, rising
+pub record AreSettledBelow (k : ℕ) (stages : List Stage) (xs : List ℕ) : Type 0 where
+  pub rising : IsClimbing xs
+  pub below : All (λ i. i < k) xs
+  pub settled : All (λ i. is_settled_in stages i ≡ true) xs
+  pub all : (i : ℕ) → i < k → is_settled_in stages i ≡ true → Contains xs i
+
+-- ---- rows of calls
+
+-- one call and what it gave: a word, which gives nothing, or the first so many of what is told are taken
+abbrev pub IsCall : Teller → List ℕ → Teller → Type 0
+IsCall old out new =
+    ((word : ℕ) × (reply : Reply) × (out ≡ []) × Tells word old reply new) ⊎
+    ((k : ℕ) × (out ≡ take k old.told) × (new.ledger ≡ old.ledger) × (new.taken ≡ old.taken ++ out) × (new.told ≡ drop k old.told))
+
+abbrev pub AreCalls : Teller → List (List ℕ) → Teller → Type 0
+AreCalls old [] new = new ≡ old
+AreCalls old (out ∷ outs) new = (between : Teller) × IsCall old out between × AreCalls between outs new
+
+abbrev pub joined : List (List ℕ) → List ℕ
+joined [] = []
+joined (out ∷ outs) = out ++ joined outs
+
+-- as a request is opened
+pub record IsOpened (t : Teller) : Type 0 where
+  pub events : t.ledger.events ≡ []
+  pub taken : t.taken ≡ []
+  pub told : AreFresh [] (start t.ledger.plan).stages t.told
+
+-- all takings one behind the other, and what is told and not yet taken, are each settled stage once, in the order of the events
+pub record IsToldOnce (t : Teller) (outs : List (List ℕ)) : Type 0 where
+  pub once : IsOnce (state_of t.ledger) (joined outs ++ t.told)
+  pub order : AreSettled t.ledger (joined outs ++ t.told)
+
+-- whatever is called
+abbrev pub TellsOnce : Type 0
+TellsOnce = (old new : Teller) (outs : List (List ℕ)) → IsOpened old → AreCalls old outs new → IsToldOnce new outs

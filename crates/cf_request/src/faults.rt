@@ -1,0 +1,25 @@
+//! Why a machine does nothing.
+ghost use Rattle.std.specs.Prelude.{◌≡◌};
+
+use std::alloc::AllocError;
+
+/// Why a call of a machine isn't done.
+#[derive(Clone, Copy, Debug, PartialEq, Eq)]
+pub enum MachineFault {
+    /// There is no memory for it, and nothing else stands against it.
+    NoMemory,
+    /// A stage that it names isn't there.
+    NoStage,
+    /// The moment is before the last one.
+    Past,
+}
+
+impl From<AllocError> for MachineFault {
+    ghost use Rattle.cf_request.specs.declared.faults.MachineFault.TheVariants.{NoMemory};
+
+    ghost from_gives = { λ _ fault. fault ≡ NoMemory };
+
+    fn from(_refused: AllocError) -> MachineFault {
+        MachineFault::NoMemory
+    }
+}

@@ -1,0 +1,33 @@
+//! One request of a service as a machine without threads, clocks and objects: what is to be done next, and who has to
+//! be told what.
+//!
+//! A `Machine` keeps the ledger of one request, and four things beside it: which stages were settled and not yet taken
+//! by its host, which lane is to run each stage's function, which stages follow other stages, and by which moments
+//! stages have to be settled. Its host says what happened, by a word as a ledger takes it, or that a moment has come.
+//! It asks for each lane what there is to run, and which moment comes next. The machine runs nothing, waits for
+//! nothing and reads no clock.
+//!
+//! It is made of layers. A `Teller` is a ledger that also keeps a row of all settled stages, in the order of the
+//! events that settled them: the host has taken the front of it, and what stands behind is told. Three loops settle
+//! open stages one at a time, each by a word of the machine's own caller: relays whose stage is settled, stages whose
+//! moment has come, and ready stages of a lane that is refused. A machine does what it is asked, and then settles the
+//! relays.
+#![tactic(auto)]
+
+mod deadlines;
+mod faults;
+mod lanes;
+pub mod laws;
+mod machine;
+mod refusals;
+mod relays;
+mod settling;
+mod teller;
+#[cfg(test)]
+mod tests;
+
+pub use cf_ledger::{Event, Finish, Held, Ledger, LedgerFault, Reply, StepFault, Taken};
+pub use deadlines::Deadline;
+pub use faults::MachineFault;
+pub use machine::{Done, Machine, Next};
+pub use relays::Follow;

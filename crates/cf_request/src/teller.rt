@@ -1,0 +1,186 @@
+//! A ledger that keeps which stages were settled and not yet taken.
+ghost use Rattle.std.specs.Prelude.{◌≡◌, ◌+◌, ◌≤◌, ◌<◌, ◌++◌, [], All, IfErr, IfOk, OnErr, drop, length, take, true, vec_capacity};
+ghost use Rattle.std.specs.List.{filter};
+ghost use Rattle.cf_forms.specs.Plans.{has_place, with_room};
+ghost use Rattle.cf_model.specs.States.{outcome_at, outcome_of, start};
+ghost use Rattle.cf_model.specs.Ranges.{EventFits};
+ghost use Rattle.cf_event.specs.Words.{IsEvent};
+ghost use Rattle.cf_ledger.specs.Ledgers.{HasRoomFor, LedgerRefuses, state_of};
+ghost use Rattle.cf_request.specs.Telling.{AreFresh, AreSettled, AreSettledBelow, IsOnce, Tells, TellsEvent, is_settled_in, most_stages};
+
+use cf_event::encode;
+use cf_ledger::{Event, Ledger, LedgerFault, Reply, Stage};
+use cf_outcome::Outcome;
+use cf_plan::Plan;
+use std::alloc::{AllocError, Global};
+use std::marker::Model;
+
+/// A ledger, with all stages that were settled, in order, and how many of these its host has taken.
+///
+/// The row of settled stages has room for all stages that there may ever be.
+#[derive(Drop)]
+pub struct Teller {
+    ledger: Ledger,
+    order: Vec<u16>,
+    count: usize,
+}
+
+impl Model for Teller {
+    ghost use Rattle.cf_request.specs.Telling.{Teller};
+
+    ghost Value = { Teller };
+
+    ghost use Rattle.std.specs.Prelude.{drop, take, vec_capacity};
+    ghost use Rattle.cf_request.specs.Telling.{IsKept};
+
+    ghost view = { λ t. record {
+      ledger = t.ledger;
+      taken = take t.count t.order.items;
+      told = drop t.count t.order.items;
+    } };
+
+    ghost invariant = { λ t. IsKept t.ledger t.order.items (vec_capacity t.order) t.count };
+}
+
+impl Teller {
+    /// The teller of a plan with room for so many stages more. Told are the stages that are settled from the start. It
+    /// fails only where there is no memory.
+    pub fn new(alloc: Global, plan: &Plan, room: u16) -> Result<Teller, AllocError>
+        requires place { has_place plan.now.stages room ≡ true }
+        ensures ledger { IfOk result (λ t. t.ledger ≡ record { plan = with_room plan.now room; events = [] }) }
+        ensures taken { IfOk result (λ t. t.taken ≡ []) }
+        ensures told { IfOk result (λ t. AreFresh [] (start (with_room plan.now room)).stages t.told) }
+    {
+        let ledger = Ledger::new(alloc, plan, room)?;
+        let stages = ledger.stages();
+        let mut order: Vec<u16> = Vec::with_capacity(alloc, stages as usize + room as usize)?;
+        note_all(&ledger, stages, &mut order);
+        Ok(Teller {
+            ledger,
+            order,
+            count: 0,
+        })
+    }
+
+    /// Does a word as the ledger does. Told are then the stages that it settled, behind the others. It is refused as by
+    /// the ledger, and leaves all as it was then.
+    pub fn apply(&mut self, word: u64) -> Result<Reply, LedgerFault>
+        ensures done { IfOk result (λ reply. Tells word self.old reply self.new) }
+        ensures refused { OnErr result (self.new ≡ self.old) }
+        ensures why { IfErr result (λ fault. LedgerRefuses (state_of self.old.ledger) word fault) }
+    {
+        let _known_before = self.ledger.stages();
+        let reply = self.ledger.apply(word)?;
+        let _known_after = self.ledger.stages();
+        let place = self.ledger.len() - 1;
+        note(&self.ledger, self.ledger.news(place), &mut self.order);
+        Ok(reply)
+    }
+
+    /// Does an event that fits, by its word. It fails only where there is no memory.
+    #[tactic(auto, using(crate::proofs::Words::event_told))]
+    pub fn apply_event(&mut self, event: &Event) -> Result<Reply, AllocError>
+        requires is { IsEvent event.now }
+        requires fits { EventFits (length (state_of self.old.ledger).plan.stages) event.now }
+        requires room { HasRoomFor (state_of self.old.ledger) event.now }
+        ensures done { IfOk result (λ reply. TellsEvent event.now self.old reply self.new) }
+        ensures refused { OnErr result (self.new ≡ self.old) }
+    {
+        match self.apply(encode(event)) {
+            Ok(reply) => Ok(reply),
+            Err(LedgerFault::NoMemory) => Err(AllocError),
+            Err(_) => unreachable!(),
+        }
+    }
+
+    /// The ledger.
+    pub fn ledger(&self) -> &Ledger
+        ensures { result.now ≡ self.now.ledger }
+    {
+        &self.ledger
+    }
+
+    /// How many stages there are by now.
+    pub fn stages(&self) -> u16
+        ensures count { result ≡ length (state_of self.now.ledger).plan.stages }
+        ensures most { most_stages (state_of self.now.ledger) ≤ 4096 }
+    {
+        self.ledger.stages()
+    }
+
+    /// The outcome of a stage, if it is settled.
+    pub fn outcome(&self, i: u16) -> Option<Outcome>
+        requires there { i < length (state_of self.now.ledger).plan.stages }
+        ensures { result ≡ outcome_at (state_of self.now.ledger) i }
+    {
+        outcome(&self.ledger, i)
+    }
+
+    /// The stages that were settled and not yet taken, in the order of the events that settled them. With those that
+    /// were taken these are each settled stage, once.
+    pub fn told(&self) -> &[u16]
+        ensures told { result.now ≡ self.now.told }
+        ensures once { IsOnce (state_of self.now.ledger) (self.now.taken ++ self.now.told) }
+        ensures order { AreSettled self.now.ledger (self.now.taken ++ self.now.told) }
+    {
+        &self.order[self.count..]
+    }
+
+    /// The first so many of what is told were taken, or all where fewer are told.
+    pub fn took(&mut self, count: usize)
+        ensures ledger { self.new.ledger ≡ self.old.ledger }
+        ensures taken { self.new.taken ≡ self.old.taken ++ take count self.old.told }
+        ensures told { self.new.told ≡ drop count self.old.told }
+    {
+        self.count += count.min(self.order.len() - self.count);
+    }
+}
+
+/// The outcome of a stage, if it is settled.
+fn outcome(ledger: &Ledger, i: u16) -> Option<Outcome>
+    requires there { i < length (state_of ledger.now).plan.stages }
+    ensures { result ≡ outcome_at (state_of ledger.now) i }
+{
+    outcome_of(ledger.stage(i))
+}
+
+/// The outcome of a stage in this state, if it is settled.
+fn outcome_of(stage: Stage) -> Option<Outcome>
+    ensures { result ≡ outcome_of stage }
+{
+    match stage {
+        Stage::Settled(outcome) => Some(outcome),
+        _ => None,
+    }
+}
+
+/// Writes those of these stages that are settled behind others.
+fn note(ledger: &Ledger, news: &[u16], order: &mut Vec<u16>)
+    requires there { All (λ i. i < length (state_of ledger.now).plan.stages) news.now }
+    requires room { length order.old.items + length (filter (is_settled_in (state_of ledger.now).stages) news.now)
+        ≤ vec_capacity order.old }
+    ensures noted { order.new.items
+        ≡ order.old.items ++ filter (is_settled_in (state_of ledger.now).stages) news.now }
+    ensures room { vec_capacity order.new ≡ vec_capacity order.old }
+{
+    for i in news {
+        if outcome(ledger, *i).is_some() {
+            order.push_reserved(*i);
+        }
+    }
+}
+
+/// Writes all stages that are settled, of which there are so many.
+fn note_all(ledger: &Ledger, stages: u16, order: &mut Vec<u16>)
+    requires stages { stages ≡ length (state_of ledger.now).plan.stages }
+    requires none { order.old.items ≡ [] }
+    requires room { stages ≤ vec_capacity order.old }
+    ensures noted { AreSettledBelow stages (state_of ledger.now).stages order.new.items }
+    ensures room { vec_capacity order.new ≡ vec_capacity order.old }
+{
+    for i in 0..stages {
+        if outcome(ledger, i).is_some() {
+            order.push_reserved(i);
+        }
+    }
+}
