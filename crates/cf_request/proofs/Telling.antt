@@ -18,7 +18,7 @@ use Rattle.cf_model.specs.States.{State, outcome_in, outcome_of, start}
 use Rattle.cf_model.proofs.Histories.{state_after-append}
 use Rattle.cf_model.proofs.Moves.{keeps_outcomes}
 use Rattle.cf_model.proofs.Shape.{answered-grows}
-use Rattle.cf_ledger.specs.Ledgers.{Does, Ledger, state_at, state_of}
+use Rattle.cf_ledger.specs.Ledgers.{Does, Ledger, and_event, state_at, state_of}
 use Rattle.cf_request.specs.Telling.{AreFresh, AreSettled, AreSettledBelow, AreSettledBy, IsKept, IsOnce, Teller, Tells, is_settled_in, most_stages}
 use Rattle.cf_request.proofs.Lists.{apart_append, apart_climbing, climbing_filter, climbing_push, contains_filter, few_apart}
 
@@ -98,7 +98,7 @@ settled_push s (d ∷ events) e xs fresh (front, rest, is, first, then) more =
 
 pub settled_more : (old new : Ledger) (word : ℕ) (reply : Reply) (xs fresh : List ℕ) → AreSettled old xs → Does word old reply new → AreFresh (state_of old).stages (state_of new).stages fresh → AreSettled new (xs ++ fresh)
 settled_more old new word reply xs fresh h does are =
-    let more : AreSettled (record old { events = old.events ++ does.event ∷ [] }) (xs ++ fresh) = record {
+    let more : AreSettled (and_event old does.event) (xs ++ fresh) = record {
       opening = h.opening;
       later = h.later ++ fresh;
       is = ap (λ (l : List ℕ). l ++ fresh) h.is ∙ append_assoc h.opening h.later fresh;
@@ -194,8 +194,8 @@ last_news old new word place reply news does is h =
     let events = ap (λ (l : Ledger). l.events) does.written in
     let size : place ≡ length old.events = is ∙ ap (λ (l : List Event). length l - 1) events ∙ (let k = length-append old.events (e ∷ []) in omega (arith, k)) in
     let s = start old.plan in
-    let here : AreNews (state_at (record old { events = old.events ++ e ∷ [] }) (length old.events)).stages (state_at (record old { events = old.events ++ e ∷ [] }) (length old.events + 1)).stages news =
-    subst (λ (p : ℕ). AreNews (state_at (record old { events = old.events ++ e ∷ [] }) p).stages (state_at (record old { events = old.events ++ e ∷ [] }) (p + 1)).stages news) size
+    let here : AreNews (state_at (and_event old e) (length old.events)).stages (state_at (and_event old e) (length old.events + 1)).stages news =
+    subst (λ (p : ℕ). AreNews (state_at (and_event old e) p).stages (state_at (and_event old e) (p + 1)).stages news) size
     (subst (λ (l : Ledger). AreNews (state_at l place).stages (state_at l (place + 1)).stages news) does.written h) in
     let first : state_after s (take (length old.events) (old.events ++ e ∷ [])) ≡ state_of old = ap (state_after s) (take_front old.events (e ∷ [])) in
     let second : state_after s (take (length old.events + 1) (old.events ++ e ∷ [])) ≡ (answered (state_of old) e).1 =
@@ -295,7 +295,7 @@ kept_new ledger order none size h =
     let first : state_of ledger ≡ start ledger.plan = ap (state_after (start ledger.plan)) none in
     subst (λ (s : State). AreFresh [] s.stages order) first (fresh_all (length (state_of ledger).plan.stages) (state_of ledger).stages order size h)
 
-pub kept_first : (ledger : Ledger) (plan : Planned) (more : ℕ) (order : List ℕ) (places : ℕ) → ledger ≡ (record { plan = with_room plan more; events = [] }) → has_place plan.stages more ≡ true →
+pub kept_first : (ledger : Ledger) (plan : Planned) (more : ℕ) (order : List ℕ) (places : ℕ) → ledger ≡ (record { plan = with_room plan more; events = []; free = 0 }) → has_place plan.stages more ≡ true →
     length (state_of ledger).plan.stages + more ≤ places → AreFresh [] (start ledger.plan).stages order → IsKept ledger order places 0
 kept_first ledger plan more order places is place room h =
     let none : ledger.events ≡ [] = ap (λ (l : Ledger). l.events) is in

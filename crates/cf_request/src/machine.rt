@@ -92,7 +92,8 @@ impl Machine {
         requires place { has_place plan.now.stages room ≡ true }
         requires lanes { length lanes.now ≡ length plan.now.stages }
         requires caller { own ≤ 63 }
-        ensures ledger { IfOk result (λ m. m.teller.ledger ≡ record { plan = with_room plan.now room; events = [] }) }
+        ensures ledger { IfOk result (λ m.
+            m.teller.ledger ≡ record { plan = with_room plan.now room; events = []; free = 0 }) }
         ensures taken { IfOk result (λ m. m.teller.taken ≡ []) }
         ensures told { IfOk result (λ m. AreFresh [] (start (with_room plan.now room)).stages m.teller.told) }
         ensures lanes { IfOk result (λ m. m.lanes ≡ lanes.now) }

@@ -47,7 +47,8 @@ impl Teller {
     /// fails only where there is no memory.
     pub fn new(alloc: Global, plan: &Plan, room: u16) -> Result<Teller, AllocError>
         requires place { has_place plan.now.stages room ≡ true }
-        ensures ledger { IfOk result (λ t. t.ledger ≡ record { plan = with_room plan.now room; events = [] }) }
+        ensures ledger { IfOk result (λ t.
+            t.ledger ≡ record { plan = with_room plan.now room; events = []; free = 0 }) }
         ensures taken { IfOk result (λ t. t.taken ≡ []) }
         ensures told { IfOk result (λ t. AreFresh [] (start (with_room plan.now room)).stages t.told) }
     {
