@@ -94,12 +94,12 @@ int main(void) {
   takes("its restart", cf_restart(&graph), 0);
   cf_free(&graph);
   takes("a graph with room", cf_graph_new(&plan, ROOM, &graph), 9404);
-  takes("a desk", cf_desk_open(&plan, callers, CALLERS, LOG, CALLS), 143457);
+  takes("a desk", cf_desk_open(&plan, callers, CALLERS, LOG, CALLS), 143385);
   takes("its closing", close_all(callers), 1856);
   for (int k = 0; k < CALLERS; ++k) cf_free(&callers[k]);
-  takes("a desk of few records", cf_desk_open(&plan, callers, CALLERS, LOG, FEW), 57057);
+  takes("a desk of few records", cf_desk_open(&plan, callers, CALLERS, LOG, FEW), 56985);
   for (int k = 0; k < CALLERS; ++k) cf_free(&callers[k]);
-  takes("a desk with room", cf_desk_open_growing(&plan, callers, CALLERS, LOG, CALLS, ROOM, 8), 169457);
+  takes("a desk with room", cf_desk_open_growing(&plan, callers, CALLERS, LOG, CALLS, ROOM, 8), 167785);
   takes("a ledger", cf_ledger_new(&plan, ROOM, &ledger), 9916);
   takes("its words", fill(&ledger), 8068);
   takes("its restart", cf_ledger_restart(&ledger), 0);
