@@ -2,6 +2,6 @@ pub mod Lists
 pub mod Telling
 pub mod Words
 pub mod Turns
-pub mod Least
+pub mod Moments
 pub mod Takings
 pub mod Machines

@@ -1,8 +1,8 @@
 -- What a machine keeps.
 use Rattle.std.proofs.Common.{◌≡◌, ℕ, ◌+◌, ◌<◌, ◌≤◌, Bool, true, false, cond, not, Option, Some, None, List, [], ◌∷◌, ◌++◌, length, length-append, nat_lt, refl, ap, sym, ◌∙◌, arith, subst}
-use Rattle.std.specs.Prelude.{IfOk, OnErr, OnOk, Result, Ok, Err, is_ok}
+use Rattle.std.specs.Prelude.{IfErr, IfOk, OnErr, OnOk, Result, Ok, Err, is_ok}
 use Rattle.std.proofs.lemmas.Bool.{ltb-true, ltb-false}
-use Rattle.std.proofs.lemmas.List.Elements.{All-filter, All-push}
+use Rattle.std.proofs.lemmas.List.Elements.{All-push}
 use Rattle.cf_model.specs.declared.events.Event.TheVariants.{Claim as Claims, Finish as Finishes}
 use Rattle.cf_model.specs.declared.events.Reply.{Reply}
 use Rattle.cf_model.specs.declared.events.Reply.TheVariants.{Claim as ToldClaim, Finish as ToldFinish}
@@ -13,15 +13,19 @@ use Rattle.cf_ledger.specs.Steps.{finished_as}
 use Rattle.cf_ledger.specs.declared.step.Finish.{Finish}
 use Rattle.cf_ledger.specs.declared.step.Held.{Held}
 use Rattle.cf_ledger.specs.declared.step.Taken.{Taken}
-use Rattle.cf_request.specs.Deadlines.{HaveStages, open_of}
+use Rattle.cf_request.specs.Deadlines.{Forgets, Sets, SomeLeft}
 use Rattle.cf_request.specs.Lanes.{FinishesHeld, TakesIn, lanes_of}
-use Rattle.cf_request.specs.Machines.{CatchesUp, IsMachine, TakesAfter}
+use Rattle.cf_request.specs.Machines.{CatchesUp, IsMachine, IsNoPass, Machine, TakesAfter, state_in}
 use Rattle.cf_request.specs.Relays.{IsRelayDue, NoneBehind, SomeBehind}
 use Rattle.cf_request.specs.Settling.{SettlesDue}
 use Rattle.cf_request.specs.Telling.{Teller, Tells, is_settled_in}
+use Rattle.std.specs.Result.{IsErrAnd}
+use Rattle.cf_request.specs.declared.faults.MachineFault.{MachineFault}
+use Rattle.cf_request.specs.declared.faults.MachineFault.TheVariants.{NoMemory}
 use Rattle.cf_request.specs.declared.deadlines.Deadline.{Deadline}
 use Rattle.cf_request.specs.declared.relays.Follow.{Follow}
 use Rattle.cf_request.specs.declared.settling.Due.{Due}
+use Rattle.cf_request.proofs.Moments.{set_left, set_more}
 use Rattle.cf_request.proofs.Turns.{Keeps, follows_kept, follows_word, keeps_dues, keeps_event, keeps_same, keeps_then, lanes_kept, limits_kept, limits_word}
 use Rattle.cf_request.proofs.Telling.{same_most}
 use Rattle.cf_request.proofs.Words.{at_most_one, none_lost}
@@ -110,11 +114,31 @@ kept_follow t lanes places follows deadlines own f h relay stage = record {
   caller = h.caller;
 }
 
-pub limits_set : (s : State) (deadlines : List Deadline) (d : Deadline) → HaveStages s deadlines → d.stage < length s.plan.stages → HaveStages s (deadlines ++ d ∷ [])
-limits_set s deadlines d h l = All-push (λ (d : Deadline). d.stage < length s.plan.stages) deadlines d h l
+pub kept_set : (t : Teller) (lanes : List ℕ) (places : ℕ) (follows : List Follow) (old new : List Deadline) (own : ℕ) (d : Deadline) → IsMachine t lanes places follows old own → d.stage < length (state_of t.ledger).plan.stages →
+    Sets (state_of t.ledger).stages d old new → IsMachine t lanes places follows new own
+kept_set t lanes places follows old new own d h l sets = record {
+  all_lanes = h.all_lanes;
+  room = h.room;
+  relays = h.relays;
+  limits = set_more (state_of t.ledger) (state_of t.ledger).stages d old new sets l h.limits;
+  caller = h.caller;
+}
 
-pub limits_left : (s : State) (deadlines : List Deadline) → HaveStages s deadlines → HaveStages s (open_of s.stages deadlines)
-limits_left s deadlines h = All-filter (λ (d : Deadline). not (is_settled_in s.stages d.stage)) (λ (d : Deadline). d.stage < length s.plan.stages) deadlines h
+-- and where some are forgotten
+pub kept_left : (t : Teller) (lanes : List ℕ) (places : ℕ) (follows : List Follow) (old new : List Deadline) (own : ℕ) → IsMachine t lanes places follows old own → Forgets (state_of t.ledger).stages old new → IsMachine t lanes places follows new own
+kept_left t lanes places follows old new own h forgets = record {
+  all_lanes = h.all_lanes;
+  room = h.room;
+  relays = h.relays;
+  limits = set_left (state_of t.ledger) (state_of t.ledger).stages old new forgets h.limits;
+  caller = h.caller;
+}
+
+-- why time doesn't pass
+pub starved : {A : Type 0} (moment : ℕ) (old new : Machine) (r : Result A MachineFault) → IsErrAnd r (λ fault. fault ≡ NoMemory) → old.moment ≤ moment → SomeLeft new.follows moment old.deadlines (state_in new).stages →
+    IfErr r (λ fault. IsNoPass moment old new fault)
+starved moment old new (Ok x) is onward some = tt
+starved moment old new (Err fault) is onward some = subst (λ (f : MachineFault). IsNoPass moment old new f) (sym is) (onward, some)
 
 -- what follows a finish
 pub keeps_going : {E : Type 0} (own : ℕ) (follows : List Follow) (who : ℕ) (lanes : List ℕ) (lane : ℕ) (old new : Teller) (r : Result (Option Taken) E) → IfOk r (λ taken. TakesAfter own follows who lanes lane old taken new) →

@@ -19,7 +19,7 @@ use Rattle.cf_model.proofs.Moves.{new_states-settled}
 use Rattle.cf_model.proofs.StateLemmas.{after-unsettled}
 use Rattle.cf_event.specs.Words.{word_of}
 use Rattle.cf_ledger.specs.Ledgers.{Ledger, state_of}
-use Rattle.cf_request.specs.Deadlines.{HaveStages, IsOverdue, SomeLeft}
+use Rattle.cf_request.specs.Deadlines.{AreSet, Forgets, IsOverdue, NoneLeft, SomeLeft}
 use Rattle.cf_request.specs.Lanes.{HasLanes}
 use Rattle.cf_request.specs.Refusals.{IsRefused, SomeToRefuse}
 use Rattle.cf_request.specs.Relays.{AreThere, IsRelayDue, IsRelayOr, NoneBehind}
@@ -28,7 +28,7 @@ use Rattle.cf_request.specs.Telling.{Teller, TellsEvent, is_settled_in, most_sta
 use Rattle.cf_request.specs.declared.deadlines.Deadline.{Deadline}
 use Rattle.cf_request.specs.declared.relays.Follow.{Follow}
 use Rattle.cf_request.specs.declared.settling.Due.{Due}
-use Rattle.cf_request.proofs.Least.{due_overdue}
+use Rattle.cf_request.proofs.Moments.{due_overdue, none_overdue_left, overdue_left}
 use Rattle.cf_request.proofs.Telling.{outcome_stage, same_most, stays}
 use Rattle.cf_request.proofs.Words.{same_count}
 
@@ -138,8 +138,8 @@ keeps_dues P who a b h = keeps_turns P who h.dues a b h.are
 pub follows_kept : (a b : Teller) (follows : List Follow) → Keeps a b → AreThere (state_of a.ledger) follows → AreThere (state_of b.ledger) follows
 follows_kept a b follows keeps h = subst (λ (n : ℕ). All (λ (f : Follow). (f.relay < n) × (f.stage < n)) follows) (sym keeps.count) h
 
-pub limits_kept : (a b : Teller) (ds : List Deadline) → Keeps a b → HaveStages (state_of a.ledger) ds → HaveStages (state_of b.ledger) ds
-limits_kept a b ds keeps h = subst (λ (n : ℕ). All (λ (d : Deadline). d.stage < n) ds) (sym keeps.count) h
+pub limits_kept : (a b : Teller) (ds : List Deadline) → Keeps a b → AreSet (state_of a.ledger) ds → AreSet (state_of b.ledger) ds
+limits_kept a b ds keeps h = record { there = subst (λ (n : ℕ). All (λ (d : Deadline). d.stage < n) ds) (sym keeps.count) h.there; in_order = h.in_order }
 
 pub lanes_kept : (a b : Teller) (lanes : List ℕ) → Keeps a b → HasLanes (state_of a.ledger) lanes → HasLanes (state_of b.ledger) lanes
 lanes_kept a b lanes keeps h = h ∙ sym keeps.count
@@ -150,9 +150,11 @@ follows_word a b follows l there =
     All-weaker (λ (f : Follow). (f.relay < length (state_of a).plan.stages) × (f.stage < length (state_of a).plan.stages)) (λ (f : Follow). (f.relay < length (state_of b).plan.stages) × (f.stage < length (state_of b).plan.stages))
     (λ f k. (let x = k.0 in omega (arith, x, l), let y = k.1 in omega (arith, y, l))) follows there
 
-pub limits_word : (a b : Ledger) (ds : List Deadline) → length (state_of a).plan.stages ≤ length (state_of b).plan.stages → HaveStages (state_of a) ds → HaveStages (state_of b) ds
-limits_word a b ds l there =
-    All-weaker (λ (d : Deadline). d.stage < length (state_of a).plan.stages) (λ (d : Deadline). d.stage < length (state_of b).plan.stages) (λ d k. omega (arith, k, l)) ds there
+pub limits_word : (a b : Ledger) (ds : List Deadline) → length (state_of a).plan.stages ≤ length (state_of b).plan.stages → AreSet (state_of a) ds → AreSet (state_of b) ds
+limits_word a b ds l h = record {
+  there = All-weaker (λ (d : Deadline). d.stage < length (state_of a).plan.stages) (λ (d : Deadline). d.stage < length (state_of b).plan.stages) (λ d k. omega (arith, k, l)) ds h.there;
+  in_order = h.in_order;
+}
 
 -- ---- a turn more
 
@@ -232,6 +234,14 @@ on_err (Err e) P p = p
 pub left_due : (follows : List Follow) (moment : ℕ) (ds : List Deadline) (s : State) (d : Due) → IsOpen s d.stage → IsRelayOr follows (IsOverdue moment ds) s d → SomeLeft follows moment ds s.stages
 left_due follows moment ds s d waits (inl relay) none = due_behind follows s d waits relay none.0
 left_due follows moment ds s d waits (inr other) none = due_overdue moment ds s d waits other.1 none.1
+
+-- what is due of those that are left is due of all
+pub due_left : (follows : List Follow) (moment : ℕ) (a b : List Deadline) (s : State) (d : Due) → Forgets s.stages a b → IsRelayOr follows (IsOverdue moment b) s d → IsRelayOr follows (IsOverdue moment a) s d
+due_left follows moment a b s d h (inl relay) = inl relay
+due_left follows moment a b s d h (inr other) = inr (other.0, overdue_left moment a b s d h other.1)
+
+pub none_left_of : (follows : List Follow) (moment : ℕ) (a b : List Deadline) (stages : List Stage) → Forgets stages a b → NoneLeft follows moment b stages → NoneLeft follows moment a stages
+none_left_of follows moment a b stages h none = (none.0, none_overdue_left moment a b stages h none.1)
 
 pub refused_due : (follows : List Follow) (lanes : List ℕ) (lane code : ℕ) (s : State) (d : Due) → IsOpen s d.stage → IsRelayOr follows (IsRefused lanes lane code) s d → SomeToRefuse follows lanes lane s
 refused_due follows lanes lane code s d waits (inl relay) none = due_behind follows s d waits relay none.0

@@ -4,7 +4,7 @@ use Rattle.cf_model.specs.States.{State}
 use Rattle.cf_ledger.specs.Ledgers.{state_of}
 use Rattle.cf_ledger.specs.declared.step.Held.{Held}
 use Rattle.cf_ledger.specs.declared.step.Taken.{Taken}
-use Rattle.cf_request.specs.Deadlines.{HaveStages, IsOverdue, SomeLeft, open_of}
+use Rattle.cf_request.specs.Deadlines.{AreSet, Forgets, IsOverdue, Sets, SomeLeft}
 use Rattle.cf_request.specs.Lanes.{FinishesHeld, HasLanes, TakesIn, lanes_of}
 use Rattle.cf_request.specs.Refusals.{IsRefused}
 use Rattle.cf_request.specs.Relays.{AreThere, IsRelayDue, IsRelayOr, NoneBehind, SomeBehind}
@@ -35,7 +35,7 @@ pub record IsMachine (teller : Teller) (lanes : List ℕ) (places : ℕ) (follow
   pub all_lanes : HasLanes (state_of teller.ledger) lanes
   pub room : most_stages (state_of teller.ledger) ≤ places
   pub relays : AreThere (state_of teller.ledger) follows
-  pub limits : HaveStages (state_of teller.ledger) deadlines
+  pub limits : AreSet (state_of teller.ledger) deadlines
   pub caller : own ≤ 63
 
 -- relays are settled: all of them, or as many as there was memory for
@@ -82,10 +82,11 @@ IsNoFollow relay stage s NoMemory = (relay < length s.plan.stages) × (stage < l
 IsNoFollow relay stage s NoStage = ¬ ((relay < length s.plan.stages) × (stage < length s.plan.stages))
 IsNoFollow relay stage s Past = ⊥
 
--- a deadline is set, behind those that are set already, and those of settled stages are forgotten
+-- a deadline is set in its place
 pub record SetsDeadline (d : Deadline) (old new : Machine) : Type 0 where
   pub there : d.stage < length (state_in old).plan.stages
-  pub same : new ≡ record old { deadlines = open_of (state_in old).stages (old.deadlines ++ d ∷ []) }
+  pub sets : Sets (state_in old).stages d old.deadlines new.deadlines
+  pub same : new ≡ record old { deadlines = new.deadlines }
 
 abbrev pub IsNoDeadline : Deadline → State → MachineFault → Type 0
 IsNoDeadline d s NoMemory = d.stage < length s.plan.stages
@@ -96,10 +97,11 @@ IsNoDeadline d s Past = ⊥
 pub record Passes (moment : ℕ) (old new : Machine) : Type 0 where
   pub past : moment < old.moment → new ≡ old
   pub settles : old.moment ≤ moment → SettlesDue (IsRelayOr old.follows (IsOverdue moment old.deadlines)) old.own old.teller new.teller
-  pub same : old.moment ≤ moment → new ≡ record old { teller = new.teller; moment = moment }
+  pub forgets : old.moment ≤ moment → Forgets (state_in new).stages old.deadlines new.deadlines
+  pub same : old.moment ≤ moment → new ≡ record old { teller = new.teller; deadlines = new.deadlines; moment = moment }
 
 abbrev pub IsNoPass : ℕ → Machine → Machine → MachineFault → Type 0
-IsNoPass moment old new NoMemory = (old.moment ≤ moment) × SomeLeft new.follows moment new.deadlines (state_in new).stages
+IsNoPass moment old new NoMemory = (old.moment ≤ moment) × SomeLeft new.follows moment old.deadlines (state_in new).stages
 IsNoPass moment old new NoStage = ⊥
 IsNoPass moment old new Past = moment < old.moment
 
