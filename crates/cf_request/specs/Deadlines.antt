@@ -69,10 +69,6 @@ pub record Sets (stages : List Stage) (d : Deadline) (old new : List Deadline) :
 abbrev pub NoneLeft : List Follow → ℕ → List Deadline → List Stage → Type 0
 NoneLeft follows moment deadlines stages = NoneBehind follows stages × NoneOverdue moment deadlines stages
 
--- one is
-abbrev pub SomeLeft : List Follow → ℕ → List Deadline → List Stage → Type 0
-SomeLeft follows moment deadlines stages = ¬ NoneLeft follows moment deadlines stages
-
 -- ---- parts of it
 
 -- those of open stages
