@@ -35,7 +35,7 @@ pub struct Next {
 /// they come, the last moment, and the caller by whose words the machine settles stages itself.
 ///
 /// Deadlines of settled stages stay among the others until they come first or there is no place for a new one. So there
-/// are at most twice as many, or eight, as there ever were of open stages at once.
+/// are never more than eight and twice as many as there ever were of open stages at once.
 #[derive(Drop)]
 pub struct Machine {
     teller: Teller,
