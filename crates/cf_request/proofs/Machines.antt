@@ -1,7 +1,6 @@
 -- What a machine keeps.
-use Rattle.std.proofs.Common.{◌≡◌, ℕ, ◌+◌, ◌<◌, ◌≤◌, Bool, true, false, cond, not, Option, Some, None, List, [], ◌∷◌, ◌++◌, length, length-append, nat_lt, refl, ap, sym, ◌∙◌, arith, subst}
+use Rattle.std.proofs.Common.{◌≡◌, ℕ, ◌<◌, Bool, true, false, not, Option, Some, None, List, [], ◌∷◌, ◌++◌, length, refl}
 use Rattle.std.specs.Prelude.{IfOk, OnErr, OnOk, Result, Ok, Err, is_ok}
-use Rattle.std.proofs.lemmas.Bool.{ltb-true, ltb-false}
 use Rattle.std.proofs.lemmas.List.Elements.{All-filter, All-push}
 use Rattle.cf_model.specs.declared.events.Event.TheVariants.{Claim as Claims, Finish as Finishes}
 use Rattle.cf_model.specs.declared.events.Reply.{Reply}
@@ -14,7 +13,7 @@ use Rattle.cf_ledger.specs.declared.step.Finish.{Finish}
 use Rattle.cf_ledger.specs.declared.step.Held.{Held}
 use Rattle.cf_ledger.specs.declared.step.Taken.{Taken}
 use Rattle.cf_request.specs.Deadlines.{HaveStages, open_of}
-use Rattle.cf_request.specs.Lanes.{FinishesHeld, TakesIn, lanes_of}
+use Rattle.cf_request.specs.Lanes.{FinishesHeld, TakesIn}
 use Rattle.cf_request.specs.Machines.{CatchesUp, IsMachine, TakesAfter}
 use Rattle.cf_request.specs.Relays.{IsRelayDue, NoneBehind, SomeBehind}
 use Rattle.cf_request.specs.Settling.{SettlesDue}
@@ -22,58 +21,31 @@ use Rattle.cf_request.specs.Telling.{Teller, Tells, is_settled_in}
 use Rattle.cf_request.specs.declared.deadlines.Deadline.{Deadline}
 use Rattle.cf_request.specs.declared.relays.Follow.{Follow}
 use Rattle.cf_request.specs.declared.settling.Due.{Due}
-use Rattle.cf_request.proofs.Turns.{Keeps, follows_kept, follows_word, keeps_dues, keeps_event, keeps_same, keeps_then, lanes_kept, limits_kept, limits_word}
-use Rattle.cf_request.proofs.Telling.{same_most}
-use Rattle.cf_request.proofs.Words.{at_most_one, none_lost}
-
-lanes_count_by : (b : Bool) (stages lane : ℕ) (lanes : List ℕ) → nat_lt (length lanes) stages ≡ b → length lanes ≤ stages → stages ≤ length lanes + 1 → length (cond b (lanes ++ lane ∷ []) lanes) ≡ stages
-lanes_count_by true stages lane lanes is low high =
-    let less = ltb-true (length lanes) stages is in
-    let size = length-append lanes (lane ∷ []) in
-    omega (arith, less, size, low, high)
-lanes_count_by false stages lane lanes is low high = let less = ltb-false (length lanes) stages is in omega (arith, less, low, high)
+use Rattle.cf_request.proofs.Turns.{Keeps, follows_kept, follows_word, keeps_dues, keeps_event, keeps_same, keeps_then, limits_kept, limits_word}
+use Rattle.cf_request.proofs.Words.{none_lost}
 
 -- what is kept, once a word is done
-pub kept_word : (a b : Teller) (word lane : ℕ) (reply : Reply) (lanes : List ℕ) (places : ℕ) (follows : List Follow) (deadlines : List Deadline) (own : ℕ) → IsMachine a lanes places follows deadlines own → Tells word a reply b →
-    IsMachine b (lanes_of (length (state_of b.ledger).plan.stages) lane lanes) places follows deadlines own
-kept_word a b word lane reply lanes places follows deadlines own h tells =
-    let n = length (state_of b.ledger).plan.stages in
+pub kept_word : (a b : Teller) (word : ℕ) (reply : Reply) (follows : List Follow) (deadlines : List Deadline) (own : ℕ) → IsMachine a follows deadlines own → Tells word a reply b → IsMachine b follows deadlines own
+kept_word a b word reply follows deadlines own h tells =
     let less = none_lost a.ledger b.ledger word reply tells.does in
-    let more = at_most_one a.ledger b.ledger word reply tells.does in
-    let most = same_most a.ledger b.ledger word reply tells.does in
-    let all = h.all_lanes in
-    let room = h.room in
     record {
-      all_lanes = lanes_count_by (nat_lt (length lanes) n) n lane lanes refl (omega (arith, all, less)) (omega (arith, all, more));
-      room = omega (arith, most, room);
       relays = follows_word a.ledger b.ledger follows less h.relays;
       limits = limits_word a.ledger b.ledger deadlines less h.limits;
       caller = h.caller;
     }
 
--- the same, once the lanes are written
-pub kept_lanes : (a b : Teller) (word lane : ℕ) (reply : Reply) (lanes lanes' : List ℕ) (stages places places' : ℕ) (follows : List Follow) (deadlines : List Deadline) (own : ℕ) → IsMachine a lanes places follows deadlines own → Tells word a reply b →
-    stages ≡ length (state_of b.ledger).plan.stages → lanes' ≡ lanes_of stages lane lanes → places' ≡ places → IsMachine b lanes' places' follows deadlines own
-kept_lanes a b word lane reply lanes lanes' stages places places' follows deadlines own h tells count written same =
-    subst (λ (p : ℕ). IsMachine b lanes' p follows deadlines own) (sym same)
-    (subst (λ (l : List ℕ). IsMachine b l places follows deadlines own) (sym (written ∙ ap (λ (n : ℕ). lanes_of n lane lanes) count)) (kept_word a b word lane reply lanes places follows deadlines own h tells))
-
-pub kept_by : (a b : Teller) (lanes : List ℕ) (places : ℕ) (follows : List Follow) (deadlines : List Deadline) (own : ℕ) → Keeps a b → IsMachine a lanes places follows deadlines own → IsMachine b lanes places follows deadlines own
-kept_by a b lanes places follows deadlines own keeps h =
-    let most = keeps.most in
-    let room = h.room in
+pub kept_by : (a b : Teller) (follows : List Follow) (deadlines : List Deadline) (own : ℕ) → Keeps a b → IsMachine a follows deadlines own → IsMachine b follows deadlines own
+kept_by a b follows deadlines own keeps h =
     record {
-      all_lanes = lanes_kept a b lanes keeps h.all_lanes;
-      room = omega (arith, most, room);
       relays = follows_kept a b follows keeps h.relays;
       limits = limits_kept a b deadlines keeps h.limits;
       caller = h.caller;
     }
 
 -- and once due stages are settled
-pub kept_dues : (P : State → Due → Type 0) (who : ℕ) (a b : Teller) (lanes : List ℕ) (places : ℕ) (follows : List Follow) (deadlines : List Deadline) (own : ℕ) → SettlesDue P who a b → IsMachine a lanes places follows deadlines own →
-    IsMachine b lanes places follows deadlines own
-kept_dues P who a b lanes places follows deadlines own h m = kept_by a b lanes places follows deadlines own (keeps_dues P who a b h) m
+pub kept_dues : (P : State → Due → Type 0) (who : ℕ) (a b : Teller) (follows : List Follow) (deadlines : List Deadline) (own : ℕ) → SettlesDue P who a b → IsMachine a follows deadlines own →
+    IsMachine b follows deadlines own
+kept_dues P who a b follows deadlines own h m = kept_by a b follows deadlines own (keeps_dues P who a b h) m
 
 -- ---- a step of a caller
 
@@ -83,13 +55,13 @@ keeps_held who (Some g) old (Some f) new h = keeps_event (Finishes who g.stage g
 keeps_held who None old (Some f) new h = absurd h
 keeps_held who (Some g) old None new h = absurd h
 
-keeps_takes : (who : ℕ) (lanes : List ℕ) (lane : ℕ) (old : Teller) (taken : Option Taken) (new : Teller) → TakesIn who lanes lane old taken new → Keeps old new
-keeps_takes who lanes lane old None new h = keeps_same old new h.1
-keeps_takes who lanes lane old (Some t) new h = keeps_event (Claims who t.stage) old new (ToldClaim (Granted t.args)) refl h.done
+keeps_takes : (who lane : ℕ) (old : Teller) (taken : Option Taken) (new : Teller) → TakesIn who lane old taken new → Keeps old new
+keeps_takes who lane old None new h = keeps_same old new h.1
+keeps_takes who lane old (Some t) new h = keeps_event (Claims who t.stage) old new (ToldClaim (Granted t.args)) refl h.done
 
-pub keeps_after : (own : ℕ) (follows : List Follow) (who : ℕ) (lanes : List ℕ) (lane : ℕ) (old : Teller) (taken : Option Taken) (new : Teller) → TakesAfter own follows who lanes lane old taken new → Keeps old new
-keeps_after own follows who lanes lane old taken new h =
-    keeps_then old h.between new (keeps_dues (IsRelayDue follows) own old h.between h.settles) (keeps_takes who lanes lane h.between taken new h.takes)
+pub keeps_after : (own : ℕ) (follows : List Follow) (who lane : ℕ) (old : Teller) (taken : Option Taken) (new : Teller) → TakesAfter own follows who lane old taken new → Keeps old new
+keeps_after own follows who lane old taken new h =
+    keeps_then old h.between new (keeps_dues (IsRelayDue follows) own old h.between h.settles) (keeps_takes who lane h.between taken new h.takes)
 
 -- ---- relays at last
 
@@ -100,11 +72,9 @@ caught_up own follows old new (Err x) all is h none some = record { settles = h;
 
 -- ---- what is set
 
-pub kept_follow : (t : Teller) (lanes : List ℕ) (places : ℕ) (follows : List Follow) (deadlines : List Deadline) (own : ℕ) (f : Follow) → IsMachine t lanes places follows deadlines own → f.relay < length (state_of t.ledger).plan.stages →
-    f.stage < length (state_of t.ledger).plan.stages → IsMachine t lanes places (follows ++ f ∷ []) deadlines own
-kept_follow t lanes places follows deadlines own f h relay stage = record {
-  all_lanes = h.all_lanes;
-  room = h.room;
+pub kept_follow : (t : Teller) (follows : List Follow) (deadlines : List Deadline) (own : ℕ) (f : Follow) → IsMachine t follows deadlines own → f.relay < length (state_of t.ledger).plan.stages →
+    f.stage < length (state_of t.ledger).plan.stages → IsMachine t (follows ++ f ∷ []) deadlines own
+kept_follow t follows deadlines own f h relay stage = record {
   relays = All-push (λ (f : Follow). (f.relay < length (state_of t.ledger).plan.stages) × (f.stage < length (state_of t.ledger).plan.stages)) follows f h.relays (relay, stage);
   limits = h.limits;
   caller = h.caller;
@@ -117,7 +87,7 @@ pub limits_left : (s : State) (deadlines : List Deadline) → HaveStages s deadl
 limits_left s deadlines h = All-filter (λ (d : Deadline). not (is_settled_in s.stages d.stage)) (λ (d : Deadline). d.stage < length s.plan.stages) deadlines h
 
 -- what follows a finish
-pub keeps_going : {E : Type 0} (own : ℕ) (follows : List Follow) (who : ℕ) (lanes : List ℕ) (lane : ℕ) (old new : Teller) (r : Result (Option Taken) E) → IfOk r (λ taken. TakesAfter own follows who lanes lane old taken new) →
+pub keeps_going : {E : Type 0} (own : ℕ) (follows : List Follow) (who lane : ℕ) (old new : Teller) (r : Result (Option Taken) E) → IfOk r (λ taken. TakesAfter own follows who lane old taken new) →
     OnErr r (SettlesDue (IsRelayDue follows) own old new) → Keeps old new
-keeps_going own follows who lanes lane old new (Ok taken) done starved = keeps_after own follows who lanes lane old taken new done
-keeps_going own follows who lanes lane old new (Err e) done starved = keeps_dues (IsRelayDue follows) own old new starved
+keeps_going own follows who lane old new (Ok taken) done starved = keeps_after own follows who lane old taken new done
+keeps_going own follows who lane old new (Err e) done starved = keeps_dues (IsRelayDue follows) own old new starved

@@ -5,11 +5,12 @@ use Rattle.cf_ledger.specs.Ledgers.{state_of}
 use Rattle.cf_ledger.specs.declared.step.Held.{Held}
 use Rattle.cf_ledger.specs.declared.step.Taken.{Taken}
 use Rattle.cf_request.specs.Deadlines.{HaveStages, IsOverdue, SomeLeft, open_of}
-use Rattle.cf_request.specs.Lanes.{FinishesHeld, HasLanes, TakesIn, lanes_of}
+use Rattle.cf_request.specs.Lanes.{FinishesHeld, TakesIn}
+use Rattle.cf_request.specs.Ready.{with_lane}
 use Rattle.cf_request.specs.Refusals.{IsRefused}
 use Rattle.cf_request.specs.Relays.{AreThere, IsRelayDue, IsRelayOr, NoneBehind, SomeBehind}
 use Rattle.cf_request.specs.Settling.{SettlesDue}
-use Rattle.cf_request.specs.Telling.{Teller, Tells, most_stages}
+use Rattle.cf_request.specs.Telling.{Teller, Tells}
 use Rattle.cf_request.specs.declared.deadlines.Deadline.{Deadline}
 use Rattle.cf_request.specs.declared.faults.MachineFault.{MachineFault}
 use Rattle.cf_request.specs.declared.faults.MachineFault.TheVariants.{NoMemory, NoStage, Past}
@@ -17,10 +18,9 @@ use Rattle.cf_request.specs.declared.machine.Done.{Done}
 use Rattle.cf_request.specs.declared.machine.Next.{Next}
 use Rattle.cf_request.specs.declared.relays.Follow.{Follow}
 
--- what is told of a ledger, of each stage the lane, which stages follow which, the deadlines, the last moment, and the machine's own caller
+-- what is told of a ledger, which stages follow which, the deadlines, the last moment, and the machine's own caller
 pub record Machine : Type 0 where
   pub teller : Teller
-  pub lanes : List ℕ
   pub follows : List Follow
   pub deadlines : List Deadline
   pub moment : ℕ
@@ -30,10 +30,8 @@ pub record Machine : Type 0 where
 abbrev pub state_in : Machine → State
 state_in m = state_of m.teller.ledger
 
--- each stage has a lane, with places for those that may be attached, and all stages that are named are there
-pub record IsMachine (teller : Teller) (lanes : List ℕ) (places : ℕ) (follows : List Follow) (deadlines : List Deadline) (own : ℕ) : Type 0 where
-  pub all_lanes : HasLanes (state_of teller.ledger) lanes
-  pub room : most_stages (state_of teller.ledger) ≤ places
+-- all stages that are named are there
+pub record IsMachine (teller : Teller) (follows : List Follow) (deadlines : List Deadline) (own : ℕ) : Type 0 where
   pub relays : AreThere (state_of teller.ledger) follows
   pub limits : HaveStages (state_of teller.ledger) deadlines
   pub caller : own ≤ 63
@@ -48,26 +46,27 @@ pub record CatchesUp (own : ℕ) (follows : List Follow) (old : Teller) (all : B
 pub record AppliesWord (word lane : ℕ) (old : Machine) (done : Done) (new : Machine) : Type 0 where
   pub between : Teller
   pub tells : Tells word old.teller done.reply between
+  pub lanes : between.lanes ≡ with_lane (length (state_of between.ledger).plan.stages) lane old.teller.lanes
   pub catches_up : CatchesUp old.own old.follows between done.all new.teller
-  pub same : new ≡ record old { teller = new.teller; lanes = lanes_of (length (state_of between.ledger).plan.stages) lane old.lanes }
+  pub same : new ≡ record old { teller = new.teller }
 
 -- all relays are settled, then the next stage of the lane is claimed
-pub record TakesAfter (own : ℕ) (follows : List Follow) (who : ℕ) (lanes : List ℕ) (lane : ℕ) (old : Teller) (taken : Option Taken) (new : Teller) : Type 0 where
+pub record TakesAfter (own : ℕ) (follows : List Follow) (who lane : ℕ) (old : Teller) (taken : Option Taken) (new : Teller) : Type 0 where
   pub between : Teller
   pub settles : SettlesDue (IsRelayDue follows) own old between
   pub none : NoneBehind follows (state_of between.ledger).stages
-  pub takes : TakesIn who lanes lane between taken new
+  pub takes : TakesIn who lane between taken new
 
 -- where there was no memory for all, some relays may be settled, and nothing is claimed
-abbrev pub TakesIf : Bool → ℕ → List Follow → ℕ → List ℕ → ℕ → Teller → Option Taken → Teller → Type 0
-TakesIf true own follows who lanes lane old taken new = TakesAfter own follows who lanes lane old taken new
-TakesIf false own follows who lanes lane old taken new = (taken ≡ None) × SettlesDue (IsRelayDue follows) own old new
+abbrev pub TakesIf : Bool → ℕ → List Follow → ℕ → ℕ → Teller → Option Taken → Teller → Type 0
+TakesIf true own follows who lane old taken new = TakesAfter own follows who lane old taken new
+TakesIf false own follows who lane old taken new = (taken ≡ None) × SettlesDue (IsRelayDue follows) own old new
 
 -- what is held is finished, relays are settled, and the next stage of the lane is claimed
 pub record GoesOn (who lane : ℕ) (held : Option Held) (old : Machine) (next : Next) (new : Machine) : Type 0 where
   pub between : Teller
   pub finishes : FinishesHeld who held old.teller next.finish between
-  pub takes : TakesIf next.all old.own old.follows who old.lanes lane between next.taken new.teller
+  pub takes : TakesIf next.all old.own old.follows who lane between next.taken new.teller
   pub same : new ≡ record old { teller = new.teller }
 
 -- a stage follows another, behind those that do already, and relays are settled
@@ -105,5 +104,5 @@ IsNoPass moment old new Past = moment < old.moment
 
 -- ready stages of the lane fail, and relays before them are settled
 pub record Refuses (lane code : ℕ) (old new : Machine) : Type 0 where
-  pub settles : SettlesDue (IsRelayOr old.follows (IsRefused old.lanes lane code)) old.own old.teller new.teller
+  pub settles : SettlesDue (IsRelayOr old.follows (IsRefused old.teller.lanes.of lane code)) old.own old.teller new.teller
   pub same : new ≡ record old { teller = new.teller }

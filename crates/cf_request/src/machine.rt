@@ -1,11 +1,12 @@
 //! The machine.
-ghost use Rattle.std.specs.Prelude.{◌≡◌, ◌+◌, ◌<◌, ◌≤◌, ◌∷◌, ◌++◌, [], IfErr, IfNone, IfOk, IfSome, OnErr, OnOk, drop, length, take, true, vec_capacity};
+ghost use Rattle.std.specs.Prelude.{◌≡◌, ◌<◌, ◌≤◌, ◌++◌, [], All, IfErr, IfNone, IfOk, IfSome, OnErr, OnOk, drop, length, take, true};
 ghost use Rattle.cf_forms.specs.Plans.{has_place, with_room};
 ghost use Rattle.cf_ledger.specs.Ledgers.{LedgerRefuses};
 ghost use Rattle.cf_ledger.specs.Steps.{IsNoStep};
 ghost use Rattle.cf_model.specs.States.{start};
 ghost use Rattle.cf_request.specs.Deadlines.{IsNextOpen, NoneLeft, NoneOpen};
-ghost use Rattle.cf_request.specs.Lanes.{HasLanes, lanes_of, ready_below};
+ghost use Rattle.cf_request.specs.Lanes.{ready_below};
+ghost use Rattle.cf_request.specs.Ready.{IsLaneCount};
 ghost use Rattle.cf_request.specs.Machines.{AppliesWord, GoesOn, IsNoDeadline, IsNoFollow, IsNoPass, Passes, Refuses, SetsDeadline, SetsFollow, TakesAfter, state_in};
 ghost use Rattle.cf_request.specs.Refusals.{NoneToRefuse, SomeToRefuse};
 ghost use Rattle.cf_request.specs.Relays.{AreThere, IsRelayDue};
@@ -15,7 +16,7 @@ ghost use Rattle.cf_ledger.specs.Ledgers.{state_of};
 
 use crate::deadlines::{Deadline, next_open, pass, retain_open};
 use crate::faults::MachineFault;
-use crate::lanes::{finish_held, ready_in, take};
+use crate::lanes::{finish_held, take};
 use crate::refusals::refuse;
 use crate::relays::{Follow, catch_up};
 use crate::teller::Teller;
@@ -45,12 +46,11 @@ pub struct Next {
 
 /// A request of a service.
 ///
-/// A contract sees its teller, of each stage the lane, which stages follow which, the deadlines in the order in which
-/// they were set, the last moment, and the caller by whose words the machine settles stages itself.
+/// A contract sees its teller with the lanes, which stages follow which, the deadlines in the order in which they were
+/// set, the last moment, and the caller by whose words the machine settles stages itself.
 #[derive(Drop)]
 pub struct Machine {
     teller: Teller,
-    lanes: Vec<u8>,
     follows: Vec<Follow>,
     deadlines: Vec<Deadline>,
     moment: u64,
@@ -62,51 +62,49 @@ impl Model for Machine {
 
     ghost Value = { Machine };
 
-    ghost use Rattle.std.specs.Prelude.{vec_capacity};
     ghost use Rattle.cf_request.specs.Machines.{IsMachine};
 
     ghost view = { λ m. record {
       teller = m.teller;
-      lanes = m.lanes.items;
       follows = m.follows.items;
       deadlines = m.deadlines.items;
       moment = m.moment;
       own = m.own;
     } };
 
-    ghost invariant = { λ m.
-        IsMachine m.teller m.lanes.items (vec_capacity m.lanes) m.follows.items m.deadlines.items m.own };
+    ghost invariant = { λ m. IsMachine m.teller m.follows.items m.deadlines.items m.own };
 }
 
 impl Machine {
-    /// The machine of a plan with room for so many stages more, and with the lanes of its stages. Nothing follows,
-    /// nothing is due, the moment is 0, and told are the stages that are settled from the start. It settles stages as
-    /// this caller. It fails only where there is no memory.
+    /// The machine of a plan with room for so many stages more, and with the lanes of its stages, of which there are so
+    /// many. Nothing follows, nothing is due, the moment is 0, and told are the stages that are settled from the start.
+    /// It settles stages as this caller. It fails only where there is no memory.
     pub fn new(
         alloc: Global,
         plan: &Plan,
         room: u16,
-        lanes: &[u8],
+        of: &[u8],
+        lanes: u8,
         own: u8,
     ) -> Result<Machine, AllocError>
         requires place { has_place plan.now.stages room ≡ true }
-        requires lanes { length lanes.now ≡ length plan.now.stages }
+        requires all { length of.now ≡ length plan.now.stages }
+        requires lanes { IsLaneCount lanes }
+        requires there { All (λ lane. lane < lanes) of.now }
         requires caller { own ≤ 63 }
         ensures ledger { IfOk result (λ m.
             m.teller.ledger ≡ record { plan = with_room plan.now room; events = []; free = 0 }) }
         ensures taken { IfOk result (λ m. m.teller.taken ≡ []) }
         ensures told { IfOk result (λ m. AreFresh [] (start (with_room plan.now room)).stages m.teller.told) }
-        ensures lanes { IfOk result (λ m. m.lanes ≡ lanes.now) }
+        ensures lanes { IfOk result (λ m. m.teller.lanes ≡ record { of = of.now; count = lanes }) }
         ensures follows { IfOk result (λ m. m.follows ≡ []) }
         ensures deadlines { IfOk result (λ m. m.deadlines ≡ []) }
         ensures moment { IfOk result (λ m. m.moment ≡ 0) }
         ensures own { IfOk result (λ m. m.own ≡ own) }
     {
-        let teller = Teller::new(alloc, plan, room)?;
-        let kept = copied(alloc, lanes, room)?;
+        let teller = Teller::new(alloc, plan, room, of, lanes)?;
         Ok(Machine {
             teller,
-            lanes: kept,
             follows: Vec::new(alloc),
             deadlines: Vec::new(alloc),
             moment: 0,
@@ -118,12 +116,12 @@ impl Machine {
     /// are settled. A refused word leaves all as it was. Where there is no memory for a relay, the answer says so, and
     /// the next call that settles relays goes on with them.
     pub fn apply(&mut self, word: u64, lane: u8) -> Result<Done, LedgerFault>
+        requires { lane < self.old.teller.lanes.count }
         ensures done { IfOk result (λ done. AppliesWord word lane self.old done self.new) }
         ensures refused { OnErr result (self.new ≡ self.old) }
         ensures why { IfErr result (λ fault. LedgerRefuses (state_in self.old) word fault) }
     {
-        let reply = self.teller.apply(word)?;
-        add_lane(&mut self.lanes, self.teller.stages(), lane);
+        let reply = self.teller.apply(word, lane)?;
         let all = catch_up(&mut self.teller, &self.follows, self.own).is_ok();
         Ok(Done { reply, all })
     }
@@ -132,19 +130,13 @@ impl Machine {
     /// settled are settled, and it claims the lowest ready stage of its lane, if there is one. It is refused for the
     /// first of: its caller's number, the stage that is held, its claim, memory for the finish. Then all is as it was.
     pub fn next(&mut self, who: u8, lane: u8, held: Option<Held>) -> Result<Next, StepFault>
+        requires { lane < self.old.teller.lanes.count }
         ensures done { IfOk result (λ next. GoesOn who lane held self.old next self.new) }
         ensures refused { OnErr result (self.new ≡ self.old) }
         ensures why { IfErr result (λ fault. IsNoStep who held (state_in self.old) fault) }
     {
         let finish = finish_held(&mut self.teller, who, held)?;
-        match go_on(
-            &mut self.teller,
-            &self.lanes,
-            &self.follows,
-            self.own,
-            who,
-            lane,
-        ) {
+        match go_on(&mut self.teller, &self.follows, self.own, who, lane) {
             Ok(taken) => Ok(Next {
                 finish,
                 taken,
@@ -158,12 +150,21 @@ impl Machine {
         }
     }
 
-    /// How many stages of a lane are ready. It costs a look at each stage.
-    pub fn ready(&self, lane: u8) -> u16
-        ensures { result
-            ≡ ready_below (state_in self.now) self.now.lanes lane (length (state_in self.now).plan.stages) }
+    /// How many lanes there are.
+    pub fn lanes(&self) -> u8
+        ensures count { result ≡ self.now.teller.lanes.count }
+        ensures few { IsLaneCount result }
     {
-        ready_in(self.teller.ledger(), &self.lanes, lane)
+        self.teller.lanes()
+    }
+
+    /// How many stages of a lane are ready. It looks at no stage.
+    pub fn ready(&self, lane: u8) -> u16
+        requires { lane < self.now.teller.lanes.count }
+        ensures { result ≡ ready_below (state_in self.now) self.now.teller.lanes.of lane
+            (length (state_in self.now).plan.stages) }
+    {
+        self.teller.ready(lane)
     }
 
     /// A stage ends from now on as another does, if it is open when that one settles. The answer says whether no relay
@@ -236,18 +237,14 @@ impl Machine {
     /// and at last, the relays whose stages are settled are settled. It fails only where there is no memory: then some
     /// are left, and it may be called again.
     pub fn refuse(&mut self, lane: u8, code: u32) -> Result<(), AllocError>
-        ensures none { OnOk result (NoneToRefuse self.new.follows self.new.lanes lane (state_in self.new)) }
+        requires { lane < self.old.teller.lanes.count }
+        ensures none { OnOk result
+            (NoneToRefuse self.new.follows self.new.teller.lanes.of lane (state_in self.new)) }
         ensures refuses { Refuses lane code self.old self.new }
-        ensures some { OnErr result (SomeToRefuse self.new.follows self.new.lanes lane (state_in self.new)) }
+        ensures some { OnErr result
+            (SomeToRefuse self.new.follows self.new.teller.lanes.of lane (state_in self.new)) }
     {
-        refuse(
-            &mut self.teller,
-            &self.lanes,
-            &self.follows,
-            lane,
-            code,
-            self.own,
-        )
+        refuse(&mut self.teller, &self.follows, lane, code, self.own)
     }
 
     /// The stages that were settled and not yet taken, in the order of the events that settled them. With those that
@@ -265,6 +262,7 @@ impl Machine {
         ensures ledger { self.new.teller.ledger ≡ self.old.teller.ledger }
         ensures taken { self.new.teller.taken ≡ self.old.teller.taken ++ take count self.old.teller.told }
         ensures told { self.new.teller.told ≡ drop count self.old.teller.told }
+        ensures lanes { self.new.teller.lanes ≡ self.old.teller.lanes }
         ensures rest { self.new ≡ record self.old { teller = self.new.teller } }
     {
         self.teller.took(count);
@@ -278,34 +276,10 @@ impl Machine {
     }
 }
 
-/// These lanes, with room for so many more.
-fn copied(alloc: Global, lanes: &[u8], room: u16) -> Result<Vec<u8>, AllocError>
-    ensures lanes { IfOk result (λ row. row.items ≡ lanes.now) }
-    ensures room { IfOk result (λ row. length lanes.now + room ≤ vec_capacity row) }
-{
-    let mut row: Vec<u8> = Vec::with_capacity(alloc, lanes.len() + room as usize)?;
-    for lane in lanes {
-        row.push_reserved(*lane);
-    }
-    Ok(row)
-}
-
-/// Writes the lane of a stage that was attached, if there is now one stage more than lanes.
-fn add_lane(lanes: &mut Vec<u8>, stages: u16, lane: u8)
-    requires room { stages ≤ vec_capacity lanes.old }
-    ensures lanes { lanes.new.items ≡ lanes_of stages lane lanes.old.items }
-    ensures room { vec_capacity lanes.new ≡ vec_capacity lanes.old }
-{
-    if lanes.len() < stages as usize {
-        lanes.push_reserved(lane);
-    }
-}
-
 /// Settles the relays whose stages are settled, and claims the lowest ready stage of a lane, if there is one. It fails
 /// only where there is no memory, and then nothing is claimed.
 fn go_on(
     teller: &mut Teller,
-    lanes: &[u8],
     follows: &[Follow],
     own: u8,
     who: u8,
@@ -313,12 +287,12 @@ fn go_on(
 ) -> Result<Option<Taken>, AllocError>
     requires own { own ≤ 63 }
     requires caller { who ≤ 63 }
-    requires lanes { HasLanes (state_of teller.old.ledger) lanes.now }
+    requires lane { lane < teller.old.lanes.count }
     requires relays { AreThere (state_of teller.old.ledger) follows.now }
-    ensures done { IfOk result (λ taken. TakesAfter own follows.now who lanes.now lane teller.old taken teller.new) }
+    ensures done { IfOk result (λ taken. TakesAfter own follows.now who lane teller.old taken teller.new) }
     ensures starved { OnErr result (SettlesDue (IsRelayDue follows.now) own teller.old teller.new) }
 {
     catch_up(teller, follows, own)?;
-    let taken = take(teller, lanes, who, lane)?;
+    let taken = take(teller, who, lane)?;
     Ok(taken)
 }

@@ -35,14 +35,18 @@ enum Step {
 /// Whether a call is answered so.
 fn is_answered(machine: &mut Machine, step: Step) -> bool {
     match step {
-        Step::Apply(word, lane, answer) => machine.apply(word, lane) == answer,
-        Step::Next(who, lane, held, answer) => machine.next(who, lane, held) == answer,
-        Step::Ready(lane, answer) => machine.ready(lane) == answer,
+        Step::Apply(word, lane, answer) => {
+            lane < machine.lanes() && machine.apply(word, lane) == answer
+        }
+        Step::Next(who, lane, held, answer) => {
+            lane < machine.lanes() && machine.next(who, lane, held) == answer
+        }
+        Step::Ready(lane, answer) => lane < machine.lanes() && machine.ready(lane) == answer,
         Step::Follow(relay, stage, answer) => machine.follow(relay, stage) == answer,
         Step::Deadline(deadline, answer) => machine.deadline(deadline) == answer,
         Step::Pass(moment, answer) => machine.pass(moment) == answer,
         Step::NextDeadline(answer) => machine.next_deadline() == answer,
-        Step::Refuse(lane, code) => machine.refuse(lane, code).is_ok(),
+        Step::Refuse(lane, code) => { lane < machine.lanes() && machine.refuse(lane, code).is_ok() }
         Step::Told(answer) => machine.told() == answer,
         Step::Took(count) => {
             machine.took(count);
@@ -95,7 +99,7 @@ fn opened(rt: &impl Abort, alloc: Global) -> Machine {
     let plan = plan(rt, alloc);
     assert!(rt; plan.has_place(1));
     assert!(rt; plan.stages() == 7);
-    let Ok(machine) = Machine::new(alloc, &plan, 1, &LANES, OWN) else {
+    let Ok(machine) = Machine::new(alloc, &plan, 1, &LANES, 4, OWN) else {
         panic!(rt; "no machine");
     };
     machine

@@ -1,4 +1,4 @@
-use Rattle.std.proofs.Common.{◌∙◌, ◌∷◌, ◌++◌, [], List, ap, arith, subst, sym, vec_capacity}
+use Rattle.std.proofs.Common.{◌∙◌, ◌∷◌, ◌++◌, [], List, ap, arith, subst, sym}
 use Rattle.cf_request.specs.Machines.{IsMachine}
 use Rattle.cf_request.specs.Relays.{IsRelayDue}
 use Rattle.cf_request.specs.declared.relays.Follow.{Follow}
@@ -11,6 +11,6 @@ invariant_of-self-2 c =
     let f : Follow = record { relay = c.args.relay; stage = c.args.stage } in
     let stages = c.stages-stages.ensures.count in
     let items = c.push_reserved.ensures.items ∙ ap (λ (l : List Follow). l ++ f ∷ []) c.in_ok-reserve.ensures.items in
-    kept_dues (IsRelayDue c.deref.result.now) m.own m.teller c.catch_up.new.teller m.lanes.items (vec_capacity m.lanes) c.push_reserved.new.self.items m.deadlines.items m.own c.catch_up.ensures.settles
-    (subst (λ (l : List Follow). IsMachine m.teller m.lanes.items (vec_capacity m.lanes) l m.deadlines.items m.own) (sym items)
-    (kept_follow m.teller m.lanes.items (vec_capacity m.lanes) m.follows.items m.deadlines.items m.own f c.self.invariant (omega (arith, stages, c.if-relay-stages.false)) (omega (arith, stages, c.if-stage-stages.false))))
+    kept_dues (IsRelayDue c.deref.result.now) m.own m.teller c.catch_up.new.teller c.push_reserved.new.self.items m.deadlines.items m.own c.catch_up.ensures.settles
+    (subst (λ (l : List Follow). IsMachine m.teller l m.deadlines.items m.own) (sym items)
+    (kept_follow m.teller m.follows.items m.deadlines.items m.own f c.self.invariant (omega (arith, stages, c.if-relay-stages.false)) (omega (arith, stages, c.if-stage-stages.false))))
