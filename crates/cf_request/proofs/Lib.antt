@@ -3,6 +3,7 @@ pub mod Telling
 pub mod Words
 pub mod Sets
 pub mod Turns
-pub mod Least
+pub mod Moments
+pub mod Memory
 pub mod Takings
 pub mod Machines

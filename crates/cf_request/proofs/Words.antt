@@ -1,5 +1,5 @@
 -- Events by their words.
-use Rattle.std.proofs.Common.{◌≡◌, ℕ, zero, suc, ◌+◌, ◌≤◌, Bool, Some, List, [], ◌∷◌, ◌++◌, cond, true, false, nat_lt, refl, ap, ◌∙◌, arith, subst, length, length-append}
+use Rattle.std.proofs.Common.{◌≡◌, ℕ, zero, suc, ◌+◌, ◌≤◌, Bool, Some, List, [], ◌∷◌, ◌++◌, cond, true, false, nat_lt, refl, ap, ◌∙◌, arith, length, length-append}
 use Rattle.std.proofs.lemmas.Bool.{ltb-true}
 use Rattle.cf_forms.specs.Plans.{Planned, PlannedStage, attached_stage}
 use Rattle.cf_model.specs.declared.events.Event.{Event}
@@ -7,14 +7,11 @@ use Rattle.cf_model.specs.declared.events.Event.TheVariants.{Complete as Complet
 use Rattle.cf_model.specs.declared.events.Reply.{Reply}
 use Rattle.cf_model.specs.Calls.{is_attach}
 use Rattle.cf_model.specs.Events.{answered, attached_by}
-use Rattle.cf_model.specs.Ranges.{EventFits}
 use Rattle.cf_model.specs.States.{State}
 use Rattle.cf_model.proofs.Shape.{answered-grows, answered-shape}
 use Rattle.cf_event.specs.Decoding.{event_of}
 use Rattle.cf_event.specs.Words.{word_of}
-use Rattle.cf_ledger.specs.Ledgers.{Does, HasRoomFor, Ledger, LedgerRefuses, state_of}
-use Rattle.cf_ledger.specs.declared.faults.LedgerFault.{LedgerFault}
-use Rattle.cf_ledger.specs.declared.faults.LedgerFault.TheVariants.{NoMemory, NoEvent, NoStage, NoRoom}
+use Rattle.cf_ledger.specs.Ledgers.{Does, Ledger, state_of}
 use Rattle.cf_request.specs.Ready.{HasLanes, Lanes, with_lane}
 use Rattle.cf_request.specs.Telling.{Teller, Tells, TellsEvent}
 use Rattle.cf_request.proofs.Telling.{next_is}

@@ -6,10 +6,10 @@ ghost use Rattle.cf_model.specs.Calls.{is_attach};
 ghost use Rattle.cf_model.specs.States.{is_ready, outcome_at, outcome_of, start};
 ghost use Rattle.cf_model.specs.Ranges.{EventFits};
 ghost use Rattle.cf_event.specs.Words.{IsEvent};
-ghost use Rattle.cf_ledger.specs.Ledgers.{LedgerRefuses, state_of};
+ghost use Rattle.cf_ledger.specs.Ledgers.{IsShort, LedgerRefuses, state_of};
 ghost use Rattle.cf_request.specs.Lanes.{IsLowestIn, NoneReadyIn, ready_below};
 ghost use Rattle.cf_request.specs.Ready.{AreFitBut, FitState, HasLanes, IsFit, IsLaneCount, none_ready, with_lane};
-ghost use Rattle.cf_request.specs.Telling.{AreFresh, AreSettled, AreSettledBelow, IsOnce, Tells, TellsEvent, is_settled_in, most_stages};
+ghost use Rattle.cf_request.specs.Telling.{AreFresh, AreSettled, AreSettledBelow, IsOnce, Tells, TellsEvent, is_settled_in, most_stages, with_memory};
 
 use crate::ready::ReadySets;
 use cf_event::encode;
@@ -86,6 +86,16 @@ impl Teller {
         })
     }
 
+    /// Finds memory for so many words. It fails only where there is no memory, and then changes nothing.
+    pub fn reserve(&mut self, words: usize) -> Result<(), AllocError>
+        ensures enough { OnOk result (words ≤ self.new.ledger.free) }
+        ensures found { OnOk result (self.new ≡ with_memory words self.old) }
+        ensures refused { OnErr result (self.new ≡ self.old) }
+        ensures short { OnErr result (self.old.ledger.free < words) }
+    {
+        self.ledger.reserve(words)
+    }
+
     /// Does a word as the ledger does; a stage that it attaches is this lane's. Told are then the stages that it settled,
     /// behind the others. It is refused as by the ledger, and leaves all as it was then.
     pub fn apply(&mut self, word: u64, lane: u8) -> Result<Reply, LedgerFault>
@@ -95,6 +105,7 @@ impl Teller {
             ≡ with_lane (length (state_of self.new.ledger).plan.stages) lane self.old.lanes) }
         ensures refused { OnErr result (self.new ≡ self.old) }
         ensures why { IfErr result (λ fault. LedgerRefuses (state_of self.old.ledger) word fault) }
+        ensures short { IfErr result (λ fault. IsShort self.old.ledger.free fault) }
     {
         let _known_before = self.ledger.stages();
         let reply = self.ledger.apply(word)?;
@@ -107,20 +118,19 @@ impl Teller {
         Ok(reply)
     }
 
-    /// Does an event that fits and attaches nothing, by its word. It fails only where there is no memory.
+    /// Does an event that fits and attaches nothing, by its word, where memory was found for one.
     #[tactic(auto, using(crate::proofs::Words::event_told))]
-    pub fn apply_event(&mut self, event: &Event) -> Result<Reply, AllocError>
+    pub fn apply_event(&mut self, event: &Event) -> Reply
         requires is { IsEvent event.now }
         requires fits { EventFits (length (state_of self.old.ledger).plan.stages) event.now }
         requires attaches { is_attach event.now ≡ false }
-        ensures done { IfOk result (λ reply. TellsEvent event.now self.old reply self.new) }
-        ensures refused { OnErr result (self.new ≡ self.old) }
+        requires memory { 0 < self.old.ledger.free }
+        ensures { TellsEvent event.now self.old result self.new }
     {
         // There is a lane 0, and a lane for each stage.
         let _known = self.lanes();
         match self.apply(encode(event), 0) {
-            Ok(reply) => Ok(reply),
-            Err(LedgerFault::NoMemory) => Err(AllocError),
+            Ok(reply) => reply,
             Err(_) => unreachable!(),
         }
     }
