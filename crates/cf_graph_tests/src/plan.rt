@@ -2,6 +2,7 @@
 //! crate that has tests is proved twice, with them and without.
 
 mod growing;
+mod many;
 mod naming;
 mod place;
 mod plans;

@@ -1,16 +1,14 @@
 //! Stages that are attached: what they take at once, and what they wait for.
-use crate::checks::{holds, same};
-use crate::graph::plans::{Row, SOURCE, plan_of};
-use crate::graph::steps::{Step, play_growing, play_in, with_room};
-use cf_core::{Graph, GraphFault};
+use crate::graph::plans::{NONE, Rows, SOURCE};
+use crate::graph::steps::{Case, Step, play};
 use cf_forms::{Answer, Args, Form, Of};
 use cf_model::{Attached, Claimed, Finished};
 use cf_outcome::{Cause, Outcome, Value};
-use cf_plan::Plan;
-use std::alloc::Global;
-use std::process::Abort;
 
-const TWO_SOURCES: [Row<'static>; 2] = [SOURCE, SOURCE];
+const TWO_SOURCES: Rows = Rows {
+    stages: &[SOURCE, SOURCE],
+    ..NONE
+};
 
 /// An anyOf of stages 1 and 0 is attached as stage 2.
 const ATTACHES_ANY_OF: Step = Step::Attach(Form::AnyOf, Of::Two(1, 0), None, Attached::At(2));
@@ -53,13 +51,6 @@ const EITHER_FAILS: [Step; 6] = [
     Step::Fault(2, Cause::Thrown(7), true),
 ];
 
-#[test]
-fn the_first_argument_that_is_there_decides(rt: HostRuntime) {
-    play_growing(&rt, rt.alloc(), &TWO_SOURCES, 1, &ANY_OF);
-    play_growing(&rt, rt.alloc(), &TWO_SOURCES, 1, &EITHER);
-    play_growing(&rt, rt.alloc(), &TWO_SOURCES, 1, &EITHER_FAILS);
-}
-
 const LATER: [Step; 6] = [
     ATTACHES_EITHER,
     Step::Turns(0),
@@ -68,11 +59,6 @@ const LATER: [Step; 6] = [
     Step::Granted(2, 6),
     Step::Outcome(2, None),
 ];
-
-#[test]
-fn the_first_that_settles_later_decides(rt: HostRuntime) {
-    play_growing(&rt, rt.alloc(), &TWO_SOURCES, 1, &LATER);
-}
 
 const COMBINE_WAITS: [Step; 5] = [
     Step::Complete(1, 2, true),
@@ -91,12 +77,6 @@ const COMBINE_IS_READY: [Step; 6] = [
     Step::Outcome(2, None),
 ];
 
-#[test]
-fn both_sources_are_waited_for(rt: HostRuntime) {
-    play_growing(&rt, rt.alloc(), &TWO_SOURCES, 1, &COMBINE_WAITS);
-    play_growing(&rt, rt.alloc(), &TWO_SOURCES, 1, &COMBINE_IS_READY);
-}
-
 const TAKEN_TWICE: [Step; 5] = [
     Step::Complete(0, 3, true),
     Step::Attach(Form::Combine, Of::Two(0, 0), Some(0), Attached::At(2)),
@@ -105,37 +85,44 @@ const TAKEN_TWICE: [Step; 5] = [
     Step::Outcome(2, None),
 ];
 
-#[test]
-fn one_source_is_taken_twice(rt: HostRuntime) {
-    play_growing(&rt, rt.alloc(), &TWO_SOURCES, 1, &TAKEN_TWICE);
-}
-
 const CALLED: Claimed = Claimed::Granted(Args::None);
 
 const NIL: Option<Outcome> = Some(Outcome::Value(Value::Nil));
 
-/// A form, a function, how many turns it takes to attach a stage of both and of no source, what a claim of it is answered, and
-/// its outcome.
-const STARTING: [(Form, Option<u16>, u64, Claimed, Option<Outcome>); 5] = [
-    (Form::Source, None, 0, Claimed::NotReady, None),
-    (Form::Supply, Some(0), 1, CALLED, None),
-    (Form::RunAsync, Some(0), 1, CALLED, None),
-    (Form::AllOf, None, 1, Claimed::Settled, NIL),
-    (Form::AnyOf, None, 0, Claimed::NotReady, None),
+const SOURCE_STARTS: [Step; 4] = [
+    Step::Attach(Form::Source, Of::None, None, Attached::At(2)),
+    Step::Turns(0),
+    Step::Claim(2, Claimed::NotReady),
+    Step::Outcome(2, None),
 ];
 
-#[test]
-fn stages_of_no_source_start(rt: HostRuntime) {
-    for (form, function, turns, claimed, outcome) in &STARTING {
-        let steps = [
-            Step::Attach(*form, Of::None, *function, Attached::At(2)),
-            Step::Turns(*turns),
-            Step::Claim(2, *claimed),
-            Step::Outcome(2, *outcome),
-        ];
-        play_growing(&rt, rt.alloc(), &TWO_SOURCES, 1, &steps);
-    }
-}
+const SUPPLY_STARTS: [Step; 4] = [
+    Step::Attach(Form::Supply, Of::None, Some(0), Attached::At(2)),
+    Step::Turns(1),
+    Step::Claim(2, CALLED),
+    Step::Outcome(2, None),
+];
+
+const RUN_ASYNC_STARTS: [Step; 4] = [
+    Step::Attach(Form::RunAsync, Of::None, Some(0), Attached::At(2)),
+    Step::Turns(1),
+    Step::Claim(2, CALLED),
+    Step::Outcome(2, None),
+];
+
+const ALL_OF_STARTS: [Step; 4] = [
+    Step::Attach(Form::AllOf, Of::None, None, Attached::At(2)),
+    Step::Turns(1),
+    Step::Claim(2, Claimed::Settled),
+    Step::Outcome(2, NIL),
+];
+
+const ANY_OF_STARTS: [Step; 4] = [
+    Step::Attach(Form::AnyOf, Of::None, None, Attached::At(2)),
+    Step::Turns(0),
+    Step::Claim(2, Claimed::NotReady),
+    Step::Outcome(2, None),
+];
 
 const FULL: [Step; 14] = [
     Step::Complete(0, 1, true),
@@ -154,11 +141,6 @@ const FULL: [Step; 14] = [
     Step::PlanStages(2),
 ];
 
-#[test]
-fn a_full_graph_attaches_no_more(rt: HostRuntime) {
-    play_growing(&rt, rt.alloc(), &TWO_SOURCES, 2, &FULL);
-}
-
 const TREATED_FIRST: [Step; 5] = [
     Step::Fail(0, 7, true),
     Step::Attach(Form::Apply, Of::One(1), Some(0), Attached::At(2)),
@@ -167,13 +149,10 @@ const TREATED_FIRST: [Step; 5] = [
     Step::Fault(2, Cause::Thrown(7), true),
 ];
 
-const SOURCE_AND_APPLY: [Row<'static>; 2] = [SOURCE, (Form::Apply, &[0], Some(0))];
-
-/// What waits is treated first: the source has failed, and the apply of it was not asked for yet.
-#[test]
-fn what_waits_is_treated_first(rt: HostRuntime) {
-    play_growing(&rt, rt.alloc(), &SOURCE_AND_APPLY, 1, &TREATED_FIRST);
-}
+const SOURCE_AND_APPLY: Rows = Rows {
+    stages: &[SOURCE, (Form::Apply, &[0], Some(0))],
+    ..NONE
+};
 
 /// A source is attached as stage 2.
 const ATTACHES_SOURCE: Step = Step::Attach(Form::Source, Of::None, None, Attached::At(2));
@@ -182,31 +161,23 @@ const ATTACHES_SOURCE: Step = Step::Attach(Form::Source, Of::None, None, Attache
 const ATTACHES_COMPOSE: Step = Step::Attach(Form::Compose, Of::One(0), Some(0), Attached::At(3));
 
 /// The compose answers with a lower stage, or with itself.
-const LINKED: [[Step; 6]; 2] = [
-    [
-        Step::Complete(0, 1, true),
-        ATTACHES_SOURCE,
-        ATTACHES_COMPOSE,
-        Step::Granted(3, 1),
-        Step::Finish(3, Answer::Link(1), Finished::Won),
-        Step::Outcome(3, None),
-    ],
-    [
-        Step::Complete(0, 1, true),
-        ATTACHES_SOURCE,
-        ATTACHES_COMPOSE,
-        Step::Granted(3, 1),
-        Step::Finish(3, Answer::Link(3), Finished::Won),
-        Step::Fault(3, Cause::BadAnswer, true),
-    ],
+const LINKED_LOWER: [Step; 6] = [
+    Step::Complete(0, 1, true),
+    ATTACHES_SOURCE,
+    ATTACHES_COMPOSE,
+    Step::Granted(3, 1),
+    Step::Finish(3, Answer::Link(1), Finished::Won),
+    Step::Outcome(3, None),
 ];
 
-#[test]
-fn an_attached_compose_links_lower(rt: HostRuntime) {
-    for steps in &LINKED {
-        play_growing(&rt, rt.alloc(), &TWO_SOURCES, 2, steps);
-    }
-}
+const LINKED_TO_ITSELF: [Step; 6] = [
+    Step::Complete(0, 1, true),
+    ATTACHES_SOURCE,
+    ATTACHES_COMPOSE,
+    Step::Granted(3, 1),
+    Step::Finish(3, Answer::Link(3), Finished::Won),
+    Step::Fault(3, Cause::BadAnswer, true),
+];
 
 const FOLLOWED: [Step; 7] = [
     Step::Complete(0, 1, true),
@@ -218,37 +189,6 @@ const FOLLOWED: [Step; 7] = [
     Step::Value(3, 8),
 ];
 
-#[test]
-fn a_link_to_an_attached_stage_is_followed(rt: HostRuntime) {
-    play_growing(&rt, rt.alloc(), &TWO_SOURCES, 2, &FOLLOWED);
-}
-
-/// The graph of two sources with room. Where its memory is refused, one of another plan succeeds.
-fn growing_again(rt: &impl Abort, alloc: Global, plan: Plan) -> Graph {
-    let has_place = plan.stages() <= 4080 && plan.edges() <= 16352;
-    holds(rt, has_place, "place");
-    match Graph::new_growing(alloc, plan, 2) {
-        Ok(graph) => graph,
-        Err(fault) => {
-            same(rt, fault, GraphFault::NoMemory);
-            with_room(rt, alloc, plan_of(rt, alloc, &TWO_SOURCES), 2)
-        }
-    }
-}
-
-const MADE_AGAIN: [Step; 3] = [
-    ATTACHES_EITHER,
-    Step::Complete(1, 3, true),
-    Step::Granted(2, 3),
-];
-
-#[test]
-fn a_refused_growing_graph_can_be_made_again(rt: HostRuntime) {
-    let plan = plan_of(&rt, rt.alloc(), &TWO_SOURCES);
-    let graph = growing_again(&rt, rt.alloc(), plan);
-    play_in(&rt, graph, &MADE_AGAIN);
-}
-
 const BY_EVENTS: [Step; 5] = [
     Step::Complete(1, 6, true),
     Step::AttachBy(3, Form::Apply, Of::One(1), Some(8), Attached::At(2)),
@@ -257,8 +197,123 @@ const BY_EVENTS: [Step; 5] = [
     Step::AttachBy(3, Form::Apply, Of::One(1), Some(8), Attached::StagesFull),
 ];
 
-/// What callers do as events has the same answers.
+const DECIDING: [Case; 11] = [
+    Case {
+        name: "an anyOf takes its first argument",
+        rows: &TWO_SOURCES,
+        room: Some(1),
+        steps: &[&ANY_OF],
+    },
+    Case {
+        name: "an either takes what is there",
+        rows: &TWO_SOURCES,
+        room: Some(1),
+        steps: &[&EITHER],
+    },
+    Case {
+        name: "an either takes its first argument",
+        rows: &TWO_SOURCES,
+        room: Some(1),
+        steps: &[&EITHER_FAILS],
+    },
+    Case {
+        name: "the first that settles later",
+        rows: &TWO_SOURCES,
+        room: Some(1),
+        steps: &[&LATER],
+    },
+    Case {
+        name: "both sources are waited for",
+        rows: &TWO_SOURCES,
+        room: Some(1),
+        steps: &[&COMBINE_WAITS],
+    },
+    Case {
+        name: "both sources are there",
+        rows: &TWO_SOURCES,
+        room: Some(1),
+        steps: &[&COMBINE_IS_READY],
+    },
+    Case {
+        name: "one source is taken twice",
+        rows: &TWO_SOURCES,
+        room: Some(1),
+        steps: &[&TAKEN_TWICE],
+    },
+    Case {
+        name: "what waits is treated first",
+        rows: &SOURCE_AND_APPLY,
+        room: Some(1),
+        steps: &[&TREATED_FIRST],
+    },
+    Case {
+        name: "a compose links lower",
+        rows: &TWO_SOURCES,
+        room: Some(2),
+        steps: &[&LINKED_LOWER],
+    },
+    Case {
+        name: "a compose links to itself",
+        rows: &TWO_SOURCES,
+        room: Some(2),
+        steps: &[&LINKED_TO_ITSELF],
+    },
+    Case {
+        name: "a link to an attached stage",
+        rows: &TWO_SOURCES,
+        room: Some(2),
+        steps: &[&FOLLOWED],
+    },
+];
+
+/// Stages of no source, a full graph, and what callers do as events, which has the same answers.
+const STARTING: [Case; 7] = [
+    Case {
+        name: "a source",
+        rows: &TWO_SOURCES,
+        room: Some(1),
+        steps: &[&SOURCE_STARTS],
+    },
+    Case {
+        name: "a supply",
+        rows: &TWO_SOURCES,
+        room: Some(1),
+        steps: &[&SUPPLY_STARTS],
+    },
+    Case {
+        name: "a runAsync",
+        rows: &TWO_SOURCES,
+        room: Some(1),
+        steps: &[&RUN_ASYNC_STARTS],
+    },
+    Case {
+        name: "an allOf",
+        rows: &TWO_SOURCES,
+        room: Some(1),
+        steps: &[&ALL_OF_STARTS],
+    },
+    Case {
+        name: "an anyOf",
+        rows: &TWO_SOURCES,
+        room: Some(1),
+        steps: &[&ANY_OF_STARTS],
+    },
+    Case {
+        name: "a full graph",
+        rows: &TWO_SOURCES,
+        room: Some(2),
+        steps: &[&FULL],
+    },
+    Case {
+        name: "events",
+        rows: &TWO_SOURCES,
+        room: Some(1),
+        steps: &[&BY_EVENTS],
+    },
+];
+
 #[test]
-fn an_event_attaches(rt: HostRuntime) {
-    play_growing(&rt, rt.alloc(), &TWO_SOURCES, 1, &BY_EVENTS);
+fn attached_stages_answer_so(rt: HostRuntime) {
+    play(&rt, rt.alloc(), &DECIDING);
+    play(&rt, rt.alloc(), &STARTING);
 }

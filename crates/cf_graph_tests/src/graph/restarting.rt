@@ -1,21 +1,13 @@
 //! Graphs that start again, beside new ones.
-use crate::graph::plans::{Row, SOURCE, limited, supplies};
-use crate::graph::steps::{Step, graph_in, play, take, with_room};
+use crate::checks::must;
+use crate::graph::plans::{NONE, Rows, SOURCE, plan_of};
+use crate::graph::steps::{Case, Step, graph_or_fault, play, take};
 use cf_core::Graph;
 use cf_forms::{Answer, Args, Form, Limit, LimitKind, Of};
 use cf_model::{Attached, Claimed, Finished, Ticked};
 use cf_outcome::Cause;
-use cf_plan::Plan;
 use std::alloc::Global;
 use std::process::Abort;
-
-const ROWS: [Row<'static>; 5] = [
-    SOURCE,
-    SOURCE,
-    (Form::Supply, &[], Some(0)),
-    (Form::Apply, &[0], Some(1)),
-    (Form::Compose, &[0], Some(2)),
-];
 
 const LIMITS: [Limit; 1] = [Limit {
     stage: 1,
@@ -24,9 +16,17 @@ const LIMITS: [Limit; 1] = [Limit {
 }];
 
 /// Two sources, a supply, an apply and a compose of the first source, and a limit on the second.
-fn opening(rt: &impl Abort, alloc: Global) -> Plan {
-    limited(rt, alloc, &ROWS, &LIMITS)
-}
+const ROWS: Rows = Rows {
+    stages: &[
+        SOURCE,
+        SOURCE,
+        (Form::Supply, &[], Some(0)),
+        (Form::Apply, &[0], Some(1)),
+        (Form::Compose, &[0], Some(2)),
+    ],
+    limits: &LIMITS,
+    ..NONE
+};
 
 /// A new graph answers so, up to an open claim of stage 3 and a link of stage 4 to stage 1.
 const NEW: [Step; 15] = [
@@ -66,14 +66,6 @@ const EXPIRES: [Step; 4] = [
     Step::Fault(4, Cause::TimedOut, true),
 ];
 
-/// The graph takes the steps of these parts.
-fn take_parts(rt: &impl Abort, mut graph: Graph, parts: &[&[Step]]) {
-    for steps in parts {
-        take(rt, &mut graph, steps);
-    }
-    drop(graph);
-}
-
 const RESTARTED: [&[Step]; 13] = [
     &NEW,
     &[Step::Restart],
@@ -90,12 +82,6 @@ const RESTARTED: [&[Step]; 13] = [
     &[Step::PlanStages(5)],
 ];
 
-#[test]
-fn a_restarted_graph_is_new(rt: HostRuntime) {
-    let plan = opening(&rt, rt.alloc());
-    take_parts(&rt, with_room(&rt, rt.alloc(), plan, 2), &RESTARTED);
-}
-
 /// The graph is full, and restarts.
 const FULL: [Step; 2] = [
     Step::Attach(Form::AllOf, Of::None, None, Attached::StagesFull),
@@ -104,26 +90,38 @@ const FULL: [Step; 2] = [
 
 const WITHOUT_ROOM: [&[Step]; 7] = [&NEW, &EXPIRES, &FULL, &NEW, &EXPIRES, &FULL, &NEW];
 
-#[test]
-fn a_graph_without_room_restarts(rt: HostRuntime) {
-    let plan = opening(&rt, rt.alloc());
-    take_parts(&rt, graph_in(&rt, rt.alloc(), plan), &WITHOUT_ROOM);
-}
-
 const EMPTY: [Step; 3] = [Step::Restart, Step::Stages(0), Step::LowestReady(None)];
 
+const CASES: [Case; 3] = [
+    Case {
+        name: "a graph with room",
+        rows: &ROWS,
+        room: Some(2),
+        steps: &RESTARTED,
+    },
+    Case {
+        name: "a graph without room",
+        rows: &ROWS,
+        room: None,
+        steps: &WITHOUT_ROOM,
+    },
+    Case {
+        name: "an empty graph",
+        rows: &NONE,
+        room: None,
+        steps: &[&EMPTY],
+    },
+];
+
 #[test]
-fn an_empty_graph_restarts(rt: HostRuntime) {
-    play(&rt, rt.alloc(), &[], &EMPTY);
+fn a_restarted_graph_is_new(rt: HostRuntime) {
+    play(&rt, rt.alloc(), &CASES);
 }
 
 /// Fills the room of a graph of 4,080 stages, which restarts, takes so many turns, and restarts twice more.
-fn restart_filled(rt: &impl Abort, graph: &mut Graph, taken: u32) {
-    for at in 4080..4096 {
-        let attach = Step::Attach(Form::Source, Of::None, None, Attached::At(at));
-        take(rt, graph, &[attach]);
-    }
+fn restart_filled(rt: &impl Abort, alloc: Global, graph: &mut Graph, taken: u32) {
     let steps = [
+        Step::AttachesSources(4080, 4096),
         Step::Stages(4096),
         Step::Restart,
         Step::Stages(4080),
@@ -135,15 +133,21 @@ fn restart_filled(rt: &impl Abort, graph: &mut Graph, taken: u32) {
         Step::LowestReady(Some(0)),
         Step::Restart,
     ];
-    take(rt, graph, &steps);
+    take(rt, alloc, graph, "filled", &[&steps]);
 }
+
+const SUPPLIES: Rows = Rows {
+    alike: &[(4080, (Form::Supply, &[], Some(0)))],
+    ..NONE
+};
 
 /// Marks and ready stages are left over, in all words of their sets.
 #[test]
 fn the_greatest_graph_restarts(rt: HostRuntime) {
-    let mut graph = with_room(&rt, rt.alloc(), supplies(&rt, rt.alloc(), 4080), 16);
+    let plan = plan_of(&rt, rt.alloc(), &SUPPLIES);
+    let mut graph = must(&rt, graph_or_fault(&rt, rt.alloc(), plan, Some(16)));
     for taken in [2000, 4080, 0, 4080] {
-        restart_filled(&rt, &mut graph, taken);
+        restart_filled(&rt, rt.alloc(), &mut graph, taken);
     }
     drop(graph);
 }

@@ -1,9 +1,11 @@
 //! What is done to a graph and asked of it, as rows: a call, and what it is answered.
 
 use crate::checks::{holds, must};
-use crate::graph::plans::{Row, plan_of};
-use cf_core::Graph;
-use cf_forms::{Answer, Args, Form, Of, fits_form};
+use crate::functions::Always;
+use crate::graph::noting::notes;
+use crate::graph::plans::{Rows, plan_of};
+use cf_core::{Graph, GraphFault};
+use cf_forms::{Answer, Args, Each, Form, Of, fits_form};
 use cf_model::{Attached, Claimed, Event, Failure, Finished, Reply, Ticked};
 use cf_outcome::{Cause, Now, Outcome, Value};
 use cf_plan::Plan;
@@ -43,6 +45,16 @@ pub(crate) enum Step {
     PlanStages(u16),
     Has(u16, bool),
     Function(u16, Option<u16>),
+    /// Each of so many stages is the lowest ready one in turn, and its claim is granted.
+    ClaimsEach(u16),
+    /// Sources are attached as the stages from the first number up to below the second.
+    AttachesSources(u16, u16),
+    /// The stage behind so many sources isn't settled before the last of them is completed.
+    WaitsFor(u16),
+    /// Work for a caller with these functions calls so many.
+    Works(&'static [Always], u8, u32),
+    /// Work calls these functions with these arguments, and work after it none.
+    Notes(&'static [(u16, Args)]),
 }
 
 /// What the attaching of a stage is answered, where it fits its form and its sources are there.
@@ -89,8 +101,48 @@ fn granted(n: i32) -> Claimed {
     Claimed::Granted(Args::One(Value::Int(n)))
 }
 
+/// Whether each of so many stages is the lowest ready one in turn, and its claim is granted.
+fn claims_each(graph: &mut Graph, count: u16) -> bool {
+    for i in 0..count {
+        if graph.lowest_ready() != Some(i) || !is_claimed(graph, i) {
+            return false;
+        }
+    }
+    true
+}
+
+/// Whether a claim of a stage without arguments is granted.
+fn is_claimed(graph: &mut Graph, i: u16) -> bool {
+    graph.has(i) && graph.claim(0, i) == Claimed::Granted(Args::None)
+}
+
+/// Whether sources are attached as the stages from this first one up to below the end.
+fn attaches_sources(graph: &mut Graph, first: u16, end: u16) -> bool {
+    for i in first..end {
+        if attached(graph, Form::Source, Of::None, None) != Some(Attached::At(i)) {
+            return false;
+        }
+    }
+    true
+}
+
+/// Whether the stage behind so many sources isn't settled before the last of them is completed.
+fn waits_for(graph: &mut Graph, sources: u16) -> bool {
+    for i in 0..sources {
+        if !graph.has(sources) || graph.outcome(sources).is_some() || !is_completed(graph, i) {
+            return false;
+        }
+    }
+    true
+}
+
+/// Whether a stage is completed.
+fn is_completed(graph: &mut Graph, i: u16) -> bool {
+    graph.has(i) && graph.complete(i, Value::Int(1))
+}
+
 /// Whether a step is answered so.
-fn is_answered(graph: &mut Graph, step: Step) -> bool {
+fn is_answered(alloc: Global, graph: &mut Graph, step: Step) -> bool {
     match step {
         Step::Complete(i, v, answer) => graph.has(i) && graph.complete(i, Value::Int(v)) == answer,
         Step::Fail(i, code, answer) => graph.has(i) && graph.fail(i, code) == answer,
@@ -124,57 +176,74 @@ fn is_answered(graph: &mut Graph, step: Step) -> bool {
         Step::PlanStages(answer) => graph.plan().stages() == answer,
         Step::Has(i, answer) => graph.has(i) == answer,
         Step::Function(i, answer) => graph.has(i) && graph.function(i) == answer,
+        Step::ClaimsEach(count) => claims_each(graph, count),
+        Step::AttachesSources(first, end) => attaches_sources(graph, first, end),
+        Step::WaitsFor(sources) => waits_for(graph, sources),
+        Step::Works(functions, who, calls) => graph.work(who, &mut Each { functions }) == calls,
+        Step::Notes(calls) => notes(alloc, graph, calls),
     }
 }
 
-/// The graph takes these steps, and each is answered as it says.
-pub(crate) fn take(rt: &impl Abort, graph: &mut Graph, steps: &[Step]) {
-    for (at, step) in steps.iter().enumerate() {
-        holds(rt, is_answered(graph, *step), ("step", at));
+/// The graph takes the steps of these parts, and each is answered as it says.
+pub(crate) fn take(
+    rt: &impl Abort,
+    alloc: Global,
+    graph: &mut Graph,
+    name: &'static str,
+    parts: &[&[Step]],
+) {
+    for (part, steps) in parts.iter().enumerate() {
+        for (at, step) in steps.iter().enumerate() {
+            holds(rt, is_answered(alloc, graph, *step), (name, part, at));
+        }
     }
 }
 
-/// The graph takes these steps, and is let go.
-pub(crate) fn play_in(rt: &impl Abort, mut graph: Graph, steps: &[Step]) {
-    take(rt, &mut graph, steps);
+/// The graph of a plan takes these steps, and is let go.
+pub(crate) fn play_on(
+    rt: &impl Abort,
+    alloc: Global,
+    plan: Plan,
+    name: &'static str,
+    steps: &[Step],
+) {
+    let mut graph = must(rt, Graph::new(alloc, plan));
+    take(rt, alloc, &mut graph, name, &[steps]);
     drop(graph);
 }
 
-/// The graph of a plan.
-pub(crate) fn graph_in(rt: &impl Abort, alloc: Global, plan: Plan) -> Graph {
-    must(rt, Graph::new(alloc, plan))
+/// A graph, by its stages and the room for more of them, and the parts of what it does.
+#[derive(Clone, Copy)]
+pub(crate) struct Case {
+    pub(crate) name: &'static str,
+    pub(crate) rows: &'static Rows,
+    pub(crate) room: Option<u16>,
+    pub(crate) steps: &'static [&'static [Step]],
 }
 
-/// The graph of these stages.
-pub(crate) fn graph_of(rt: &impl Abort, alloc: Global, rows: &[Row<'_>]) -> Graph {
-    graph_in(rt, alloc, plan_of(rt, alloc, rows))
-}
-
-/// The graph of these stages takes these steps.
-pub(crate) fn play(rt: &impl Abort, alloc: Global, rows: &[Row<'_>], steps: &[Step]) {
-    play_in(rt, graph_of(rt, alloc, rows), steps);
-}
-
-/// The graph of a plan takes these steps.
-pub(crate) fn play_on(rt: &impl Abort, alloc: Global, plan: Plan, steps: &[Step]) {
-    play_in(rt, graph_in(rt, alloc, plan), steps);
-}
-
-/// The graph of a plan, with room for so many stages.
-pub(crate) fn with_room(rt: &impl Abort, alloc: Global, plan: Plan, room: u16) -> Graph {
-    let has_place = room <= 16 && plan.stages() <= 4080 && plan.edges() <= 16352;
-    holds(rt, has_place, room);
-    must(rt, Graph::new_growing(alloc, plan, room))
-}
-
-/// The graph of these stages, with room for so many more, takes these steps.
-pub(crate) fn play_growing(
+/// The graph of a plan with so much room, or why there is none.
+pub(crate) fn graph_or_fault(
     rt: &impl Abort,
     alloc: Global,
-    rows: &[Row<'_>],
-    room: u16,
-    steps: &[Step],
-) {
-    let plan = plan_of(rt, alloc, rows);
-    play_in(rt, with_room(rt, alloc, plan, room), steps);
+    plan: Plan,
+    room: Option<u16>,
+) -> Result<Graph, GraphFault> {
+    match room {
+        None => Graph::new(alloc, plan),
+        Some(room) => {
+            let has_place = room <= 16 && plan.stages() <= 4080 && plan.edges() <= 16352;
+            holds(rt, has_place, room);
+            Graph::new_growing(alloc, plan, room)
+        }
+    }
+}
+
+/// The graph of each case takes its steps.
+pub(crate) fn play(rt: &impl Abort, alloc: Global, cases: &[Case]) {
+    for case in cases {
+        let plan = plan_of(rt, alloc, case.rows);
+        let mut graph = must(rt, graph_or_fault(rt, alloc, plan, case.room));
+        take(rt, alloc, &mut graph, case.name, case.steps);
+        drop(graph);
+    }
 }

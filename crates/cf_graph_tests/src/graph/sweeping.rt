@@ -1,11 +1,10 @@
 //! A sweep that stops at each function: where it stops, and what the graph is then.
-use crate::checks::holds;
-use crate::graph::plans::{Row, SOURCE};
-use crate::graph::steps::{Step, graph_of, play_in, take};
-use cf_core::{Stop, Sweep};
+use crate::checks::{holds, must};
+use crate::graph::plans::{NONE, Rows, SOURCE, plan_of};
+use crate::graph::steps::{Step, take};
+use cf_core::{Graph, Stop, Sweep};
 use cf_forms::{Answer, Args, Form};
 use cf_outcome::{Cause, Value};
-use std::process::Abort;
 
 /// Whether a sweep stops at these places, one after another, and at none behind them, where each function answers so.
 fn stops(sweep: &mut Sweep, all: &[(u16, u16, i32, Answer)]) -> bool {
@@ -26,21 +25,18 @@ fn stops(sweep: &mut Sweep, all: &[(u16, u16, i32, Answer)]) -> bool {
     sweep.stands().is_none() && sweep.next().is_none()
 }
 
-/// The graph that a sweep gives back takes these steps.
-fn ends(rt: &impl Abort, sweep: Sweep, steps: &[Step]) {
-    holds(rt, sweep.is_over(), "over");
-    play_in(rt, sweep.end(), steps);
-}
-
 /// Three applies and a compose behind a source, each ready in turn, and a source that is never settled.
-const ROWS: [Row<'static>; 6] = [
-    SOURCE,
-    (Form::Apply, &[0], Some(7)),
-    (Form::Apply, &[0], Some(5)),
-    (Form::Compose, &[1], Some(3)),
-    (Form::Apply, &[3], Some(4)),
-    SOURCE,
-];
+const ROWS: Rows = Rows {
+    stages: &[
+        SOURCE,
+        (Form::Apply, &[0], Some(7)),
+        (Form::Apply, &[0], Some(5)),
+        (Form::Compose, &[1], Some(3)),
+        (Form::Apply, &[3], Some(4)),
+        SOURCE,
+    ],
+    ..NONE
+};
 
 /// A stage at which a sweep stops, its function, that one's number, and its answer.
 const STOPS: [(u16, u16, i32, Answer); 4] = [
@@ -59,25 +55,31 @@ const SWEPT: [Step; 6] = [
     Step::Outcome(5, None),
 ];
 
-#[test]
-fn stops_at_each_function(rt: HostRuntime) {
-    let mut graph = graph_of(&rt, rt.alloc(), &ROWS);
-    take(&rt, &mut graph, &[Step::Complete(0, 2, true)]);
-    let mut sweep = Sweep::begin(graph);
-    holds(&rt, stops(&mut sweep, &STOPS), "stops");
-    ends(&rt, sweep, &SWEPT);
-}
-
 const NOT_SWEPT: [Step; 3] = [
     Step::Complete(0, 2, true),
     Step::LowestReady(Some(1)),
     Step::Outcome(1, None),
 ];
 
+/// What is done before a sweep, where it stops, and what its graph is like then.
+const SWEEPS: [(&[Step], &[(u16, u16, i32, Answer)], &[Step]); 2] = [
+    (&[Step::Complete(0, 2, true)], &STOPS, &SWEPT),
+    // Nothing is ready.
+    (&[], &[], &NOT_SWEPT),
+];
+
 #[test]
-fn stops_nowhere_where_nothing_is_ready(rt: HostRuntime) {
-    let mut sweep = Sweep::begin(graph_of(&rt, rt.alloc(), &ROWS[..2]));
-    holds(&rt, !sweep.is_over(), "begun");
-    holds(&rt, stops(&mut sweep, &[]), "stops");
-    ends(&rt, sweep, &NOT_SWEPT);
+fn a_sweep_stops_at_each_function(rt: HostRuntime) {
+    for (before, all, after) in &SWEEPS {
+        let plan = plan_of(&rt, rt.alloc(), &ROWS);
+        let mut graph = must(&rt, Graph::new(rt.alloc(), plan));
+        take(&rt, rt.alloc(), &mut graph, "before", &[before]);
+        let mut sweep = Sweep::begin(graph);
+        let begins = !sweep.is_over();
+        let stops = stops(&mut sweep, all);
+        holds(&rt, begins && stops && sweep.is_over(), "stops");
+        let mut graph = sweep.end();
+        take(&rt, rt.alloc(), &mut graph, "after", &[after]);
+        drop(graph);
+    }
 }

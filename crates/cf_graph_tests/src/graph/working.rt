@@ -1,10 +1,10 @@
-//! Work: chains, links and faults, and how many functions are called.
-use crate::checks::same;
+//! Work: chains, links and faults, how many functions are called, with what, and in which order.
+use crate::checks::{holds, must};
 use crate::functions::Always;
-use crate::graph::plans::{Row, SOURCE, longest_chain};
-use crate::graph::steps::{Step, graph_in, graph_of, take};
+use crate::graph::plans::{NONE, Rows, SOURCE, plan_of};
+use crate::graph::steps::{Case, Step, play, take};
 use cf_core::Graph;
-use cf_forms::{Answer, Each, Form};
+use cf_forms::{Answer, Args, Closure, Form};
 use cf_model::{Claimed, Finished};
 use cf_outcome::{Cause, Outcome, Value};
 use std::alloc::Global;
@@ -23,88 +23,62 @@ const FUNCTIONS: [Always; 3] = [
     },
 ];
 
-/// What is done to a graph in turn.
-#[derive(Clone, Copy)]
-enum Turn {
-    Takes(Step),
-    /// Work for a caller calls so many functions.
-    Works(u8, u32),
-}
+/// A function that gives 4.
+const FOURS: [Always; 1] = [Always {
+    answer: Answer::Give(Value::Int(4)),
+}];
 
-/// The graph takes these turns, with these functions.
-fn take_turns(rt: &impl Abort, graph: &mut Graph, functions: &[Always], turns: &[Turn]) {
-    for turn in turns {
-        match *turn {
-            Turn::Takes(step) => take(rt, graph, &[step]),
-            Turn::Works(who, calls) => {
-                same(rt, graph.work(who, &mut Each { functions }), calls);
-            }
-        }
-    }
-}
-
-/// The graph of these stages takes these turns, with these functions.
-fn works(rt: &impl Abort, alloc: Global, rows: &[Row<'_>], functions: &[Always], turns: &[Turn]) {
-    let mut graph = graph_of(rt, alloc, rows);
-    take_turns(rt, &mut graph, functions, turns);
-    drop(graph);
-}
-
-const DOWN: [Turn; 8] = [
+const DOWN: [Step; 8] = [
     // Nothing is ready.
-    Turn::Works(63, 0),
-    Turn::Takes(Step::Complete(0, 3, true)),
-    Turn::Works(63, 3),
-    Turn::Takes(Step::Value(1, 4)),
-    Turn::Takes(Step::Value(3, 6)),
-    Turn::Takes(Step::Turns(3)),
+    Step::Works(&FUNCTIONS, 63, 0),
+    Step::Complete(0, 3, true),
+    Step::Works(&FUNCTIONS, 63, 3),
+    Step::Value(1, 4),
+    Step::Value(3, 6),
+    Step::Turns(3),
     // Each was called once.
-    Turn::Works(63, 0),
-    Turn::Takes(Step::Claim(3, Claimed::Settled)),
+    Step::Works(&FUNCTIONS, 63, 0),
+    Step::Claim(3, Claimed::Settled),
 ];
 
-const CHAIN: [Row<'static>; 4] = [
-    SOURCE,
-    (Form::Apply, &[0], Some(0)),
-    (Form::Apply, &[1], Some(1)),
-    (Form::Apply, &[2], Some(2)),
-];
-
-#[test]
-fn works_down_a_chain(rt: HostRuntime) {
-    works(&rt, rt.alloc(), &CHAIN, &FUNCTIONS, &DOWN);
-}
+const CHAIN: Rows = Rows {
+    stages: &[
+        SOURCE,
+        (Form::Apply, &[0], Some(0)),
+        (Form::Apply, &[1], Some(1)),
+        (Form::Apply, &[2], Some(2)),
+    ],
+    ..NONE
+};
 
 const LINKS: [Always; 1] = [Always {
     answer: Answer::Link(1),
 }];
 
-const THROUGH_LINKS: [Turn; 9] = [
-    Turn::Takes(Step::Complete(0, 3, true)),
-    Turn::Works(0, 1),
+const THROUGH_LINKS: [Step; 9] = [
+    Step::Complete(0, 3, true),
+    Step::Works(&LINKS, 0, 1),
     // It is linked.
-    Turn::Takes(Step::Outcome(2, None)),
-    Turn::Takes(Step::Claim(2, Claimed::Taken)),
+    Step::Outcome(2, None),
+    Step::Claim(2, Claimed::Taken),
     // No claim is left open.
-    Turn::Takes(Step::Finish(2, Answer::Give(Value::Nil), Finished::NotYours)),
-    Turn::Takes(Step::Complete(1, 4, true)),
-    Turn::Takes(Step::Value(2, 4)),
-    Turn::Works(0, 1),
+    Step::Finish(2, Answer::Give(Value::Nil), Finished::NotYours),
+    Step::Complete(1, 4, true),
+    Step::Value(2, 4),
+    Step::Works(&LINKS, 0, 1),
     // Its target is settled.
-    Turn::Takes(Step::Value(3, 4)),
+    Step::Value(3, 4),
 ];
 
-const COMPOSED: [Row<'static>; 4] = [
-    SOURCE,
-    SOURCE,
-    (Form::Compose, &[0], Some(0)),
-    (Form::Compose, &[2], Some(0)),
-];
-
-#[test]
-fn works_through_links(rt: HostRuntime) {
-    works(&rt, rt.alloc(), &COMPOSED, &LINKS, &THROUGH_LINKS);
-}
+const COMPOSED: Rows = Rows {
+    stages: &[
+        SOURCE,
+        SOURCE,
+        (Form::Compose, &[0], Some(0)),
+        (Form::Compose, &[2], Some(0)),
+    ],
+    ..NONE
+};
 
 const THROWS: [Always; 2] = [
     Always {
@@ -115,78 +89,225 @@ const THROWS: [Always; 2] = [
     },
 ];
 
-const FAILED: [Turn; 4] = [
+const FAILED: [Step; 4] = [
     // No function after a fault.
-    Turn::Works(1, 2),
-    Turn::Takes(Step::Fault(0, Cause::Thrown(7), true)),
-    Turn::Takes(Step::Fault(1, Cause::Thrown(7), true)),
+    Step::Works(&THROWS, 1, 2),
+    Step::Fault(0, Cause::Thrown(7), true),
+    Step::Fault(1, Cause::Thrown(7), true),
     // There is no function 2.
-    Turn::Takes(Step::Outcome(2, Some(Outcome::Value(Value::Nil)))),
+    Step::Outcome(2, Some(Outcome::Value(Value::Nil))),
 ];
 
-const SUPPLIES: [Row<'static>; 3] = [
-    (Form::Supply, &[], Some(0)),
-    (Form::Apply, &[0], Some(1)),
-    (Form::Supply, &[], Some(2)),
+const SUPPLIES: Rows = Rows {
+    stages: &[
+        (Form::Supply, &[], Some(0)),
+        (Form::Apply, &[0], Some(1)),
+        (Form::Supply, &[], Some(2)),
+    ],
+    ..NONE
+};
+
+const PAST: [Step; 8] = [
+    Step::Complete(0, 3, true),
+    Step::Granted(1, 3),
+    Step::Works(&FOURS, 1, 1),
+    Step::Outcome(1, None),
+    Step::Value(2, 4),
+    Step::Finish(1, Answer::Give(Value::Int(9)), Finished::Won),
+    Step::Works(&FOURS, 1, 1),
+    Step::Value(3, 4),
+];
+
+const APPLIES: Rows = Rows {
+    stages: &[
+        SOURCE,
+        (Form::Apply, &[0], Some(0)),
+        (Form::Apply, &[0], Some(0)),
+        (Form::Apply, &[1], Some(0)),
+    ],
+    ..NONE
+};
+
+const FEW: [Step; 7] = [
+    Step::Complete(199, 3, true),
+    Step::Works(&FOURS, 0, 2),
+    Step::Value(201, 4),
+    Step::Complete(0, 3, true),
+    Step::Works(&FOURS, 0, 1),
+    Step::Value(1, 4),
+    Step::Outcome(2, None),
+];
+
+/// 256 sources, but for three applies.
+const MANY: Rows = Rows {
+    alike: &[
+        (1, SOURCE),
+        (1, (Form::Apply, &[0], Some(0))),
+        (198, SOURCE),
+        (1, (Form::Apply, &[199], Some(0))),
+        (1, (Form::Apply, &[200], Some(0))),
+        (54, SOURCE),
+    ],
+    ..NONE
+};
+
+/// Functions with numbers of their own.
+const NUMBERED: Rows = Rows {
+    stages: &[
+        SOURCE,
+        (Form::Apply, &[0], Some(7)),
+        (Form::Combine, &[0, 1], Some(5)),
+        (Form::ThenRun, &[2], Some(7)),
+        SOURCE,
+        (Form::Apply, &[4], Some(9)),
+    ],
+    ..NONE
+};
+
+/// What is called once stage 0 is there.
+const CALLS: [(u16, Args); 3] = [
+    (7, Args::One(Value::Int(3))),
+    (5, Args::Two(Value::Int(3), Value::Int(1))),
+    (7, Args::None),
+];
+
+/// In a sweep, or the first by the marks and the others in a sweep.
+const SWEPT: [Step; 2] = [Step::Complete(0, 3, true), Step::Notes(&CALLS)];
+
+const MARKED: [Step; 3] = [
+    Step::Complete(0, 3, true),
+    Step::Nudge(9, 2),
+    Step::Notes(&CALLS),
+];
+
+/// No function is called that another has claimed.
+const CLAIMED: [Step; 4] = [
+    Step::Complete(0, 3, true),
+    Step::Complete(4, 8, true),
+    Step::Granted(1, 3),
+    Step::Notes(&[(9, Args::One(Value::Int(8)))]),
+];
+
+/// 256 sources, but for two applies with numbers of their own.
+const MANY_NUMBERED: Rows = Rows {
+    alike: &[
+        (200, SOURCE),
+        (1, (Form::Apply, &[199], Some(7))),
+        (1, (Form::Apply, &[200], Some(5))),
+        (54, SOURCE),
+    ],
+    ..NONE
+};
+
+/// What is called of a few stages of many.
+const FEW_CALLED: [Step; 2] = [
+    Step::Complete(199, 3, true),
+    Step::Notes(&[(7, Args::One(Value::Int(3))), (5, Args::One(Value::Int(1)))]),
+];
+
+const CASES: [Case; 9] = [
+    Case {
+        name: "down a chain",
+        rows: &CHAIN,
+        room: None,
+        steps: &[&DOWN],
+    },
+    Case {
+        name: "through links",
+        rows: &COMPOSED,
+        room: None,
+        steps: &[&THROUGH_LINKS],
+    },
+    Case {
+        name: "what fails",
+        rows: &SUPPLIES,
+        room: None,
+        steps: &[&FAILED],
+    },
+    Case {
+        name: "past what others claimed",
+        rows: &APPLIES,
+        room: None,
+        steps: &[&PAST],
+    },
+    Case {
+        name: "a few of many",
+        rows: &MANY,
+        room: None,
+        steps: &[&FEW],
+    },
+    Case {
+        name: "each function once, in a sweep",
+        rows: &NUMBERED,
+        room: None,
+        steps: &[&SWEPT],
+    },
+    Case {
+        name: "each function once, by the marks",
+        rows: &NUMBERED,
+        room: None,
+        steps: &[&MARKED],
+    },
+    Case {
+        name: "no function that another has claimed",
+        rows: &NUMBERED,
+        room: None,
+        steps: &[&CLAIMED],
+    },
+    Case {
+        name: "a few functions of many",
+        rows: &MANY_NUMBERED,
+        room: None,
+        steps: &[&FEW_CALLED],
+    },
 ];
 
 #[test]
-fn works_on_what_fails(rt: HostRuntime) {
-    works(&rt, rt.alloc(), &SUPPLIES, &THROWS, &FAILED);
+fn work_calls_what_is_ready(rt: HostRuntime) {
+    play(&rt, rt.alloc(), &CASES);
 }
 
-const ALL: [Turn; 3] = [
-    Turn::Takes(Step::Complete(0, 3, true)),
-    Turn::Works(63, 4095),
-    Turn::Takes(Step::Value(4095, 4)),
+/// A closure counts its calls, and keeps which function was called last.
+#[test]
+fn a_closure_remembers_its_calls(rt: HostRuntime) {
+    let mut count = 0i32;
+    let mut last = 0u16;
+    let call = must(
+        &rt,
+        Box::new(rt.alloc(), move |number: u16, _args: Args| {
+            let before = i32::from(last);
+            last = number;
+            count = count.wrapping_add(1);
+            Answer::Give(Value::Int(count.wrapping_mul(10).wrapping_add(before)))
+        }),
+    );
+    let mut closure = Closure::new(call);
+    remembers(&rt, rt.alloc(), &mut closure);
+}
+
+const COMPLETED: [Step; 1] = [Step::Complete(0, 3, true)];
+
+const WORKED: [Step; 3] = [
+    Step::Value(1, 10),
+    Step::Value(2, 27),
+    // The stage of a `ThenRun` gives nil.
+    Step::Complete(4, 8, true),
 ];
 
-#[test]
-fn works_on_the_most_stages(rt: HostRuntime) {
-    let plan = longest_chain(&rt, rt.alloc());
-    let mut graph = graph_in(&rt, rt.alloc(), plan);
-    take_turns(&rt, &mut graph, &FUNCTIONS[..1], &ALL);
+const WORKED_AGAIN: [Step; 1] = [Step::Value(5, 47)];
+
+/// The closure is called three times, and once more when stage 4 is there.
+fn works_twice(rt: &impl Abort, alloc: Global, graph: &mut Graph, closure: &mut Closure) {
+    take(rt, alloc, graph, "completed", &[&COMPLETED]);
+    let first = graph.work(0, closure);
+    take(rt, alloc, graph, "worked", &[&WORKED]);
+    let second = graph.work(0, closure);
+    take(rt, alloc, graph, "worked again", &[&WORKED_AGAIN]);
+    holds(rt, first == 3 && second == 1, (first, second));
+}
+
+fn remembers(rt: &impl Abort, alloc: Global, closure: &mut Closure) {
+    let mut graph = must(rt, Graph::new(alloc, plan_of(rt, alloc, &NUMBERED)));
+    works_twice(rt, alloc, &mut graph, closure);
     drop(graph);
-}
-
-const PAST: [Turn; 8] = [
-    Turn::Takes(Step::Complete(0, 3, true)),
-    Turn::Takes(Step::Granted(1, 3)),
-    Turn::Works(1, 1),
-    Turn::Takes(Step::Outcome(1, None)),
-    Turn::Takes(Step::Value(2, 4)),
-    Turn::Takes(Step::Finish(1, Answer::Give(Value::Int(9)), Finished::Won)),
-    Turn::Works(1, 1),
-    Turn::Takes(Step::Value(3, 4)),
-];
-
-const APPLIES: [Row<'static>; 4] = [
-    SOURCE,
-    (Form::Apply, &[0], Some(0)),
-    (Form::Apply, &[0], Some(0)),
-    (Form::Apply, &[1], Some(0)),
-];
-
-#[test]
-fn works_past_what_others_claimed(rt: HostRuntime) {
-    works(&rt, rt.alloc(), &APPLIES, &FUNCTIONS[..1], &PAST);
-}
-
-const FEW: [Turn; 7] = [
-    Turn::Takes(Step::Complete(199, 3, true)),
-    Turn::Works(0, 2),
-    Turn::Takes(Step::Value(201, 4)),
-    Turn::Takes(Step::Complete(0, 3, true)),
-    Turn::Works(0, 1),
-    Turn::Takes(Step::Value(1, 4)),
-    Turn::Takes(Step::Outcome(2, None)),
-];
-
-#[test]
-fn works_on_a_few_of_many(rt: HostRuntime) {
-    let mut rows = [SOURCE; 256];
-    rows[1] = (Form::Apply, &[0], Some(0));
-    rows[200] = (Form::Apply, &[199], Some(0));
-    rows[201] = (Form::Apply, &[200], Some(0));
-    works(&rt, rt.alloc(), &rows, &FUNCTIONS[..1], &FEW);
 }
