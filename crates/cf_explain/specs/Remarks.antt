@@ -18,9 +18,8 @@ use Rattle.cf_explain.specs.Sights.{idles}
 
 -- a remark of how a script is written, and of none of its steps and limits
 abbrev pub IsOfWriting : Remark → Type 0
-IsOfWriting (remarks.Behind place other) = ⊥
-IsOfWriting (remarks.Idle place why) = ⊥
-IsOfWriting remark = Unit {0}
+IsOfWriting (remarks.Writing oddity) = Unit {0}
+IsOfWriting remark = ⊥
 
 -- why a step never does anything, if it is there
 abbrev pub IsOfThat : Option Step → Idle → Type 0

@@ -1,23 +1,22 @@
 //! The explanation of a script.
-ghost use Rattle.std.specs.Prelude.{◌≡◌, [], All, IfOk, OnOk};
+ghost use Rattle.std.specs.Prelude.{◌≡◌, [], IfOk};
 ghost use Rattle.serde_json.specs.View.{view};
 ghost use Rattle.cf_script_reading.specs.Reading.{json_of, reading, script_said};
-ghost use Rattle.cf_explain.specs.Remarks.{AreRemarked, AreRemarks, AreRemarksOn, IsOfWriting};
+ghost use Rattle.cf_explain.specs.Remarks.{AreRemarked, AreRemarks, AreRemarksOn};
+ghost use Rattle.cf_explain.specs.Places.{area_of};
 ghost use Rattle.cf_explain.specs.Verdicts.{ExplainTells, refused_for};
 
 use crate::behind::remark_behind;
 use crate::idle::idle_steps;
 use crate::place::{Place, area_of};
-use crate::reason::Reason;
-use crate::refusing::{Finding, found};
+use crate::reason::{Reason, Why};
+use crate::refusing::{Finding, Wrong, found};
 use crate::remark::Remark;
-use crate::twice::remark_twice;
-use crate::unread::remark_unread;
 use crate::verdict::{Explanation, Refusal};
+use crate::written::remarks_on_writing;
 use cf_script_reading::{MAX_BYTES, ReadingFault, Script, script_of};
 use serde_json::Value as Json;
 use std::alloc::{AllocError, Global};
-use std::str;
 
 /// Explains the script that the bytes ought to be: what is wrong with it, and what is odd about it.
 ///
@@ -44,6 +43,7 @@ fn unread(alloc: Global, fault: ReadingFault, why: Reason) -> Explanation
     ensures remarks { result.remarks.items ≡ [] }
 {
     let place = Place::of(area_of(fault));
+    let why = Why::Told(why);
     let refusal = Refusal { fault, place, why };
     Explanation {
         refusal: Some(refusal),
@@ -57,22 +57,51 @@ fn explain_json(alloc: Global, bytes: &[u8], json: &Json) -> Result<Explanation,
     ensures remarks { IfOk result (λ e. AreRemarksOn (view json.now) e.remarks.items) }
 {
     match script_of(alloc, json) {
-        Ok(script) => Ok(Explanation {
-            refusal: None,
-            remarks: remarks_of(alloc, bytes, json, script)?,
-        }),
+        Ok(script) => {
+            let remarks = remarks_of(alloc, bytes, json, script)?;
+            Ok(Explanation {
+                refusal: None,
+                remarks,
+            })
+        }
         Err(ReadingFault::NoMemory) => Err(AllocError),
         Err(fault) => {
-            let place = Place::of(area_of(fault));
-            let (place, why) = match found(alloc, fault, place, json)? {
-                Some(Finding { place, why }) => (place, why),
-                None => (place, Reason::Unsaid),
-            };
-            let mut remarks = Vec::new(alloc);
-            remark_written(alloc, bytes, json, &mut remarks)?;
+            let Finding { place, why } = cause_of(fault, json);
+            let why = why_of(alloc, why)?;
+            let remarks = remarks_on_writing(alloc, bytes, json)?;
             Ok(Explanation {
                 refusal: Some(Refusal { fault, place, why }),
                 remarks,
+            })
+        }
+    }
+}
+
+/// The place in a script by which this fault came, and what is wrong there.
+fn cause_of(fault: ReadingFault, json: &Json) -> Finding<'_>
+    ensures { result.place.area ≡ area_of fault }
+{
+    let place = Place::of(area_of(fault));
+    match found(fault, place, json) {
+        Some(finding) => finding,
+        None => Finding {
+            place,
+            why: Wrong::Told(Reason::Unsaid),
+        },
+    }
+}
+
+/// What is wrong at a place, told without the script.
+fn why_of(alloc: Global, wrong: Wrong<'_>) -> Result<Why, AllocError> {
+    match wrong {
+        Wrong::Told(reason) => Ok(Why::Told(reason)),
+        Wrong::Unknown(word, words) => {
+            let nearest = words.nearest(alloc, word)?;
+            let word = String::from_str(alloc, word)?;
+            Ok(Why::Unknown {
+                word,
+                words,
+                nearest,
             })
         }
     }
@@ -88,25 +117,8 @@ fn remarks_of(
     ensures { IfOk result (λ v. AreRemarked (view json.now) script v.items) }
 {
     let mut idle = idle_steps(alloc, script)?;
-    let mut remarks = Vec::new(alloc);
-    remark_written(alloc, bytes, json, &mut remarks)?;
+    let mut remarks = remarks_on_writing(alloc, bytes, json)?;
     remark_behind(alloc, json, &mut remarks)?;
     remarks.append(&mut idle)?;
     Ok(remarks)
-}
-
-/// Remarks what is odd about a script as it is written: members given twice, and members that nobody reads.
-fn remark_written(
-    alloc: Global,
-    bytes: &[u8],
-    json: &Json,
-    remarks: &mut Vec<Remark>,
-) -> Result<(), AllocError>
-    requires { All IsOfWriting remarks.old.items }
-    ensures { OnOk result (All IsOfWriting remarks.new.items) }
-{
-    if let Ok(text) = str::from_utf8(bytes) {
-        remark_twice(alloc, text, remarks)?;
-    }
-    remark_unread(alloc, json, remarks)
 }

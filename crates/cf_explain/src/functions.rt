@@ -1,5 +1,4 @@
 //! What is wrong with a function.
-ghost use Rattle.std.specs.Prelude.{IfOk};
 ghost use Rattle.cf_explain.specs.Places.{IsIn};
 
 use crate::fitting::{lone_wrong, unknown};
@@ -9,25 +8,20 @@ use crate::refusing::{Finding, wrong_at};
 use crate::vocabulary::Words;
 use crate::wanted::Wanted;
 use serde_json::Value as Json;
-use std::alloc::{AllocError, Global};
 
 /// What is wrong with a function, if one is there.
-pub(crate) fn function_wrong(
-    alloc: Global,
-    place: Place,
-    said: Option<&Json>,
-) -> Result<Option<Finding>, AllocError>
-    ensures { IfOk result (IsIn place.area) }
+pub(crate) fn function_wrong(place: Place, said: Option<&Json>) -> Option<Finding<'_>>
+    ensures { IsIn place.area result }
 {
     let Some(json) = said else {
-        return Ok(None);
+        return None;
     };
     match json.as_str() {
         Some(word) if Words::Functions.known(word).is_some() => {
-            Ok(wrong_at(place, Reason::Wants(Wanted::Lone(Words::Functions))))
+            wrong_at(place, Reason::Wants(Wanted::Lone(Words::Functions)))
         }
-        Some(word) => unknown(alloc, place, word, Words::PlainFunctions),
-        None if json.is_object() => lone_wrong(alloc, place, json, Words::Functions),
-        None => Ok(wrong_at(place, Reason::Wants(Wanted::Function))),
+        Some(word) => unknown(place, word, Words::PlainFunctions),
+        None if json.is_object() => lone_wrong(place, json, Words::Functions),
+        None => wrong_at(place, Reason::Wants(Wanted::Function)),
     }
 }

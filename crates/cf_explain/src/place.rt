@@ -7,7 +7,7 @@ use cf_script_reading::{Part, ReadingFault};
 use std::fmt;
 
 /// The part of a script that something stands in.
-#[derive(Clone, Copy, Debug, PartialEq, Eq)]
+#[derive(Clone, Copy)]
 pub enum Area {
     /// The whole, one of its members, a stage or a limit.
     Part(Part),
@@ -16,7 +16,7 @@ pub enum Area {
 }
 
 /// One step of a path through a JSON value.
-#[derive(Clone, Copy, Debug, PartialEq, Eq)]
+#[derive(Clone, Copy)]
 pub enum PathStep {
     /// To the member of this name.
     Member(&'static str),
@@ -25,7 +25,7 @@ pub enum PathStep {
 }
 
 /// A part of a script, and the path that leads into it. Nothing that is read lies more than four steps deep.
-#[derive(Clone, Copy, Debug, PartialEq, Eq)]
+#[derive(Clone, Copy)]
 pub struct Place {
     pub area: Area,
     pub path: [Option<PathStep>; 4],
@@ -142,23 +142,39 @@ impl fmt::Display for Area {
 /// Written as `stages[3].of[1]`, and in a member of the whole as `names[3]`.
 impl fmt::Display for Place {
     fn fmt<W: fmt::Write>(&self, f: &mut fmt::Formatter<W>) -> fmt::Result {
-        let first = match (self.area, self.path[0]) {
-            (Area::Part(Part::Top), Some(PathStep::Member(name))) => {
-                write!(f, "{name}")?;
-                1
+        match self.member_of_whole() {
+            Some(name) => {
+                f.write_str(name)?;
+                write_path(f, &self.path[1..])
             }
-            _ => {
+            None => {
                 write!(f, "{}", self.area)?;
-                0
-            }
-        };
-        for step in self.path.iter().skip(first) {
-            match step {
-                Some(PathStep::Member(name)) => write!(f, ".{name}")?,
-                Some(PathStep::Item(i)) => write!(f, "[{i}]")?,
-                None => return Ok(()),
+                write_path(f, &self.path)
             }
         }
-        Ok(())
+    }
+}
+
+impl Place {
+    /// The member of the whole that it is in, if it is in one.
+    fn member_of_whole(&self) -> Option<&'static str> {
+        match (self.area, self.path[0]) {
+            (Area::Part(Part::Top), Some(PathStep::Member(name))) => Some(name),
+            _ => None,
+        }
+    }
+}
+
+fn write_path<W: fmt::Write>(f: &mut fmt::Formatter<W>, path: &[Option<PathStep>]) -> fmt::Result {
+    for step in path.iter().flatten() {
+        write_step(f, *step)?;
+    }
+    Ok(())
+}
+
+fn write_step<W: fmt::Write>(f: &mut fmt::Formatter<W>, step: PathStep) -> fmt::Result {
+    match step {
+        PathStep::Member(name) => write!(f, ".{name}"),
+        PathStep::Item(i) => write!(f, "[{i}]"),
     }
 }

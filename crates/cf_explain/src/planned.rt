@@ -10,7 +10,12 @@ use cf_plan::{MAX_EDGES, MAX_LIMITS, MAX_STAGES, PlanFault};
 use serde_json::Value as Json;
 
 /// What the builder refuses in stage or limit k, which is at this place.
-pub(crate) fn plan_wrong(place: Place, refusal: PlanFault, k: usize, json: &Json) -> Option<Finding>
+pub(crate) fn plan_wrong(
+    place: Place,
+    refusal: PlanFault,
+    k: usize,
+    json: &Json,
+) -> Option<Finding<'_>>
     ensures { IsIn place.area result }
 {
     let stages = json.get("stages")?.as_array()?;
@@ -36,7 +41,7 @@ pub(crate) fn plan_wrong(place: Place, refusal: PlanFault, k: usize, json: &Json
 }
 
 /// The first source that isn't below stage k.
-fn source_too_high(place: Place, k: usize, stage: &Json) -> Option<Finding>
+fn source_too_high(place: Place, k: usize, stage: &Json) -> Option<Finding<'_>>
     ensures { IsIn place.area result }
 {
     let number = u32::try_from(k).ok()?;

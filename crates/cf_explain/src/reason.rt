@@ -5,15 +5,9 @@ use std::fmt;
 
 /// Why a part of a script is refused, which its place names.
 #[derive(Drop)]
-pub enum Reason {
-    /// There are too many bytes.
-    TooLong,
-    /// They are no JSON. This says why, with its line and column.
-    NotJson(serde_json::Error),
-    /// Nothing stands there, and this ought to.
-    Missing(Wanted),
-    /// It isn't what ought to stand there.
-    Wants(Wanted),
+pub enum Why {
+    /// For this reason.
+    Told(Reason),
     /// The word is none of those that may stand there.
     Unknown {
         /// The word.
@@ -23,6 +17,19 @@ pub enum Reason {
         /// The nearest of them, if one is near.
         nearest: Option<&'static str>,
     },
+}
+
+/// A reason that has no word of the script in it.
+#[derive(Clone, Copy)]
+pub enum Reason {
+    /// There are too many bytes.
+    TooLong,
+    /// They are no JSON. This says why, with its line and column.
+    NotJson(serde_json::Error),
+    /// Nothing stands there, and this ought to.
+    Missing(Wanted),
+    /// It isn't what ought to stand there.
+    Wants(Wanted),
     /// It came with this version, and the script has a lower one.
     NotBefore(i64),
     /// The object has this many members, and ought to have exactly one of these.
@@ -38,9 +45,7 @@ pub enum Reason {
     },
     /// It names a source that isn't below the stage's own number.
     NotLower(u32),
-    /// The form calls a function.
-    FunctionMissing,
-    /// The form calls none.
+    /// The form calls no function.
     FunctionUnwanted,
     /// There are more than this number of these.
     TooMany(u32, &'static str),
@@ -57,6 +62,8 @@ impl Reason {
     fn text(&self) -> Option<&'static str> {
         match self {
             Reason::TooLong => Some("has more than 1048576 bytes"),
+            Reason::NotLower(0) => Some("may not be there: no stage is below stage 0"),
+            Reason::NotLower(1) => Some("has to be a stage below this one, 0"),
             Reason::FunctionUnwanted => Some("may not be there: the form calls no function"),
             Reason::TooManySources => Some(
                 "names too many: an attached stage has at most 2 sources",
@@ -65,6 +72,19 @@ impl Reason {
                 "is too much: stages and room are at most 4096, edges and twice the room at most 16384",
             ),
             _ => None,
+        }
+    }
+}
+
+impl fmt::Display for Why {
+    fn fmt<W: fmt::Write>(&self, f: &mut fmt::Formatter<W>) -> fmt::Result {
+        match self {
+            Why::Told(reason) => write!(f, "{reason}"),
+            Why::Unknown {
+                word,
+                words,
+                nearest,
+            } => unknown(f, word.as_str(), *words, *nearest),
         }
     }
 }
@@ -78,18 +98,12 @@ impl fmt::Display for Reason {
     }
 }
 
-/// Writes what is refused for a word or for JSON.
+/// Writes what is refused for what is missing, or for JSON.
 fn in_words<W: fmt::Write>(f: &mut fmt::Formatter<W>, why: &Reason) -> fmt::Result {
     match why {
         Reason::NotJson(error) => write!(f, "{error}"),
         Reason::Missing(wanted) => write!(f, "is missing; it has to be {wanted}"),
         Reason::Wants(wanted) => write!(f, "has to be {wanted}"),
-        Reason::Unknown {
-            word,
-            words,
-            nearest,
-        } => unknown(f, word.as_str(), *words, *nearest),
-        Reason::FunctionMissing => write!(f, "is missing; it has to be {}", Wanted::Function),
         _ => in_numbers(f, why),
     }
 }
@@ -108,12 +122,15 @@ fn in_numbers<W: fmt::Write>(f: &mut fmt::Formatter<W>, why: &Reason) -> fmt::Re
             write!(f, "names {found} stages; the form takes {wanted}")
         }
         Reason::NotBefore(version) => write!(f, "is read from \"cf\": {version} on"),
-        Reason::NotLower(k) => not_lower(f, *k),
+        Reason::NotLower(k) => {
+            let most = k.saturating_sub(1);
+            write!(f, "has to be a stage below this one, 0 to {most}")
+        }
         Reason::TooMany(most, what) => write!(
             f,
             "is one too many: there are at most {most} {what}"
         ),
-        _ => write!(f, "isn't as it has to be"),
+        _ => f.write_str("isn't as it has to be"),
     }
 }
 
@@ -127,13 +144,5 @@ fn unknown<W: fmt::Write>(
     match nearest {
         Some(near) => write!(f, "did you mean {near:?}? It has to be {words}"),
         None => write!(f, "it has to be {words}"),
-    }
-}
-
-fn not_lower<W: fmt::Write>(f: &mut fmt::Formatter<W>, k: u32) -> fmt::Result {
-    match k.checked_sub(1) {
-        None => write!(f, "may not be there: no stage is below stage 0"),
-        Some(0) => write!(f, "has to be a stage below this one, 0"),
-        Some(most) => write!(f, "has to be a stage below this one, 0 to {most}"),
     }
 }

@@ -1,5 +1,4 @@
 //! Which member gives a part of a script its wrong shape.
-ghost use Rattle.std.specs.Prelude.{IfOk};
 ghost use Rattle.cf_explain.specs.Places.{IsIn};
 
 use crate::counts::element_of;
@@ -12,43 +11,33 @@ use crate::vocabulary::Words;
 use crate::wanted::Wanted;
 use cf_script_reading::Part;
 use serde_json::Value as Json;
-use std::alloc::{AllocError, Global};
 
 /// What is wrong with the shape of a part, which is at this place.
-pub(crate) fn shape_wrong(
-    alloc: Global,
-    place: Place,
-    part: Part,
-    json: &Json,
-) -> Result<Option<Finding>, AllocError>
-    ensures { IfOk result (IsIn place.area) }
+pub(crate) fn shape_wrong(place: Place, part: Part, json: &Json) -> Option<Finding<'_>>
+    ensures { IsIn place.area result }
 {
     match part {
-        Part::Top => Ok(taken(place, json, Wanted::Object)),
-        Part::Version => Ok(needed(place, json.get("cf"), Wanted::Version)),
-        Part::Room => Ok(
-            match optional(place, json.get("room"), Wanted::UpTo(4_096)) {
-                Some(found) => Some(found),
-                None => wrong_at(place, Reason::NoPlace),
-            },
-        ),
-        Part::Stages => Ok(needed(place, json.get("stages"), Wanted::Array)),
-        Part::Limits => Ok(optional(place, json.get("limits"), Wanted::Array)),
-        Part::Steps => Ok(optional(place, json.get("steps"), Wanted::Array)),
+        Part::Top => taken(place, json, Wanted::Object),
+        Part::Version => needed(place, json.get("cf"), Wanted::Version),
+        Part::Room => match optional(place, json.get("room"), Wanted::UpTo(4_096)) {
+            Some(found) => Some(found),
+            None => wrong_at(place, Reason::NoPlace),
+        },
+        Part::Stages => needed(place, json.get("stages"), Wanted::Array),
+        Part::Limits => optional(place, json.get("limits"), Wanted::Array),
+        Part::Steps => optional(place, json.get("steps"), Wanted::Array),
         Part::Stage(k) => {
             let said = element_of(json, "stages", k as usize);
             match said {
-                None => Ok(None),
-                Some(stage) => {
-                    stage_wrong(alloc, place, stage, version_of(json), Wanted::UpTo(65_535))
-                }
+                None => None,
+                Some(stage) => { stage_wrong(place, stage, version_of(json), Wanted::UpTo(65_535)) }
             }
         }
         Part::Limit(k) => {
             let said = element_of(json, "limits", k as usize);
             match said {
-                None => Ok(None),
-                Some(limit) => limit_wrong(alloc, place, limit),
+                None => None,
+                Some(limit) => limit_wrong(place, limit),
             }
         }
     }
@@ -60,21 +49,21 @@ pub(crate) fn version_of(json: &Json) -> i64 {
 }
 
 /// What is wrong with a limit.
-fn limit_wrong(alloc: Global, place: Place, json: &Json) -> Result<Option<Finding>, AllocError>
-    ensures { IfOk result (IsIn place.area) }
+fn limit_wrong(place: Place, json: &Json) -> Option<Finding<'_>>
+    ensures { IsIn place.area result }
 {
     if let Some(found) = number_wrong(place, json) {
-        return Ok(Some(found));
+        return Some(found);
     }
     let kind = json.get("kind");
-    if let Some(found) = word_wrong(alloc, place.member("kind"), kind, Words::Kinds)? {
-        return Ok(Some(found));
+    if let Some(found) = word_wrong(place.member("kind"), kind, Words::Kinds) {
+        return Some(found);
     }
-    Ok(needed(place.member("value"), json.get("value"), Wanted::Value))
+    needed(place.member("value"), json.get("value"), Wanted::Value)
 }
 
 /// What is wrong with a limit as an object, with its stage or with its moment.
-fn number_wrong(place: Place, json: &Json) -> Option<Finding>
+fn number_wrong(place: Place, json: &Json) -> Option<Finding<'_>>
     ensures { IsIn place.area result }
 {
     if let Some(found) = taken(place, json, Wanted::Object) {

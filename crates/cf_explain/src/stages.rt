@@ -1,5 +1,4 @@
 //! What is wrong with a stage, whether the script's or an attached one.
-ghost use Rattle.std.specs.Prelude.{IfOk};
 ghost use Rattle.cf_explain.specs.Places.{IsIn};
 
 use crate::fitting::{taken, word_wrong};
@@ -10,36 +9,34 @@ use crate::vocabulary::Words;
 use crate::wanted::Wanted;
 use cf_forms::{Form, fits_form};
 use serde_json::Value as Json;
-use std::alloc::{AllocError, Global};
 
 /// The form that came with version 2.
 const LATER: &str = "exceptionallyCompose";
 
 /// What is wrong with the form of a stage, or with its sources as numbers up to this one.
 pub(crate) fn stage_wrong(
-    alloc: Global,
     place: Place,
     json: &Json,
     version: i64,
     source: Wanted,
-) -> Result<Option<Finding>, AllocError>
-    ensures { IfOk result (IsIn place.area) }
+) -> Option<Finding<'_>>
+    ensures { IsIn place.area result }
 {
     if let Some(found) = taken(place, json, Wanted::Object) {
-        return Ok(Some(found));
+        return Some(found);
     }
     let form = json.get("form");
-    if let Some(found) = word_wrong(alloc, place.member("form"), form, Words::Forms)? {
-        return Ok(Some(found));
+    if let Some(found) = word_wrong(place.member("form"), form, Words::Forms) {
+        return Some(found);
     }
     if version == 1 && form.and_then(Json::as_str) == Some(LATER) {
-        return Ok(wrong_at(place.member("form"), Reason::NotBefore(2)));
+        return wrong_at(place.member("form"), Reason::NotBefore(2));
     }
-    Ok(sources_wrong(place.member("of"), json.get("of"), source))
+    sources_wrong(place.member("of"), json.get("of"), source)
 }
 
 /// What is wrong with the sources of a stage.
-fn sources_wrong(place: Place, said: Option<&Json>, source: Wanted) -> Option<Finding>
+fn sources_wrong(place: Place, said: Option<&Json>, source: Wanted) -> Option<Finding<'_>>
     ensures { IsIn place.area result }
 {
     let json = said?;
@@ -55,7 +52,7 @@ fn sources_wrong(place: Place, said: Option<&Json>, source: Wanted) -> Option<Fi
 }
 
 /// What is wrong with a stage's number of sources, or with its having a function or none.
-pub(crate) fn misfit(place: Place, json: &Json) -> Option<Finding>
+pub(crate) fn misfit(place: Place, json: &Json) -> Option<Finding<'_>>
     ensures { IsIn place.area result }
 {
     let form = form_of(json)?;
@@ -68,7 +65,7 @@ pub(crate) fn misfit(place: Place, json: &Json) -> Option<Finding>
         let why = if called {
             Reason::FunctionUnwanted
         } else {
-            Reason::FunctionMissing
+            Reason::Missing(Wanted::Function)
         };
         wrong_at(place.member("fn"), why)
     } else {

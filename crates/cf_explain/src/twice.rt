@@ -1,56 +1,47 @@
 //! The members that are given twice in one object.
-ghost use Rattle.std.specs.Prelude.{All, IfOk, OnOk};
-ghost use Rattle.cf_explain.specs.Remarks.{IsOfWriting};
-
-use crate::remark::Remark;
+use crate::oddity::Oddity;
+use crate::written::Written;
 use json::{Reader, Scratch, Token};
 use std::alloc::{AllocError, Global};
 use std::collections::BTreeSet;
 
-/// Remarks each member of an object of this text whose name came before in the same object. What isn't JSON ends it.
-pub(crate) fn remark_twice(
-    alloc: Global,
-    text: &str,
-    remarks: &mut Vec<Remark>,
-) -> Result<(), AllocError>
-    requires { All IsOfWriting remarks.old.items }
-    ensures { OnOk result (All IsOfWriting remarks.new.items) }
-{
+/// Notes each member of an object of this text whose name came before in the same object. What isn't JSON ends it.
+pub(crate) fn note_twice(alloc: Global, text: &str, written: &mut Written) {
     let mut scratch = Scratch::new(alloc);
-    let mut reader = Reader::new(text, &mut scratch)?;
+    match Reader::new(text, &mut scratch) {
+        Ok(mut reader) => go_through(alloc, text, &mut reader, written),
+        Err(_) => written.is_short = true,
+    }
+}
+
+/// Goes through the tokens of a text.
+fn go_through(alloc: Global, text: &str, reader: &mut Reader<'_>, written: &mut Written) {
     let mut open = Vec::new(alloc);
     let mut position = Position::START;
     let most = text.len().saturating_add(1);
-    'tokens: for _ in 0..most {
+    for _ in 0..most {
         let offset = reader.offset();
         let Some(token) = reader.next() else {
-            return Ok(());
+            break;
         };
-        let name = given_again(alloc, token, &mut open)?;
-        position = remark_again(
-            alloc,
-            position.on_to(text.as_bytes(), offset),
-            name,
-            remarks,
-        )?;
+        position = position.on_to(text.as_bytes(), offset);
+        let again = given_again(alloc, token, &mut open);
+        note_again(alloc, position, again, written);
     }
-    Ok(())
 }
 
-/// Remarks that a name is given again at this position, if one is.
-fn remark_again(
+/// Notes that a name is given again at this position, if one is.
+fn note_again(
     alloc: Global,
     position: Position,
-    name: Option<&str>,
-    remarks: &mut Vec<Remark>,
-) -> Result<Position, AllocError>
-    requires { All IsOfWriting remarks.old.items }
-    ensures { OnOk result (All IsOfWriting remarks.new.items) }
-{
-    if let Some(name) = name {
-        remarks.push(position.twice(alloc, name)?)?;
+    again: Result<Option<&str>, AllocError>,
+    written: &mut Written,
+) {
+    match again {
+        Ok(Some(name)) => written.add_made(position.twice(alloc, name)),
+        Ok(None) => {}
+        Err(_) => written.is_short = true,
     }
-    Ok(position)
 }
 
 /// The name that the token gives again in its object, but for a note. Of each object that is open the names so far are kept.
@@ -119,12 +110,10 @@ impl Position {
         }
     }
 
-    /// The remark that a member of this name is given again here.
-    fn twice(self, alloc: Global, name: &str) -> Result<Remark, AllocError>
-        ensures { IfOk result IsOfWriting }
-    {
+    /// That a member of this name is given again here.
+    fn twice(self, alloc: Global, name: &str) -> Result<Oddity, AllocError> {
         let name = String::from_str(alloc, name)?;
         let Position { line, column, .. } = self;
-        Ok(Remark::Twice { name, line, column })
+        Ok(Oddity::Twice { name, line, column })
     }
 }

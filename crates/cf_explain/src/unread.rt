@@ -1,45 +1,36 @@
 //! The members that nobody reads.
-ghost use Rattle.std.specs.Prelude.{◌≡◌, All, OnOk, option_map};
+ghost use Rattle.std.specs.Prelude.{◌≡◌, option_map};
 ghost use Rattle.serde_json.specs.View.{items_view, view};
 ghost use Rattle.cf_explain.specs.Limits.{items_in};
-ghost use Rattle.cf_explain.specs.Remarks.{IsOfWriting};
 
 use crate::counts::attach_of;
-use crate::names::{remark_name, remark_title};
+use crate::names::{note_name, note_title};
+use crate::oddity::Oddity;
 use crate::place::Place;
-use crate::remark::Remark;
 use crate::shapes::version_of;
 use crate::vocabulary::Words;
+use crate::written::Written;
 use serde_json::Value as Json;
 use std::alloc::{AllocError, Global};
 
-/// Remarks the members that nobody reads in a script, its stages, its limits and the stages that it attaches.
-pub(crate) fn remark_unread(
-    alloc: Global,
-    json: &Json,
-    remarks: &mut Vec<Remark>,
-) -> Result<(), AllocError>
-    requires { All IsOfWriting remarks.old.items }
-    ensures { OnOk result (All IsOfWriting remarks.new.items) }
-{
-    in_object(alloc, Place::top(), json, Words::ScriptMembers, remarks)?;
-    remark_title(json, remarks)?;
+/// Notes the members that nobody reads in a script, its stages, its limits and the stages that it attaches.
+pub(crate) fn note_unread(alloc: Global, json: &Json, written: &mut Written) {
+    in_object(alloc, Place::top(), json, Words::ScriptMembers, written);
+    note_title(json, written);
     if version_of(json) == 1 && json.get("room").is_some() {
-        remarks.push(Remark::RoomInVersionOne)?;
+        written.add(Oddity::RoomInVersionOne);
     }
-    'stages: for (k, stage) in items(json.get("stages")).iter().enumerate() {
-        in_stage(alloc, Place::stage(k), stage, remarks)?;
+    for (k, stage) in items(json.get("stages")).iter().enumerate() {
+        in_stage(alloc, Place::stage(k), stage, written);
     }
-    'limits: for (k, limit) in items(json.get("limits")).iter().enumerate() {
-        in_limit(alloc, Place::limit(k), limit, remarks)?;
+    for (k, limit) in items(json.get("limits")).iter().enumerate() {
+        in_limit(alloc, Place::limit(k), limit, written);
     }
-    'steps: for (k, step) in items(json.get("steps")).iter().enumerate() {
+    for (k, step) in items(json.get("steps")).iter().enumerate() {
         if let Some(stage) = attach_of(step) {
-            let place = Place::step(k).item(1);
-            in_stage(alloc, place, stage, remarks)?;
+            in_stage(alloc, Place::step(k).item(1), stage, written);
         }
     }
-    Ok(())
 }
 
 /// The items of an array, none of what is no array.
@@ -55,62 +46,40 @@ pub(crate) fn items(said: Option<&Json>) -> &[Json]
     }
 }
 
-/// Remarks the members of a stage that nobody reads, and a name that is none.
-fn in_stage(
-    alloc: Global,
-    place: Place,
-    stage: &Json,
-    remarks: &mut Vec<Remark>,
-) -> Result<(), AllocError>
-    requires { All IsOfWriting remarks.old.items }
-    ensures { OnOk result (All IsOfWriting remarks.new.items) }
-{
-    in_object(alloc, place, stage, Words::StageMembers, remarks)?;
-    remark_name(place.member("name"), stage.get("name"), remarks)
+/// Notes the members of a stage that nobody reads, and a name that is none.
+fn in_stage(alloc: Global, place: Place, stage: &Json, written: &mut Written) {
+    in_object(alloc, place, stage, Words::StageMembers, written);
+    note_name(place.member("name"), stage.get("name"), written);
 }
 
-/// Remarks the members of a limit that nobody reads.
-fn in_limit(
-    alloc: Global,
-    place: Place,
-    limit: &Json,
-    remarks: &mut Vec<Remark>,
-) -> Result<(), AllocError>
-    requires { All IsOfWriting remarks.old.items }
-    ensures { OnOk result (All IsOfWriting remarks.new.items) }
-{
-    in_object(alloc, place, limit, Words::LimitMembers, remarks)?;
+/// Notes the members of a limit that nobody reads.
+fn in_limit(alloc: Global, place: Place, limit: &Json, written: &mut Written) {
+    in_object(alloc, place, limit, Words::LimitMembers, written);
     let times_out = limit.get("kind").and_then(Json::as_str) == Some("timeout");
     if times_out && limit.get("value").is_some() {
-        remarks.push(Remark::ValueOfTimeout(place.member("value")))?;
+        written.add(Oddity::ValueOfTimeout(place.member("value")));
     }
-    Ok(())
 }
 
-/// Remarks the members of an object that have none of these names.
-fn in_object(
-    alloc: Global,
-    place: Place,
-    json: &Json,
-    words: Words,
-    remarks: &mut Vec<Remark>,
-) -> Result<(), AllocError>
-    requires { All IsOfWriting remarks.old.items }
-    ensures { OnOk result (All IsOfWriting remarks.new.items) }
-{
+/// Notes the members of an object that have none of these names.
+fn in_object(alloc: Global, place: Place, json: &Json, words: Words, written: &mut Written) {
     let Some(members) = json.as_object() else {
-        return Ok(());
+        return;
     };
-    'names: for name in members.keys() {
+    for name in members.keys() {
         if words.known(name.as_str()).is_none() {
-            let nearest = words.nearest(alloc, name.as_str())?;
-            let name = name.clone()?;
-            remarks.push(Remark::Unread {
-                place,
-                name,
-                nearest,
-            })?;
+            written.add_made(unread(alloc, place, name.as_str(), words));
         }
     }
-    Ok(())
+}
+
+/// That nobody reads the member of this name, which is none of these.
+fn unread(alloc: Global, place: Place, name: &str, words: Words) -> Result<Oddity, AllocError> {
+    let nearest = words.nearest(alloc, name)?;
+    let name = String::from_str(alloc, name)?;
+    Ok(Oddity::Unread {
+        place,
+        name,
+        nearest,
+    })
 }

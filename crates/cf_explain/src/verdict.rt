@@ -3,7 +3,7 @@ ghost use Rattle.std.specs.Prelude.{◌≡◌};
 ghost use Rattle.cf_explain.specs.Verdicts.{verdict_of};
 
 use crate::place::Place;
-use crate::reason::Reason;
+use crate::reason::Why;
 use crate::remark::Remark;
 use cf_script_reading::ReadingFault;
 use std::fmt;
@@ -16,7 +16,7 @@ pub struct Refusal {
     /// The place in the script that caused it.
     pub place: Place,
     /// What is wrong there.
-    pub why: Reason,
+    pub why: Why,
 }
 
 /// What is wrong with a script, and what is odd about it.
@@ -29,7 +29,7 @@ pub struct Explanation {
 }
 
 /// A script, judged.
-#[derive(Clone, Copy, Debug, PartialEq, Eq)]
+#[derive(Clone, Copy)]
 pub enum Verdict {
     /// Nothing is wrong with it, and nothing odd about it.
     Right,

@@ -7,7 +7,7 @@ use std::fmt;
 use strsim::levenshtein;
 
 /// Words of which one may stand in some place.
-#[derive(Clone, Copy, Debug, PartialEq, Eq)]
+#[derive(Clone, Copy)]
 pub enum Words {
     /// The forms of stages.
     Forms,

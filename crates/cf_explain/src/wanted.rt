@@ -4,7 +4,7 @@ use serde_json::Value as Json;
 use std::fmt;
 
 /// What is to stand in some place.
-#[derive(Clone, Copy, Debug, PartialEq, Eq)]
+#[derive(Clone, Copy)]
 pub enum Wanted {
     /// A JSON object.
     Object,

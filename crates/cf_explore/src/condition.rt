@@ -2,7 +2,7 @@
 use cf_outcome::{Cause, Value};
 
 /// What is asked of a stage in a fact.
-#[derive(Clone, Copy, Debug, Drop, PartialEq, Eq)]
+#[derive(Clone, Copy, Drop)]
 pub enum Is {
     /// Settled with this value.
     Value(Value),
@@ -20,7 +20,7 @@ pub enum Is {
 }
 
 /// A fact about one situation.
-#[derive(Clone, Copy, Debug, Drop, PartialEq, Eq)]
+#[derive(Clone, Copy, Drop)]
 pub enum Fact {
     /// The stage is as asked.
     Stage(u16, Is),
@@ -35,7 +35,7 @@ pub enum Fact {
 }
 
 /// When a condition is looked at.
-#[derive(Clone, Copy, Debug, Drop, PartialEq, Eq)]
+#[derive(Clone, Copy, Drop)]
 pub enum When {
     /// At each end.
     End,
@@ -44,7 +44,7 @@ pub enum When {
 }
 
 /// How often it must hold.
-#[derive(Clone, Copy, Debug, Drop, PartialEq, Eq)]
+#[derive(Clone, Copy, Drop)]
 pub enum How {
     Never,
     Always,

@@ -12,7 +12,7 @@ pub struct End {
 }
 
 /// An order: how many moves it has, and the number of the situation that it leads to (`Found::order`).
-#[derive(Clone, Copy, Debug, Drop, PartialEq, Eq)]
+#[derive(Clone, Copy, Drop)]
 pub struct Witness {
     pub moves: u32,
     pub number: u32,

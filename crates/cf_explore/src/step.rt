@@ -4,7 +4,7 @@ use cf_forms::{Answer, Args};
 use cf_model::{Ask, Call};
 
 /// One step of a caller.
-#[derive(Clone, Copy, Debug, Drop, PartialEq, Eq)]
+#[derive(Clone, Copy, Drop)]
 pub enum Step {
     /// A changing call. If the graph doesn't take it, because it names a stage that isn't there, it changes nothing.
     Do(Call),
@@ -15,14 +15,14 @@ pub enum Step {
 }
 
 /// How far a caller has come: the number of its next step, and how often that step has looked already.
-#[derive(Clone, Copy, Debug, Drop, PartialEq, Eq)]
+#[derive(Clone, Copy, Drop, PartialEq, Eq)]
 pub struct Place {
     pub at: u16,
     pub looks: u16,
 }
 
 /// What a worker has in hand.
-#[derive(Clone, Copy, Debug, Drop, PartialEq, Eq)]
+#[derive(Clone, Copy, Drop, PartialEq, Eq)]
 pub enum Hand {
     Idle,
     /// A claim of this stage was granted with these arguments; its function is to be called.
@@ -32,7 +32,7 @@ pub enum Hand {
 }
 
 /// One move: who takes a step, and which.
-#[derive(Clone, Copy, Debug, Drop, PartialEq, Eq)]
+#[derive(Clone, Copy, Drop)]
 pub enum Move {
     /// This caller takes its next step, or looks once more where that is a join.
     Step(u8),

@@ -32,7 +32,7 @@ pub struct Session {
 }
 
 /// One call of a session.
-#[derive(Clone, Copy, Debug, PartialEq, Eq)]
+#[derive(Clone, Copy)]
 pub enum Entry {
     /// It was answered.
     Known(Record),

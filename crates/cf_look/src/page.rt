@@ -59,7 +59,7 @@ fn people_of(alloc: Global, json: &Json, account: &Account) -> Result<People> {
     let mut people = People::new(alloc);
     fill_people(alloc, json, account, &mut people)?;
     let verdict = verdict_on(alloc, account)?;
-    people.fits = verdict == Verdict::Fits;
+    people.fits = matches!(verdict, Verdict::Fits);
     write_verdict(&mut people.verdict, verdict)?;
     Ok(people)
 }

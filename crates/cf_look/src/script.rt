@@ -3,7 +3,7 @@ use crate::input::json_in;
 use crate::named::Named;
 use crate::people::people_in;
 use anyhow::Result;
-use cf_explain::{Explanation, Place, Remark, Verdict, explain};
+use cf_explain::{Explanation, Oddity, Place, Remark, Verdict, explain};
 use cf_picture::draw_script;
 use cf_script_reading::MAX_BYTES;
 use cf_text::ScriptFault;
@@ -119,10 +119,15 @@ fn write_at<R: Print + AllocGlobal, D: Display>(
 /// The place that a remark begins with.
 fn place_of(remark: &Remark) -> Option<Place> {
     match remark {
-        Remark::Unread { place, .. }
-        | Remark::ValueOfTimeout(place)
-        | Remark::Behind(place, _)
-        | Remark::Idle(place, _) => Some(*place),
+        Remark::Writing(oddity) => place_in(oddity),
+        Remark::Behind(place, _) | Remark::Idle(place, _) => Some(*place),
+    }
+}
+
+/// The same of an oddity.
+fn place_in(oddity: &Oddity) -> Option<Place> {
+    match oddity {
+        Oddity::Unread { place, .. } | Oddity::ValueOfTimeout(place) => Some(*place),
         _ => None,
     }
 }

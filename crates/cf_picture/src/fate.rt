@@ -11,7 +11,7 @@ use cf_script_reading::WORKER;
 use std::alloc::AllocError;
 
 /// What became of a stage.
-#[derive(Clone, Copy, Debug, PartialEq, Eq)]
+#[derive(Clone, Copy)]
 pub(crate) enum Fate {
     /// It waits for its sources, or for its callers.
     Pending,
