@@ -85,8 +85,9 @@ int main(void) {
   DO(cf_request_new(&plan, &sizes, (uint8_t[]){WORKERS, WORKERS, WORKERS, WORKERS}, 4, &request));
   cf_free(&plan);
 
-  DO(cf_request_follow(&request, ANSWER, TOTAL, told, ROW, &n));                   /* the customer waits for the answer */
-  DO(cf_request_deadline(&request, PRICE, 20, CF_GIVE_VALUE, (cf_value){CF_INT, 7})); /* who has no price by then takes 7 */
+  DO(cf_request_follow(&request, ANSWER, TOTAL, told, ROW, &n)); /* the customer waits for the answer */
+  wake(&request, told, n);
+  DO(cf_request_deadline(&request, PRICE, 20, CF_GIVE_VALUE, (cf_value){CF_INT, 7})); /* the price that it gets by then */
   attach(&request);
   serve(&request);
 

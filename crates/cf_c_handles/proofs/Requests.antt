@@ -16,5 +16,5 @@ pub takes_so_many : (count : ℕ) (old new : Machine) → new.teller.ledger ≡ 
     new.teller.told ≡ drop count old.teller.told → new ≡ record old { teller = new.teller } → new ≡ taking count old
 takes_so_many count old new ledger taken told rest =
     let teller : new.teller ≡ record old.teller { taken = old.teller.taken ++ take count old.teller.told; told = drop count old.teller.told } =
-        λ j. record { ledger = ledger j; taken = taken j; told = told j } in
+    λ j. record { ledger = ledger j; taken = taken j; told = told j } in
     rest ∙ ap (λ (t : Teller). record old { teller = t }) teller

@@ -30,14 +30,17 @@ machine_code faults.NoMemory = NoMemory
 machine_code faults.NoStage = NoStage
 machine_code faults.Past = PastMoment
 
--- a fault is due, and C has its code; memory may have been found for words to come, and nothing else has changed
-pub record IsRefusedBy {F : Type 0} (code_of : F → Code) (IsDue : F → Type 0) (old : Machine) (code : Code) (new : Object) : Type 0 where
+-- a fault is due, and this is its code
+pub record IsDueAs {F : Type 0} (code_of : F → Code) (IsDue : F → Type 0) (code : Code) : Type 0 where
   pub why : F
   pub due : IsDue why
   pub is : code ≡ code_of why
+
+-- memory may have been found for words to come, and nothing else has changed
+pub record StaysButFinds (old : Machine) (new : Object) : Type 0 where
   pub now : Machine
+  pub is : new ≡ Request now
   pub finds : OnlyFinds old now
-  pub held : new ≡ Request now
 
 -- ---- calls that tell stages
 
@@ -52,7 +55,7 @@ pub record DoesAndTells (Does : Machine → Machine → Type 0) (old : Machine) 
 -- it is done, or refused for a fault that is due
 abbrev pub TellsAfter : (Machine → Machine → Type 0) → (Machine → MachineFault → Type 0) → Object → List CfTold × ℕ → Result (Unit {0}) Code → Object → List CfTold × ℕ → Type 0
 TellsAfter Does IsDue (Request m) had (Ok done) new has = DoesAndTells Does m new had has
-TellsAfter Does IsDue (Request m) had (Err code) new has = IsRefusedBy machine_code (IsDue m) m code new × (has ≡ had)
+TellsAfter Does IsDue (Request m) had (Err code) new has = IsDueAs machine_code (IsDue m) code × StaysButFinds m new × (has ≡ had)
 TellsAfter Does IsDue held had r new has = (r ≡ Err WrongKind) × (new ≡ held) × (has ≡ had)
 
 abbrev pub FollowsIn : ℕ → ℕ → Object → List CfTold × ℕ → Result (Unit {0}) Code → Object → List CfTold × ℕ → Type 0
@@ -87,7 +90,7 @@ pub record HasApplied (word lane : ℕ) (old : Machine) (new : Object) (had has 
 
 abbrev pub AppliesIn : ℕ → ℕ → Object → CfApplied × List CfTold → Result (Unit {0}) Code → Object → CfApplied × List CfTold → Type 0
 AppliesIn word lane (Request m) had (Ok done) new has = HasApplied word lane m new had has
-AppliesIn word lane (Request m) had (Err code) new has = IsRefusedBy word_code (IsNoWord word m) m code new × (has ≡ had)
+AppliesIn word lane (Request m) had (Err code) new has = IsDueAs word_code (IsNoWord word m) code × StaysButFinds m new × (has ≡ had)
 AppliesIn word lane held had r new has = (r ≡ Err WrongKind) × (new ≡ held) × (has ≡ had)
 
 -- ---- a caller's step
@@ -108,7 +111,8 @@ pub record HasGoneOn (old : Machine) (r : Result (Unit {0}) Code) (new : Object)
 pub record IsNotGone (old : Machine) (r : Result (Unit {0}) Code) (new : Object) (had has : CfRequestStep × CfTask × List CfTold) : Type 0 where
   pub code : Code
   pub is : r ≡ Err code
-  pub refused : IsRefusedBy step_code (IsNoNext had.0.who (held_by had.1) old) old code new
+  pub refused : IsDueAs step_code (IsNoNext had.0.who (held_by had.1) old) code
+  pub stays : StaysButFinds old new
   pub same : has ≡ had
 
 -- it is done, also if nothing was claimed, or refused for a fault that is due
@@ -120,7 +124,7 @@ GoesOnIn held had r new has = (r ≡ Err WrongKind) × (new ≡ held) × (has �
 
 abbrev pub SetsDeadlineIn : Deadline → Object → Result (Unit {0}) Code → Object → Type 0
 SetsDeadlineIn d (Request m) (Ok done) new = (now : Machine) × SetsDeadline d m now × (new ≡ Request now)
-SetsDeadlineIn d (Request m) (Err code) new = IsRefusedBy machine_code (IsNoDeadline d (state_in m)) m code new
+SetsDeadlineIn d (Request m) (Err code) new = IsDueAs machine_code (IsNoDeadline d (state_in m)) code × (new ≡ Request m)
 SetsDeadlineIn d held r new = (r ≡ Err WrongKind) × (new ≡ held)
 
 -- a request is asked this, and stays

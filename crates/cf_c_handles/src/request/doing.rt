@@ -80,12 +80,7 @@ pub fn follow(
 }
 
 /// Lets time pass up to a moment.
-pub fn pass(
-    held: &mut Object,
-    moment: u64,
-    row: &mut [CfTold],
-    n: &mut usize,
-) -> Result<(), Code>
+pub fn pass(held: &mut Object, moment: u64, row: &mut [CfTold], n: &mut usize) -> Result<(), Code>
     ensures { PassesIn moment held.old (row.old, n.old) result held.new (row.new, n.new) }
 {
     let Object::Request(machine) = held else {
