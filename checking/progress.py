@@ -42,9 +42,9 @@ def at_once(memory: int) -> int:
 
 def keeps_proofs() -> bool:
     """Whether rt kept a proof of an earlier run on this machine. If it kept none, everything is to be proved, and there is work for each
-    processor to the end; then rt is told how many processors there are. By itself it leaves one idle if it thinks that memory won't
-    suffice, since it counts some 6 GB for a check that takes 2. If little is left to prove, rt isn't told: it gives idle processors to a
-    proof that is running."""
+    processor to the end; then rt is told to do one check more at a time than there are processors. By itself it leaves one idle if it
+    thinks that memory won't suffice, since it counts some 6 GB for a check that takes 2. If little is left to prove, rt isn't told: it gives idle
+    processors to a proof that is running."""
     kit = Path(os.path.realpath(shutil.which("rt") or "rt")).parent.parent
     return any(kit.parent.glob("rattle-kept/proof-*"))
 
@@ -149,7 +149,7 @@ def run_gate(tell: Callable[[str], object]) -> int:
     environment = dict(os.environ)
     jobs = at_once(AMPLE)
     if jobs == len(os.sched_getaffinity(0)) and not keeps_proofs():
-        environment.setdefault("RT_JOBS", str(jobs))
+        environment.setdefault("RT_JOBS", str(jobs + 1))  # one more, so that no processor rests while a long proof ends
     with subprocess.Popen(["rt", "ci"], cwd=str(TOP), env=environment, stdout=subprocess.PIPE) as running:
         try:
             for line in lines_of(running.stdout):
