@@ -4,5 +4,6 @@ pub mod Words
 pub mod Turns
 pub mod Least
 pub mod Memory
-pub mod Takings
+pub mod Later
+pub mod Rows
 pub mod Machines

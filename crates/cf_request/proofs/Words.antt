@@ -17,7 +17,7 @@ use Rattle.cf_request.proofs.Telling.{next_is}
 pub event_told : (e : Event) (old new : Teller) (reply : Reply) → event_of (word_of e) ≡ Some e → Tells (word_of e) old reply new → TellsEvent e old reply new
 event_told e old new reply is h =
     let same : h.does.event ≡ e = (let read = h.does.read in cc) in
-    record { tells = h; answered = h.does.told ∙ ap (answered (state_of old.ledger)) same }
+    record { read = is; tells = h; answered = h.does.told ∙ ap (answered (state_of old.ledger)) same }
 
 -- ---- how many stages there are
 

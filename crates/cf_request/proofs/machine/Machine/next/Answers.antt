@@ -7,6 +7,7 @@ use Rattle.cf_request.specs.Telling.{Teller, with_memory}
 use Rattle.cf_request.specs.declared.relays.Follow.{Follow}
 use Rattle.cf_request.proofs.Machines.{caught_up, keeps_takes, kept_by, kept_dues, kept_finish, none_takes}
 use Rattle.cf_request.proofs.Memory.{few_relays, spends_held}
+use Rattle.cf_request.proofs.Rows.{fewer_left}
 use Rattle.cf_request.proofs.machine.Machine.next.Goals as goal
 
 pub catch_up-requires-clause-there : goal.catch_up-requires-clause-there
@@ -74,3 +75,6 @@ returns-clause-done c =
       takes = subst (λ (l : List ℕ). TakesIn c.args.who l c.args.lane d c.take-taken.result e) c.deref-2.ensures.value c.take-taken.ensures;
       same = refl;
     })
+
+pub returns-clause-fewer : goal.returns-clause-fewer
+returns-clause-fewer c = fewer_left _ _ _ _ _ _ (returns-clause-done c)
