@@ -2,7 +2,7 @@ pub mod Lists
 pub mod Telling
 pub mod Words
 pub mod Turns
-pub mod Least
+pub mod Moments
 pub mod Memory
 pub mod Later
 pub mod Rows

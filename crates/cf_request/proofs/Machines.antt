@@ -1,8 +1,8 @@
 -- What a machine keeps.
-use Rattle.std.proofs.Common.{◌≡◌, ℕ, zero, suc, ◌+◌, ◌<◌, ◌≤◌, Bool, true, false, cond, not, Option, Some, None, List, [], ◌∷◌, ◌++◌, length, length-append, nat_lt, refl, ap, set, sym, ◌∙◌, arith, subst}
+use Rattle.std.proofs.Common.{◌≡◌, ℕ, zero, suc, ◌+◌, ◌<◌, ◌≤◌, Bool, true, false, cond, Option, Some, None, List, [], ◌∷◌, ◌++◌, length, length-append, nat_lt, refl, ap, set, sym, ◌∙◌, arith, subst}
 use Rattle.std.specs.Prelude.{is_some, slice_get, unwrap_or}
 use Rattle.std.proofs.lemmas.Bool.{ltb-true, ltb-false}
-use Rattle.std.proofs.lemmas.List.Elements.{All-filter, All-push, All-weaker}
+use Rattle.std.proofs.lemmas.List.Elements.{All-push, All-weaker}
 use Rattle.cf_forms.specs.declared.forms.Args.{Args}
 use Rattle.cf_model.specs.declared.events.Event.TheVariants.{Claim as Claims, Finish as Finishes}
 use Rattle.cf_model.specs.declared.events.Reply.{Reply}
@@ -17,7 +17,7 @@ use Rattle.cf_ledger.specs.Steps.{finished_as}
 use Rattle.cf_ledger.specs.declared.step.Finish.{Finish}
 use Rattle.cf_ledger.specs.declared.step.Held.{Held}
 use Rattle.cf_ledger.specs.declared.step.Taken.{Taken}
-use Rattle.cf_request.specs.Deadlines.{HaveStages, open_of}
+use Rattle.cf_request.specs.Deadlines.{Forgets, Sets}
 use Rattle.cf_request.specs.Lanes.{FinishesHeld, TakesIn, lanes_of}
 use Rattle.cf_request.specs.Machines.{CatchesUp, IsMachine}
 use Rattle.cf_request.specs.Relays.{IsRelayDue, NoneBehind}
@@ -26,6 +26,7 @@ use Rattle.cf_request.specs.Telling.{Teller, Tells, TellsEvent, is_settled_in, w
 use Rattle.cf_request.specs.declared.deadlines.Deadline.{Deadline}
 use Rattle.cf_request.specs.declared.relays.Follow.{Follow}
 use Rattle.cf_request.specs.declared.settling.Due.{Due}
+use Rattle.cf_request.proofs.Moments.{set_left, set_more}
 use Rattle.cf_request.proofs.Turns.{Keeps, after_event, follows_kept, follows_word, keeps_dues, keeps_event, keeps_memory, keeps_same, lanes_kept, limits_kept, limits_word}
 use Rattle.cf_request.proofs.Telling.{same_most}
 use Rattle.cf_request.proofs.Words.{at_most_one, none_lost}
@@ -158,8 +159,22 @@ kept_follow t lanes places follows deadlines own f h relay stage = record {
   caller = h.caller;
 }
 
-pub limits_set : (s : State) (deadlines : List Deadline) (d : Deadline) → HaveStages s deadlines → d.stage < length s.plan.stages → HaveStages s (deadlines ++ d ∷ [])
-limits_set s deadlines d h l = All-push (λ (d : Deadline). d.stage < length s.plan.stages) deadlines d h l
+pub kept_set : (t : Teller) (lanes : List ℕ) (places : ℕ) (follows : List Follow) (old new : List Deadline) (own : ℕ) (d : Deadline) → IsMachine t lanes places follows old own → d.stage < length (state_of t.ledger).plan.stages →
+    Sets (state_of t.ledger).stages d old new → IsMachine t lanes places follows new own
+kept_set t lanes places follows old new own d h l sets = record {
+  all_lanes = h.all_lanes;
+  room = h.room;
+  relays = h.relays;
+  limits = set_more (state_of t.ledger) (state_of t.ledger).stages d old new sets l h.limits;
+  caller = h.caller;
+}
 
-pub limits_left : (s : State) (deadlines : List Deadline) → HaveStages s deadlines → HaveStages s (open_of s.stages deadlines)
-limits_left s deadlines h = All-filter (λ (d : Deadline). not (is_settled_in s.stages d.stage)) (λ (d : Deadline). d.stage < length s.plan.stages) deadlines h
+-- and where some are forgotten
+pub kept_left : (t : Teller) (lanes : List ℕ) (places : ℕ) (follows : List Follow) (old new : List Deadline) (own : ℕ) → IsMachine t lanes places follows old own → Forgets (state_of t.ledger).stages old new → IsMachine t lanes places follows new own
+kept_left t lanes places follows old new own h forgets = record {
+  all_lanes = h.all_lanes;
+  room = h.room;
+  relays = h.relays;
+  limits = set_left (state_of t.ledger) (state_of t.ledger).stages old new forgets h.limits;
+  caller = h.caller;
+}

@@ -19,7 +19,7 @@ use Rattle.cf_model.proofs.Moves.{new_states-settled}
 use Rattle.cf_model.proofs.StateLemmas.{after-unsettled}
 use Rattle.cf_event.specs.Words.{word_of}
 use Rattle.cf_ledger.specs.Ledgers.{Ledger, state_of}
-use Rattle.cf_request.specs.Deadlines.{HaveStages}
+use Rattle.cf_request.specs.Deadlines.{AreSet}
 use Rattle.cf_request.specs.Lanes.{HasLanes}
 use Rattle.cf_request.specs.Relays.{AreThere}
 use Rattle.cf_request.specs.Settling.{AreSettledInTurn, IsOpen, Settles, SettlesDue, fault_event, raw, settle_event}
@@ -140,8 +140,8 @@ keeps_dues P who a b h = keeps_turns P who h.dues a b h.are
 pub follows_kept : (a b : Teller) (follows : List Follow) → Keeps a b → AreThere (state_of a.ledger) follows → AreThere (state_of b.ledger) follows
 follows_kept a b follows keeps h = subst (λ (n : ℕ). All (λ (f : Follow). (f.relay < n) × (f.stage < n)) follows) (sym keeps.count) h
 
-pub limits_kept : (a b : Teller) (ds : List Deadline) → Keeps a b → HaveStages (state_of a.ledger) ds → HaveStages (state_of b.ledger) ds
-limits_kept a b ds keeps h = subst (λ (n : ℕ). All (λ (d : Deadline). d.stage < n) ds) (sym keeps.count) h
+pub limits_kept : (a b : Teller) (ds : List Deadline) → Keeps a b → AreSet (state_of a.ledger) ds → AreSet (state_of b.ledger) ds
+limits_kept a b ds keeps h = record { there = subst (λ (n : ℕ). All (λ (d : Deadline). d.stage < n) ds) (sym keeps.count) h.there; in_order = h.in_order }
 
 pub lanes_kept : (a b : Teller) (lanes : List ℕ) → Keeps a b → HasLanes (state_of a.ledger) lanes → HasLanes (state_of b.ledger) lanes
 lanes_kept a b lanes keeps h = h ∙ sym keeps.count
@@ -152,9 +152,11 @@ follows_word a b follows l there =
     All-weaker (λ (f : Follow). (f.relay < length (state_of a).plan.stages) × (f.stage < length (state_of a).plan.stages)) (λ (f : Follow). (f.relay < length (state_of b).plan.stages) × (f.stage < length (state_of b).plan.stages))
     (λ f k. (let x = k.0 in omega (arith, x, l), let y = k.1 in omega (arith, y, l))) follows there
 
-pub limits_word : (a b : Ledger) (ds : List Deadline) → length (state_of a).plan.stages ≤ length (state_of b).plan.stages → HaveStages (state_of a) ds → HaveStages (state_of b) ds
-limits_word a b ds l there =
-    All-weaker (λ (d : Deadline). d.stage < length (state_of a).plan.stages) (λ (d : Deadline). d.stage < length (state_of b).plan.stages) (λ d k. omega (arith, k, l)) ds there
+pub limits_word : (a b : Ledger) (ds : List Deadline) → length (state_of a).plan.stages ≤ length (state_of b).plan.stages → AreSet (state_of a) ds → AreSet (state_of b) ds
+limits_word a b ds l h = record {
+  there = All-weaker (λ (d : Deadline). d.stage < length (state_of a).plan.stages) (λ (d : Deadline). d.stage < length (state_of b).plan.stages) (λ d k. omega (arith, k, l)) ds h.there;
+  in_order = h.in_order;
+}
 
 -- ---- a turn more
 

@@ -9,7 +9,7 @@ use Rattle.cf_ledger.specs.declared.faults.LedgerFault.TheVariants.{NoMemory as 
 use Rattle.cf_ledger.specs.declared.faults.StepFault.{StepFault}
 use Rattle.cf_ledger.specs.declared.faults.StepFault.TheVariants.{NoMemory as NoMemoryForStep}
 use Rattle.cf_ledger.specs.declared.step.Held.{Held}
-use Rattle.cf_request.specs.Deadlines.{HaveStages, IsOverdue, NoneLeft, open_of}
+use Rattle.cf_request.specs.Deadlines.{AreSet, Forgets, IsOverdue, NoneLeft, Sets}
 use Rattle.cf_request.specs.Lanes.{FinishesHeld, HasLanes, TakesIn, lanes_of}
 use Rattle.cf_request.specs.Refusals.{IsRefused, NoneToRefuse, open_below}
 use Rattle.cf_request.specs.Relays.{AreThere, IsRelayDue, IsRelayOr, NoneBehind}
@@ -43,7 +43,7 @@ pub record IsMachine (teller : Teller) (lanes : List ℕ) (places : ℕ) (follow
   pub all_lanes : HasLanes (state_of teller.ledger) lanes
   pub room : most_stages (state_of teller.ledger) ≤ places
   pub relays : AreThere (state_of teller.ledger) follows
-  pub limits : HaveStages (state_of teller.ledger) deadlines
+  pub limits : AreSet (state_of teller.ledger) deadlines
   pub caller : own ≤ 63
 
 -- memory may have been found for words to come, and nothing else has changed
@@ -103,14 +103,15 @@ IsNoFollow relay stage s Past = ⊥
 
 -- ---- deadlines
 
--- a deadline is set, behind those that are set already, and those of settled stages are forgotten
+-- a deadline is set in its place
 pub record SetsDeadline (d : Deadline) (old new : Machine) : Type 0 where
   pub there : d.stage < length (state_in old).plan.stages
-  pub same : new ≡ record old { deadlines = open_of (state_in old).stages (old.deadlines ++ d ∷ []) }
+  pub sets : Sets (state_in old).stages d old.deadlines new.deadlines
+  pub same : new ≡ record old { deadlines = new.deadlines }
 
 -- memory is wanted for the row of deadlines
 abbrev pub IsNoDeadline : Deadline → State → MachineFault → Type 0
-IsNoDeadline d s NoMemory = Unit {0}
+IsNoDeadline d s NoMemory = d.stage < length s.plan.stages
 IsNoDeadline d s NoStage = length s.plan.stages ≤ d.stage
 IsNoDeadline d s Past = ⊥
 
@@ -119,7 +120,8 @@ pub record Passes (moment : ℕ) (old new : Machine) : Type 0 where
   pub onward : old.moment ≤ moment
   pub settles : SettlesDue (IsRelayOr old.follows (IsOverdue moment old.deadlines)) old.own (with_memory (length old.follows + length old.deadlines) old.teller) new.teller
   pub none : NoneLeft old.follows moment old.deadlines (state_in new).stages
-  pub same : new ≡ record old { teller = new.teller; moment = moment }
+  pub forgets : Forgets (state_in new).stages old.deadlines new.deadlines
+  pub same : new ≡ record old { teller = new.teller; deadlines = new.deadlines; moment = moment }
 
 -- why time doesn't pass: too little memory was found before, or else the moment is before the last one
 abbrev pub IsNoPass : ℕ → Machine → MachineFault → Type 0

@@ -2,14 +2,14 @@
 ghost use Rattle.std.specs.Prelude.{◌≡◌, ◌+◌, ◌<◌, ◌≤◌, ◌++◌, [], IfErr, IfNone, IfOk, IfSome, OnErr, OnOk, drop, length, take, true, vec_capacity};
 ghost use Rattle.cf_forms.specs.Plans.{has_place, with_room};
 ghost use Rattle.cf_model.specs.States.{start};
-ghost use Rattle.cf_request.specs.Deadlines.{IsNextOpen, NoneOpen};
+ghost use Rattle.cf_request.specs.Deadlines.{AreInOrder, Forgets, IsNextOpen, NoneOpen};
 ghost use Rattle.cf_request.specs.Lanes.{NoneReadyIn, lanes_of, ready_below};
 ghost use Rattle.cf_request.specs.Machines.{AppliesWord, GoesOn, IsNoDeadline, IsNoFollow, IsNoNext, IsNoPass, IsNoWord, OnlyFinds, Passes, Refuses, SetsDeadline, SetsFollow, free_in, open_in, state_in};
 ghost use Rattle.cf_request.specs.Relays.{NoneBehind};
 ghost use Rattle.cf_request.specs.Rows.{unclaimed};
 ghost use Rattle.cf_request.specs.Telling.{AreFresh, AreSettled, IsOnce};
 
-use crate::deadlines::{Deadline, next_open, pass, retain_open};
+use crate::deadlines::{Deadline, next_open, pass, set};
 use crate::faults::MachineFault;
 use crate::lanes::{check_held, finish_held, ready_in, take};
 use crate::refusals::{open_stages, refuse};
@@ -18,6 +18,7 @@ use crate::teller::Teller;
 use cf_ledger::{Finish, Held, Ledger, LedgerFault, Reply, StepFault, Taken};
 use cf_plan::Plan;
 use std::alloc::{AllocError, Global};
+use std::collections::VecDeque;
 use std::marker::Model;
 
 /// What a caller is to do next.
@@ -32,13 +33,16 @@ pub struct Next {
 /// A request of a service.
 ///
 /// A contract sees its teller, of each stage the lane, which stages follow which, the deadlines in the order in which
-/// they were set, the last moment, and the caller by whose words the machine settles stages itself.
+/// they come, the last moment, and the caller by whose words the machine settles stages itself.
+///
+/// Deadlines of settled stages stay among the others until they come first or there is no place for a new one. So there
+/// are never more than eight and twice as many as there ever were of open stages at once.
 #[derive(Drop)]
 pub struct Machine {
     teller: Teller,
     lanes: Vec<u8>,
     follows: Vec<Follow>,
-    deadlines: Vec<Deadline>,
+    deadlines: VecDeque<Deadline>,
     moment: u64,
     own: u8,
 }
@@ -97,7 +101,7 @@ impl Machine {
             teller,
             lanes: kept,
             follows: Vec::new(alloc),
-            deadlines: Vec::new(alloc),
+            deadlines: VecDeque::new(alloc),
             moment: 0,
             own,
         })
@@ -164,19 +168,17 @@ impl Machine {
         Ok(())
     }
 
-    /// A stage has to be settled by a moment, or else `pass` settles it. Deadlines of settled stages are forgotten
-    /// then. It is refused for the first of: memory, a stage that isn't there.
+    /// A stage has to be settled by a moment, or else `pass` settles it. The deadline stands behind those that come up
+    /// to its moment. It is refused for the first of: a stage that isn't there, memory.
     pub fn deadline(&mut self, deadline: Deadline) -> Result<(), MachineFault>
         ensures set { OnOk result (SetsDeadline deadline self.old self.new) }
         ensures refused { OnErr result (self.new ≡ self.old) }
         ensures why { IfErr result (λ fault. IsNoDeadline deadline (state_in self.old) fault) }
     {
-        self.deadlines.reserve(1)?;
         if deadline.stage >= self.teller.stages() {
             return Err(MachineFault::NoStage);
         }
-        self.deadlines.push_reserved(deadline);
-        retain_open(&self.teller, &mut self.deadlines);
+        set(&self.teller, &mut self.deadlines, deadline)?;
         Ok(())
     }
 
@@ -185,6 +187,7 @@ impl Machine {
     /// of: memory for all relays and deadlines, a moment before the last one.
     pub fn pass(&mut self, moment: u64) -> Result<(), MachineFault>
         ensures passes { OnOk result (Passes moment self.old self.new) }
+        ensures order { AreInOrder self.old.deadlines }
         ensures refused { OnErr result (OnlyFinds self.old self.new) }
         ensures why { IfErr result (λ fault. IsNoPass moment self.old fault) }
     {
@@ -197,19 +200,23 @@ impl Machine {
         pass(
             &mut self.teller,
             &self.follows,
-            &self.deadlines,
+            &mut self.deadlines,
             moment,
             self.own,
         );
         Ok(())
     }
 
-    /// The least deadline of an open stage, and the first that was set of those that are equal, if there is one.
-    pub fn next_deadline(&self) -> Option<Deadline>
-        ensures next { IfSome result (λ d. IsNextOpen self.now.deadlines (state_in self.now).stages d) }
-        ensures none { IfNone result (NoneOpen self.now.deadlines (state_in self.now).stages) }
+    /// The first deadline of an open stage, if there is one. No deadline of an open stage comes before it, and of those
+    /// that come at the same moment it was set first. Those of settled stages that come before it are forgotten.
+    pub fn next_deadline(&mut self) -> Option<Deadline>
+        ensures next { IfSome result (λ d. IsNextOpen self.old.deadlines (state_in self.old).stages d) }
+        ensures none { IfNone result (NoneOpen self.old.deadlines (state_in self.old).stages) }
+        ensures order { AreInOrder self.old.deadlines }
+        ensures forgets { Forgets (state_in self.old).stages self.old.deadlines self.new.deadlines }
+        ensures rest { self.new ≡ record self.old { deadlines = self.new.deadlines } }
     {
-        next_open(&self.teller, &self.deadlines)
+        next_open(&self.teller, &mut self.deadlines)
     }
 
     /// Nobody runs a lane any more: its ready stages fail with a code, from the lowest on, and before each of them,
