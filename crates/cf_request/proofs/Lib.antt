@@ -1,6 +1,7 @@
 pub mod Lists
 pub mod Telling
 pub mod Words
+pub mod Sets
 pub mod Turns
 pub mod Moments
 pub mod Memory

@@ -20,10 +20,11 @@ use Rattle.cf_ledger.specs.declared.step.Taken.{Taken}
 use Rattle.cf_request.specs.Deadlines.{IsOverdue}
 use Rattle.cf_request.specs.Lanes.{FinishesHeld, NoneReadyIn, TakesIn}
 use Rattle.cf_request.specs.Machines.{GoesOn, Machine, open_in, state_in}
+use Rattle.cf_request.specs.Ready.{Lanes}
 use Rattle.cf_request.specs.Refusals.{IsRefused}
 use Rattle.cf_request.specs.Relays.{IsRelayDue, IsRelayOr}
 use Rattle.cf_request.specs.Rows.{AddsBehind, AreCalls, ComesToAnEnd, IsCall, IsLater, IsOpened, Job, Out, RunsOnce, TellsOnce, Took, WasGranted, WordsTellAll, all_jobs, all_told, job_of, nothing, stage_of, unclaimed}
-use Rattle.cf_request.specs.Rows.IsCall.{applies, goes_on, sets_follow, sets_deadline, passes, refuses, took, is_refused}
+use Rattle.cf_request.specs.Rows.IsCall.{applies, goes_on, sets_follow, sets_deadline, forgets, passes, refuses, took, is_refused}
 use Rattle.cf_request.specs.Settling.{AreSettledInTurn, SettlesDue, settle_event}
 use Rattle.cf_request.specs.Telling.{AreFresh, AreSettled, AreSettledBy, IsApart, Teller, Tells, TellsEvent, with_memory}
 use Rattle.cf_request.specs.declared.machine.Next.{Next}
@@ -37,6 +38,7 @@ use Rattle.cf_request.proofs.Turns.{after_event}
 
 -- the ledger is later, what was settled in order is so now, and nothing is taken
 record Onward (old new : Teller) : Type 0 where
+  lanes : new.lanes.count ≡ old.lanes.count
   later : IsLater old.ledger new.ledger
   settled : AreSettled old.ledger (old.taken ++ old.told) → AreSettled new.ledger (new.taken ++ new.told)
   taken : new.taken ≡ old.taken
@@ -51,19 +53,20 @@ settled_free old new xs plan events h = record {
 }
 
 onward_same : (t : Teller) → Onward t t
-onward_same t = record { later = later_free t.ledger t.ledger refl refl; settled = λ h. h; taken = refl }
+onward_same t = record { lanes = refl; later = later_free t.ledger t.ledger refl refl; settled = λ h. h; taken = refl }
 
 onward_is : (old new : Teller) → new ≡ old → Onward old new
 onward_is old new same = subst (Onward old) (sym same) (onward_same old)
 
 onward_free : (t : Teller) (n : ℕ) → Onward t (record t { ledger = record t.ledger { free = n } })
-onward_free t n = record { later = later_free t.ledger (record t.ledger { free = n }) refl refl; settled = settled_free t.ledger (record t.ledger { free = n }) (t.taken ++ t.told) refl refl; taken = refl }
+onward_free t n = record { lanes = refl; later = later_free t.ledger (record t.ledger { free = n }) refl refl; settled = settled_free t.ledger (record t.ledger { free = n }) (t.taken ++ t.told) refl refl; taken = refl }
 
 onward_then : (a b c : Teller) → Onward a b → Onward b c → Onward a c
-onward_then a b c h k = record { later = later_then a.ledger b.ledger c.ledger h.later k.later; settled = λ s. k.settled (h.settled s); taken = k.taken ∙ h.taken }
+onward_then a b c h k = record { lanes = k.lanes ∙ h.lanes; later = later_then a.ledger b.ledger c.ledger h.later k.later; settled = λ s. k.settled (h.settled s); taken = k.taken ∙ h.taken }
 
-onward_word : (old new : Teller) (word : ℕ) (reply : Reply) → Tells word old reply new → Onward old new
-onward_word old new word reply t = record {
+onward_word : (old new : Teller) (word : ℕ) (reply : Reply) → Tells word old reply new → new.lanes.count ≡ old.lanes.count → Onward old new
+onward_word old new word reply t lanes = record {
+  lanes = lanes;
   later = later_word old.ledger new.ledger word reply t.does;
   settled = λ h.
       subst (AreSettled new.ledger) (append_assoc old.taken old.told t.fresh ∙ ap (λ (l : List ℕ). old.taken ++ l) (sym t.told) ∙ ap (λ (l : List ℕ). l ++ new.told) (sym t.taken))
@@ -72,7 +75,7 @@ onward_word old new word reply t = record {
 }
 
 onward_event : (e : Event) (old new : Teller) (reply : Reply) → TellsEvent e old reply new → Onward old new
-onward_event e old new reply h = onward_word old new (word_of e) reply h.tells
+onward_event e old new reply h = onward_word old new (word_of e) reply h.tells (ap (λ (l : Lanes). l.count) h.lanes)
 
 onward_turns : (P : State → Due → Type 0) (who : ℕ) (dues : List Due) (a b : Teller) → AreSettledInTurn P who a dues b → Onward a b
 onward_turns P who [] a b same = onward_is a b same
@@ -99,6 +102,7 @@ IsClosedIn t i = is_claimable (stage_at (state_of t.ledger) i) ≡ false
 
 -- what it hands out: stages that might be claimed before, and can't be now, each granted; and what it told is taken
 record Effect (old : Teller) (out : Out) (new : Teller) : Type 0 where
+  lanes : new.lanes.count ≡ old.lanes.count
   later : IsLater old.ledger new.ledger
   settled : AreSettled old.ledger (old.taken ++ old.told) → AreSettled new.ledger (new.taken ++ new.told)
   taken : new.taken ≡ old.taken ++ out.told
@@ -111,6 +115,7 @@ record Effect (old : Teller) (out : Out) (new : Teller) : Type 0 where
 quiet : (old new : Teller) (out : Out) → out ≡ nothing → Onward old new → Effect old out new
 quiet old new out is h =
     let none : Effect old nothing new = record {
+      lanes = h.lanes;
       later = h.later;
       settled = h.settled;
       taken = h.taken ∙ sym (append-nil old.taken);
@@ -122,9 +127,9 @@ quiet old new out is h =
     } in
     subst (λ (o : Out). Effect old o new) (sym is) none
 
-takes : (who : ℕ) (lanes : List ℕ) (lane : ℕ) (old between : Teller) (taken : Option Taken) (new : Teller) → Onward old between → TakesIn who lanes lane between taken new → Effect old (job_of who taken) new
-takes who lanes lane old between None new h t = quiet old new nothing refl (onward_then old between new h (onward_is between new t.1))
-takes who lanes lane old between (Some t) new h k =
+takes : (who lane : ℕ) (old between : Teller) (taken : Option Taken) (new : Teller) → Onward old between → TakesIn who lane between taken new → Effect old (job_of who taken) new
+takes who lane old between None new h t = quiet old new nothing refl (onward_then old between new h (onward_is between new t.1))
+takes who lane old between (Some t) new h k =
     let on = onward_event (Claims who t.stage) between new (ToldClaim (Granted t.args)) k.done in
     let job : Job = record { who = who; taken = t } in
     let ready = k.lowest.ready in
@@ -137,6 +142,7 @@ takes who lanes lane old between (Some t) new h k =
     let is : k.done.tells.does.event ≡ Claims who t.stage = (let a = k.done.tells.does.read in let b = k.done.read in cc) in
     let written = k.done.tells.does.written in
     record {
+      lanes = on.lanes ∙ h.lanes;
       later = later_then old.ledger between.ledger new.ledger h.later on.later;
       settled = λ x. on.settled (h.settled x);
       taken = on.taken ∙ h.taken ∙ sym (append-nil old.taken);
@@ -159,6 +165,7 @@ takes_told count old new h =
     ∙ append_assoc a.taken (take count a.told) (drop count a.told) ∙ ap (λ (l : List ℕ). a.taken ++ l) (take-append-drop count a.told) in
     let later = later_free a.ledger b.ledger (ap (λ (l : Ledger). l.plan) h.ledger) (ap (λ (l : Ledger). l.events) h.ledger) in
     record {
+      lanes = ap (λ (l : Lanes). l.count) h.lanes;
       later = later;
       settled = λ s. subst (λ (l : Ledger). AreSettled l (b.taken ++ b.told)) (sym h.ledger) (subst (AreSettled a.ledger) (sym same) s);
       taken = h.taken;
@@ -178,11 +185,11 @@ effect old new out (applies word lane reply none h) =
     let found = with_memory (1 + length old.follows) old.teller in
     quiet old.teller new.teller out none
     (onward_then old.teller found new.teller (onward_free old.teller found.ledger.free)
-    (onward_then found h.between new.teller (onward_word found h.between word reply h.tells) (onward_dues (IsRelayDue old.follows) old.own h.between new.teller h.catches_up.settles)))
+    (onward_then found h.between new.teller (onward_word found h.between word reply h.tells (ap (λ (l : Lanes). l.count) h.lanes)) (onward_dues (IsRelayDue old.follows) old.own h.between new.teller h.catches_up.settles)))
 effect old new out (goes_on who lane held next is h) =
     let found = with_memory (2 + length old.follows) old.teller in
     subst (λ (o : Out). Effect old.teller o new.teller) (sym is)
-    (takes who old.lanes lane old.teller h.between next.taken new.teller
+    (takes who lane old.teller h.between next.taken new.teller
     (onward_then old.teller found h.between (onward_free old.teller found.ledger.free)
     (onward_then found h.finished h.between (onward_held who held found next.finish h.finished h.finishes) (onward_dues (IsRelayDue old.follows) old.own h.finished h.between h.catches_up.settles)))
     h.takes)
@@ -190,27 +197,18 @@ effect old new out (sets_follow relay stage none h) =
     let found = with_memory (1 + length old.follows) old.teller in
     quiet old.teller new.teller out none (settles (IsRelayDue new.follows) old.own found.ledger.free old.teller new.teller h.catches_up.settles)
 effect old new out (sets_deadline deadline none h) = quiet old.teller new.teller out none (onward_is old.teller new.teller (ap (λ (m : Machine). m.teller) h.same))
+effect old new out (forgets none same) = quiet old.teller new.teller out none (onward_is old.teller new.teller (ap (λ (m : Machine). m.teller) same))
 effect old new out (passes moment none h) =
     let found = with_memory (length old.follows + length old.deadlines) old.teller in
     quiet old.teller new.teller out none (settles (IsRelayOr old.follows (IsOverdue moment old.deadlines)) old.own found.ledger.free old.teller new.teller h.settles)
 effect old new out (refuses lane code none h) =
     let found = with_memory (open_in old) old.teller in
-    quiet old.teller new.teller out none (settles (IsRelayOr old.follows (IsRefused old.lanes lane code)) old.own found.ledger.free old.teller new.teller h.settles)
+    quiet old.teller new.teller out none (settles (IsRelayOr old.follows (IsRefused old.teller.lanes.of lane code)) old.own found.ledger.free old.teller new.teller h.settles)
 effect old new out (took count is h) = subst (λ (o : Out). Effect old.teller o new.teller) (sym is) (takes_told count old new h)
 effect old new out (is_refused none h) =
     quiet old.teller new.teller out none (subst (λ (m : Machine). Onward old.teller m.teller) (sym h.same) (onward_free old.teller new.teller.ledger.free))
 
 -- ---- a caller's step
-
-none_in : (who : ℕ) (lanes : List ℕ) (lane : ℕ) (old : Teller) (taken : Option Taken) (new : Teller) → TakesIn who lanes lane old taken new → IfNone taken (NoneReadyIn (state_of new.ledger) lanes lane (length (state_of new.ledger).plan.stages))
-none_in who lanes lane old None new h = subst (λ (t : Teller). NoneReadyIn (state_of t.ledger) lanes lane (length (state_of t.ledger).plan.stages)) (sym h.1) h.0
-none_in who lanes lane old (Some t) new h = tt
-
--- where none is told, none is ready
-pub none_forgotten : (who lane : ℕ) (held : Option Held) (old new : Machine) (next : Next) → GoesOn who lane held old next new → IfNone next.taken (NoneReadyIn (state_in new) new.lanes lane (length (state_in new).plan.stages))
-none_forgotten who lane held old new next h =
-    subst (λ (l : List ℕ). IfNone next.taken (NoneReadyIn (state_in new) l lane (length (state_in new).plan.stages))) (sym (ap (λ (m : Machine). m.lanes) h.same))
-    (none_in who old.lanes lane h.between next.taken new.teller h.takes)
 
 fewer_by : (who : ℕ) (taken : Option Taken) (a b : State) → length (job_of who taken).jobs + unclaimed b ≤ unclaimed a → IfSome taken (λ t. unclaimed b < unclaimed a)
 fewer_by who None a b h = tt
@@ -233,6 +231,7 @@ effect_then a b c x y h k =
     let less = h.fewer in
     let more = k.fewer in
     record {
+      lanes = k.lanes ∙ h.lanes;
       later = later_then a.ledger b.ledger c.ledger h.later k.later;
       settled = λ s. k.settled (h.settled s);
       taken = k.taken ∙ ap (λ (l : List ℕ). l ++ y.told) h.taken ∙ append_assoc a.taken x.told y.told;
@@ -278,7 +277,7 @@ pub comes_to_an_end : ComesToAnEnd
 comes_to_an_end old new outs calls = (effects old new outs calls).fewer
 
 pub adds_behind : AddsBehind
-adds_behind old new outs calls = let e = effects old new outs calls in record { later = e.later; taken = e.taken }
+adds_behind old new outs calls = let e = effects old new outs calls in record { later = e.later; taken = e.taken; lanes = e.lanes }
 
 pub words_tell_all : WordsTellAll
 words_tell_all old new outs opened calls = by_words old.teller.ledger new.teller.ledger opened.events (effects old new outs calls).later

@@ -45,6 +45,7 @@ pub record Took (count : ℕ) (old new : Machine) : Type 0 where
   pub ledger : new.teller.ledger ≡ old.teller.ledger
   pub taken : new.teller.taken ≡ old.teller.taken ++ take count old.teller.told
   pub told : new.teller.told ≡ drop count old.teller.told
+  pub lanes : new.teller.lanes ≡ old.teller.lanes
 
 -- one call, and what it hands out
 pub data IsCall (old : Machine) (out : Out) (new : Machine) : Type 0 where
@@ -52,6 +53,7 @@ pub data IsCall (old : Machine) (out : Out) (new : Machine) : Type 0 where
   goes_on : (who lane : ℕ) (held : Option Held) (next : Next) → out ≡ job_of who next.taken → GoesOn who lane held old next new → IsCall old out new
   sets_follow : (relay stage : ℕ) → out ≡ nothing → SetsFollow relay stage old new → IsCall old out new
   sets_deadline : (deadline : Deadline) → out ≡ nothing → SetsDeadline deadline old new → IsCall old out new
+  forgets : out ≡ nothing → new ≡ record old { deadlines = new.deadlines } → IsCall old out new
   passes : (moment : ℕ) → out ≡ nothing → Passes moment old new → IsCall old out new
   refuses : (lane code : ℕ) → out ≡ nothing → Refuses lane code old new → IsCall old out new
   took : (count : ℕ) → out ≡ (record { jobs = []; told = take count old.teller.told }) → Took count old new → IsCall old out new
@@ -129,10 +131,11 @@ pub record IsLater (old new : Ledger) : Type 0 where
   pub taken : AreTaken (state_of old) more
   pub words : All HasWord more
 
--- so it is after a row of calls, and what they told is taken behind what was
+-- so it is after a row of calls, what they told is taken behind what was, and there are as many lanes
 pub record IsBehind (old : Machine) (outs : List Out) (new : Machine) : Type 0 where
   pub later : IsLater old.teller.ledger new.teller.ledger
   pub taken : new.teller.taken ≡ old.teller.taken ++ all_told outs
+  pub lanes : new.teller.lanes.count ≡ old.teller.lanes.count
 
 abbrev pub AddsBehind : Type 0
 AddsBehind = (old new : Machine) (outs : List Out) → AreCalls old outs new → IsBehind old outs new

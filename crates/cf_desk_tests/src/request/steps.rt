@@ -33,14 +33,18 @@ pub(crate) enum Step {
 /// Whether a call is answered so.
 fn is_answered(machine: &mut Machine, step: Step) -> bool {
     match step {
-        Step::Apply(word, lane, answer) => machine.apply(word, lane) == answer,
-        Step::Next(who, lane, held, answer) => machine.next(who, lane, held) == answer,
-        Step::Ready(lane, answer) => machine.ready(lane) == answer,
+        Step::Apply(word, lane, answer) => {
+            lane < machine.lanes() && machine.apply(word, lane) == answer
+        }
+        Step::Next(who, lane, held, answer) => {
+            lane < machine.lanes() && machine.next(who, lane, held) == answer
+        }
+        Step::Ready(lane, answer) => lane < machine.lanes() && machine.ready(lane) == answer,
         Step::Follow(relay, stage, answer) => machine.follow(relay, stage) == answer,
         Step::Deadline(deadline, answer) => machine.deadline(deadline) == answer,
         Step::Pass(moment, answer) => machine.pass(moment) == answer,
         Step::NextDeadline(answer) => machine.next_deadline() == answer,
-        Step::Refuse(lane, code) => machine.refuse(lane, code).is_ok(),
+        Step::Refuse(lane, code) => { lane < machine.lanes() && machine.refuse(lane, code).is_ok() }
         Step::Told(answer) => machine.told() == answer,
         Step::Took(count) => {
             machine.took(count);
@@ -71,7 +75,7 @@ const STAGES: [Row<'static>; 7] = [
     (Form::Handle, &[4], Some(2)),
 ];
 
-/// The applies are lane 1's and lane 2's, and the handle is lane 1's.
+/// The applies are lane 1's and lane 2's, and the handle is lane 1's. There are four lanes.
 const LANES: [u8; 7] = [0, 0, 0, 0, 1, 2, 1];
 
 /// The machine's own caller.
@@ -82,5 +86,5 @@ pub(crate) fn opened(rt: &impl Abort, alloc: Global) -> Machine {
     let plan = plan_of(rt, alloc, &STAGES);
     holds(rt, plan.has_place(1), "place");
     holds(rt, plan.stages() == 7, "stages");
-    must(rt, Machine::new(alloc, &plan, 1, &LANES, OWN))
+    must(rt, Machine::new(alloc, &plan, 1, &LANES, 4, OWN))
 }

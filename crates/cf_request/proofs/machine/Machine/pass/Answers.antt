@@ -1,4 +1,4 @@
-use Rattle.std.proofs.Common.{List, ap, arith, length, vec_capacity}
+use Rattle.std.proofs.Common.{List, ap, arith, length}
 use Rattle.cf_ledger.specs.Ledgers.{state_of}
 use Rattle.cf_request.specs.Deadlines.{IsOverdue}
 use Rattle.cf_request.specs.Relays.{IsRelayOr}
@@ -20,8 +20,8 @@ pub invariant_of-self-2 : goal.invariant_of-self-2
 invariant_of-self-2 c =
     let m = c.self.inside in
     let r = c.reserve.new.self in
-    let kept = kept_none (IsRelayOr c.deref.result.now (IsOverdue c.args.moment m.deadlines.items)) m.own r c.pass.new.teller m.lanes.items (vec_capacity m.lanes) c.deref.result.now m.follows.items m.deadlines.items m.own c.pass.ensures.settles
-    (kept_memory _ m.teller r m.lanes.items (vec_capacity m.lanes) m.follows.items m.deadlines.items m.own c.in_ok-reserve.ensures.found c.self.invariant.0) c.deref.ensures.value c.pass.ensures.none.0 in (
-      kept_left c.pass.new.teller m.lanes.items (vec_capacity m.lanes) m.follows.items m.deadlines.items c.pass.new.deadlines.items m.own kept.0 c.pass.ensures.forgets,
+    let kept = kept_none (IsRelayOr c.deref.result.now (IsOverdue c.args.moment m.deadlines.items)) m.own r c.pass.new.teller c.deref.result.now m.follows.items m.deadlines.items m.own c.pass.ensures.settles
+    (kept_memory _ m.teller r m.follows.items m.deadlines.items m.own c.in_ok-reserve.ensures.found c.self.invariant.0) c.deref.ensures.value c.pass.ensures.none.0 in (
+      kept_left c.pass.new.teller m.follows.items m.deadlines.items c.pass.new.deadlines.items m.own kept.0 c.pass.ensures.forgets,
       kept.1,
     )
