@@ -1,6 +1,6 @@
 -- Rows of a machine's calls.
 use Rattle.std.proofs.Common.{◌≡◌, ◌≢◌, ℕ, ◌+◌, ◌<◌, ◌≤◌, true, false, Option, Some, None, List, [], ◌∷◌, ◌++◌, All, length, length-append, map, drop, take, refl, ap, sym, ◌∙◌, arith, subst, append_assoc, append-nil, take-append-drop}
-use Rattle.std.specs.Prelude.{IfNone, IfSome}
+use Rattle.std.specs.Prelude.{IfSome}
 use Rattle.std.proofs.lemmas.List.{map-append}
 use Rattle.std.proofs.lemmas.List.Elements.{All-append, All-cons, All-contains, All-nil, All-weaker}
 use Rattle.cf_model.specs.declared.events.Event.{Event}
@@ -18,7 +18,7 @@ use Rattle.cf_ledger.specs.declared.step.Finish.{Finish}
 use Rattle.cf_ledger.specs.declared.step.Held.{Held}
 use Rattle.cf_ledger.specs.declared.step.Taken.{Taken}
 use Rattle.cf_request.specs.Deadlines.{IsOverdue}
-use Rattle.cf_request.specs.Lanes.{FinishesHeld, NoneReadyIn, TakesIn}
+use Rattle.cf_request.specs.Lanes.{FinishesHeld, TakesIn}
 use Rattle.cf_request.specs.Machines.{GoesOn, Machine, open_in, state_in}
 use Rattle.cf_request.specs.Ready.{Lanes}
 use Rattle.cf_request.specs.Refusals.{IsRefused}
