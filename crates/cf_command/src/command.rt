@@ -10,7 +10,7 @@ use clap::{Arg, ArgMatches, Command as Words, Error};
 use std::alloc::Global;
 
 /// What the program is to do with the script that it reads.
-#[derive(Clone, Copy)]
+#[derive(Clone, Copy, Debug, PartialEq, Eq)]
 pub enum Command {
     /// Runs it, step by step.
     Run,

@@ -3,7 +3,7 @@ use std::error::Error;
 use std::fmt;
 
 /// Why the words after the program's name are no command.
-#[derive(Clone, Copy)]
+#[derive(Clone, Copy, Debug, PartialEq, Eq)]
 pub enum CommandFault {
     /// They aren't one of the commands of the usage line. A call for help is none either.
     Usage,

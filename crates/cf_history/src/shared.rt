@@ -32,7 +32,7 @@ pub struct Session {
 }
 
 /// One call of a session.
-#[derive(Clone, Copy)]
+#[derive(Clone, Copy, Debug, PartialEq, Eq)]
 pub enum Entry {
     /// It was answered.
     Known(Record),

@@ -3,7 +3,7 @@ use cf_model::{Reply, Told};
 use cf_outcome::Outcome;
 
 /// Whether a history fits, or the first thing in it that doesn't.
-#[derive(Clone, Copy)]
+#[derive(Clone, Copy, Debug, PartialEq, Eq)]
 pub enum Verdict {
     /// All records are those of one history.
     Fits,
@@ -38,7 +38,7 @@ pub enum Verdict {
 }
 
 /// Why a word can't stand at its place in a history.
-#[derive(Clone, Copy)]
+#[derive(Clone, Copy, Debug, PartialEq, Eq)]
 pub enum Unfit {
     /// It is no event's.
     NoEvent,
@@ -51,7 +51,7 @@ pub enum Unfit {
 }
 
 /// Why a record doesn't fit the history, where all before it do.
-#[derive(Clone, Copy)]
+#[derive(Clone, Copy, Debug, PartialEq, Eq)]
 pub enum Misfit {
     /// Its place comes before what the caller had been told of: before the place of the record before it, or, for a changing
     /// call, at or before that place.

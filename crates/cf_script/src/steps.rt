@@ -12,7 +12,7 @@ use cf_text::{write_reply, write_told};
 use std::alloc::AllocError;
 
 /// What a step is answered.
-#[derive(Clone, Copy)]
+#[derive(Clone, Copy, Debug, PartialEq, Eq)]
 pub enum StepAnswer {
     /// The reply to an event.
     Replied(Reply),
