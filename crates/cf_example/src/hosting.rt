@@ -74,7 +74,8 @@ fn turn<F: Functions, W: Waiters>(
         (record { machine = machine.new; functions = functions.new; waiters = waiters.new; held = holds }) holds) }
     ensures handed_out { OnOk result (IsHandedOut machine.new) }
     ensures none { IfOk result (λ holds. IfNone holds
-        (NoneReadyIn (state_in machine.new) machine.new.teller.lanes.of lane (length (state_in machine.new).plan.stages))) }
+        (NoneReadyIn (state_in machine.new) machine.new.teller.lanes.of lane
+        (length (state_in machine.new).plan.stages))) }
     ensures fewer { IfOk result (λ holds. IfSome holds (λ h.
         unclaimed (state_in machine.new) < unclaimed (state_in machine.old))) }
     ensures refused { OnErr result (OnlyFinds machine.old machine.new) }
@@ -104,7 +105,8 @@ pub fn do_word<W: Waiters>(
     waiters: &mut W,
 ) -> Result<Reply, LedgerFault>
     requires { lane < machine.old.teller.lanes.count }
-    ensures done { IfOk result (λ reply. AppliesThen W.wakes word lane machine.old waiters.old reply machine.new waiters.new) }
+    ensures done { IfOk result (λ reply.
+        AppliesThen W.wakes word lane machine.old waiters.old reply machine.new waiters.new) }
     ensures handed_out { OnOk result (IsHandedOut machine.new) }
     ensures refused { OnErr result (OnlyFinds machine.old machine.new) }
     ensures waiters { OnErr result (waiters.new ≡ waiters.old) }
