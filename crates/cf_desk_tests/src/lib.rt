@@ -1,5 +1,5 @@
-//! Tests of what several callers share: the desk, its example, the ledger, workers, runs and races. They use public calls alone, and
-//! are a crate of their own, since a crate with tests is proved twice, with them and without.
+//! Tests of what several callers share: the desk, its example, the ledger, the machine of a request, workers, runs and races.
+//! They use public calls alone, and are a crate of their own, since a crate with tests is proved twice, with them and without.
 #![tactic(auto)]
 
 #[cfg(test)]
@@ -12,3 +12,5 @@ mod ledger;
 mod plans;
 #[cfg(test)]
 mod pool;
+#[cfg(test)]
+mod request;

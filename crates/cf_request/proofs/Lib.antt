@@ -1,8 +1,9 @@
 pub mod Lists
 pub mod Telling
 pub mod Words
+pub mod Sets
 pub mod Turns
-pub mod Least
+pub mod Moments
 pub mod Memory
 pub mod Takings
 pub mod Machines

@@ -1,8 +1,7 @@
 -- What a machine keeps.
-use Rattle.std.proofs.Common.{◌≡◌, ℕ, zero, suc, ◌+◌, ◌<◌, ◌≤◌, Bool, true, false, cond, not, Option, Some, None, List, [], ◌∷◌, ◌++◌, length, length-append, nat_lt, refl, ap, set, sym, ◌∙◌, arith, subst}
+use Rattle.std.proofs.Common.{◌≡◌, ℕ, zero, suc, ◌+◌, ◌<◌, ◌≤◌, Bool, true, false, cond, Option, Some, None, List, [], ◌∷◌, ◌++◌, length, length-append, nat_lt, refl, ap, set, sym, ◌∙◌, arith, subst}
 use Rattle.std.specs.Prelude.{is_some, slice_get, unwrap_or}
-use Rattle.std.proofs.lemmas.Bool.{ltb-true, ltb-false}
-use Rattle.std.proofs.lemmas.List.Elements.{All-filter, All-push, All-weaker}
+use Rattle.std.proofs.lemmas.List.Elements.{All-push, All-weaker}
 use Rattle.cf_forms.specs.declared.forms.Args.{Args}
 use Rattle.cf_model.specs.declared.events.Event.TheVariants.{Claim as Claims, Finish as Finishes}
 use Rattle.cf_model.specs.declared.events.Reply.{Reply}
@@ -17,8 +16,8 @@ use Rattle.cf_ledger.specs.Steps.{finished_as}
 use Rattle.cf_ledger.specs.declared.step.Finish.{Finish}
 use Rattle.cf_ledger.specs.declared.step.Held.{Held}
 use Rattle.cf_ledger.specs.declared.step.Taken.{Taken}
-use Rattle.cf_request.specs.Deadlines.{HaveStages, open_of}
-use Rattle.cf_request.specs.Lanes.{FinishesHeld, TakesIn, lanes_of}
+use Rattle.cf_request.specs.Deadlines.{Forgets, Sets}
+use Rattle.cf_request.specs.Lanes.{FinishesHeld, TakesIn}
 use Rattle.cf_request.specs.Machines.{CatchesUp, IsMachine}
 use Rattle.cf_request.specs.Relays.{IsRelayDue, NoneBehind}
 use Rattle.cf_request.specs.Settling.{SettlesDue}
@@ -26,81 +25,55 @@ use Rattle.cf_request.specs.Telling.{Teller, Tells, TellsEvent, is_settled_in, w
 use Rattle.cf_request.specs.declared.deadlines.Deadline.{Deadline}
 use Rattle.cf_request.specs.declared.relays.Follow.{Follow}
 use Rattle.cf_request.specs.declared.settling.Due.{Due}
-use Rattle.cf_request.proofs.Turns.{Keeps, after_event, follows_kept, follows_word, keeps_dues, keeps_event, keeps_memory, keeps_same, lanes_kept, limits_kept, limits_word}
-use Rattle.cf_request.proofs.Telling.{same_most}
-use Rattle.cf_request.proofs.Words.{at_most_one, none_lost}
+use Rattle.cf_request.proofs.Moments.{set_left, set_more}
+use Rattle.cf_request.proofs.Turns.{Keeps, after_event, follows_kept, follows_word, keeps_dues, keeps_event, keeps_memory, keeps_same, limits_kept, limits_word}
+use Rattle.cf_request.proofs.Words.{none_lost}
 
-lanes_count_by : (b : Bool) (stages lane : ℕ) (lanes : List ℕ) → nat_lt (length lanes) stages ≡ b → length lanes ≤ stages → stages ≤ length lanes + 1 → length (cond b (lanes ++ lane ∷ []) lanes) ≡ stages
-lanes_count_by true stages lane lanes is low high =
-    let less = ltb-true (length lanes) stages is in
-    let size = length-append lanes (lane ∷ []) in
-    omega (arith, less, size, low, high)
-lanes_count_by false stages lane lanes is low high = let less = ltb-false (length lanes) stages is in omega (arith, less, low, high)
-
-pub kept_by : (a b : Teller) (lanes : List ℕ) (places : ℕ) (follows : List Follow) (deadlines : List Deadline) (own : ℕ) → Keeps a b → IsMachine a lanes places follows deadlines own → IsMachine b lanes places follows deadlines own
-kept_by a b lanes places follows deadlines own keeps h =
-    let most = keeps.most in
-    let room = h.room in
+pub kept_by : (a b : Teller) (follows : List Follow) (deadlines : List Deadline) (own : ℕ) → Keeps a b → IsMachine a follows deadlines own → IsMachine b follows deadlines own
+kept_by a b follows deadlines own keeps h =
     record {
-      all_lanes = lanes_kept a b lanes keeps h.all_lanes;
-      room = omega (arith, most, room);
       relays = follows_kept a b follows keeps h.relays;
       limits = limits_kept a b deadlines keeps h.limits;
       caller = h.caller;
     }
 
-pub kept_memory : (words : ℕ) (a b : Teller) (lanes : List ℕ) (places : ℕ) (follows : List Follow) (deadlines : List Deadline) (own : ℕ) → b ≡ with_memory words a → IsMachine a lanes places follows deadlines own →
-    IsMachine b lanes places follows deadlines own
-kept_memory words a b lanes places follows deadlines own is h = kept_by a b lanes places follows deadlines own (keeps_memory words a b is) h
+pub kept_memory : (words : ℕ) (a b : Teller) (follows : List Follow) (deadlines : List Deadline) (own : ℕ) → b ≡ with_memory words a → IsMachine a follows deadlines own →
+    IsMachine b follows deadlines own
+kept_memory words a b follows deadlines own is h = kept_by a b follows deadlines own (keeps_memory words a b is) h
 
--- what is kept, once a word is done
-pub kept_word : (a b : Teller) (word lane : ℕ) (reply : Reply) (lanes : List ℕ) (places : ℕ) (follows : List Follow) (deadlines : List Deadline) (own : ℕ) → IsMachine a lanes places follows deadlines own → Tells word a reply b →
-    IsMachine b (lanes_of (length (state_of b.ledger).plan.stages) lane lanes) places follows deadlines own
-kept_word a b word lane reply lanes places follows deadlines own h tells =
-    let n = length (state_of b.ledger).plan.stages in
-    let less = none_lost a.ledger b.ledger word reply tells.does in
-    let more = at_most_one a.ledger b.ledger word reply tells.does in
-    let most = same_most a.ledger b.ledger word reply tells.does in
-    let all = h.all_lanes in
-    let room = h.room in
+-- what is kept, once memory is found and a word is done
+pub kept_word : (words : ℕ) (a r b : Teller) (word : ℕ) (reply : Reply) (follows : List Follow) (deadlines : List Deadline) (own : ℕ) → IsMachine a follows deadlines own → r ≡ with_memory words a → Tells word r reply b → IsMachine b follows deadlines own
+kept_word words a r b word reply follows deadlines own was found tells =
+    let h = kept_memory words a r follows deadlines own found was in
+    let less = none_lost r.ledger b.ledger word reply tells.does in
     record {
-      all_lanes = lanes_count_by (nat_lt (length lanes) n) n lane lanes refl (omega (arith, all, less)) (omega (arith, all, more));
-      room = omega (arith, most, room);
-      relays = follows_word a.ledger b.ledger follows less h.relays;
-      limits = limits_word a.ledger b.ledger deadlines less h.limits;
+      relays = follows_word r.ledger b.ledger follows less h.relays;
+      limits = limits_word r.ledger b.ledger deadlines less h.limits;
       caller = h.caller;
     }
 
--- the same, once memory is found before, and the lanes are written
-pub kept_lanes : (words : ℕ) (a r b : Teller) (word lane : ℕ) (reply : Reply) (lanes lanes' : List ℕ) (stages places places' : ℕ) (follows : List Follow) (deadlines : List Deadline) (own : ℕ) → IsMachine a lanes places follows deadlines own → r ≡ with_memory words a →
-    Tells word r reply b → stages ≡ length (state_of b.ledger).plan.stages → lanes' ≡ lanes_of stages lane lanes → places' ≡ places → IsMachine b lanes' places' follows deadlines own
-kept_lanes words a r b word lane reply lanes lanes' stages places places' follows deadlines own h found tells count written same =
-    subst (λ (p : ℕ). IsMachine b lanes' p follows deadlines own) (sym same)
-    (subst (λ (l : List ℕ). IsMachine b l places follows deadlines own) (sym (written ∙ ap (λ (n : ℕ). lanes_of n lane lanes) count))
-    (kept_word r b word lane reply lanes places follows deadlines own (kept_memory words a r lanes places follows deadlines own found h) tells))
-
 -- and once due stages are settled
-pub kept_dues : (P : State → Due → Type 0) (who : ℕ) (a b : Teller) (lanes : List ℕ) (places : ℕ) (follows : List Follow) (deadlines : List Deadline) (own : ℕ) → SettlesDue P who a b → IsMachine a lanes places follows deadlines own →
-    IsMachine b lanes places follows deadlines own
-kept_dues P who a b lanes places follows deadlines own h m = kept_by a b lanes places follows deadlines own (keeps_dues P who a b h) m
+pub kept_dues : (P : State → Due → Type 0) (who : ℕ) (a b : Teller) (follows : List Follow) (deadlines : List Deadline) (own : ℕ) → SettlesDue P who a b → IsMachine a follows deadlines own →
+    IsMachine b follows deadlines own
+kept_dues P who a b follows deadlines own h m = kept_by a b follows deadlines own (keeps_dues P who a b h) m
 
 -- ---- a step of a caller
 
-keeps_held : (who : ℕ) (held : Option Held) (old : Teller) (finish : Option Finish) (new : Teller) → FinishesHeld who held old finish new → Keeps old new
+pub keeps_held : (who : ℕ) (held : Option Held) (old : Teller) (finish : Option Finish) (new : Teller) → FinishesHeld who held old finish new → Keeps old new
 keeps_held who None old None new h = keeps_same old new h
 keeps_held who (Some g) old (Some f) new h = keeps_event (Finishes who g.stage g.answer) old new (ToldFinish (finished_as f.late)) refl h.done
 keeps_held who None old (Some f) new h = absurd h
 keeps_held who (Some g) old None new h = absurd h
 
-pub keeps_takes : (who : ℕ) (lanes : List ℕ) (lane : ℕ) (old : Teller) (taken : Option Taken) (new : Teller) → TakesIn who lanes lane old taken new → Keeps old new
-keeps_takes who lanes lane old None new h = keeps_same old new h.1
-keeps_takes who lanes lane old (Some t) new h = keeps_event (Claims who t.stage) old new (ToldClaim (Granted t.args)) refl h.done
+pub keeps_takes : (who lane : ℕ) (old : Teller) (taken : Option Taken) (new : Teller) → TakesIn who lane old taken new → Keeps old new
+keeps_takes who lane old None new h = keeps_same old new h.1
+keeps_takes who lane old (Some t) new h = keeps_event (Claims who t.stage) old new (ToldClaim (Granted t.args)) refl h.done
 
 -- what is kept, once memory is found and what is held is finished
-pub kept_finish : (words : ℕ) (a r b : Teller) (who : ℕ) (held : Option Held) (finish : Option Finish) (lanes : List ℕ) (places : ℕ) (follows : List Follow) (deadlines : List Deadline) (own : ℕ) → IsMachine a lanes places follows deadlines own →
-    r ≡ with_memory words a → FinishesHeld who held r finish b → IsMachine b lanes places follows deadlines own
-kept_finish words a r b who held finish lanes places follows deadlines own h found done =
-    kept_by r b lanes places follows deadlines own (keeps_held who held r finish b done) (kept_memory words a r lanes places follows deadlines own found h)
+pub kept_finish : (words : ℕ) (a r b : Teller) (who : ℕ) (held : Option Held) (finish : Option Finish) (follows : List Follow) (deadlines : List Deadline) (own : ℕ) → IsMachine a follows deadlines own →
+    r ≡ with_memory words a → FinishesHeld who held r finish b → IsMachine b follows deadlines own
+kept_finish words a r b who held finish follows deadlines own h found done =
+    kept_by r b follows deadlines own (keeps_held who held r finish b done) (kept_memory words a r follows deadlines own found h)
 
 -- ---- no relay is behind
 
@@ -129,10 +102,10 @@ none_same follows old new same h =
     All-weaker (λ (f : Follow). is_settled_in old f.stage ≡ true → is_settled_in old f.relay ≡ true) (λ (f : Follow). is_settled_in new f.stage ≡ true → is_settled_in new f.relay ≡ true)
     (λ f k on. same f.relay ∙ k (sym (same f.stage) ∙ on)) follows h
 
-pub none_takes : (follows : List Follow) (who : ℕ) (lanes : List ℕ) (lane : ℕ) (old : Teller) (taken : Option Taken) (new : Teller) → TakesIn who lanes lane old taken new → NoneBehind follows (state_of old.ledger).stages →
+pub none_takes : (follows : List Follow) (who lane : ℕ) (old : Teller) (taken : Option Taken) (new : Teller) → TakesIn who lane old taken new → NoneBehind follows (state_of old.ledger).stages →
     NoneBehind follows (state_of new.ledger).stages
-none_takes follows who lanes lane old None new h none = subst (λ (t : Teller). NoneBehind follows (state_of t.ledger).stages) (sym h.1) none
-none_takes follows who lanes lane old (Some t) new h none =
+none_takes follows who lane old None new h none = subst (λ (t : Teller). NoneBehind follows (state_of t.ledger).stages) (sym h.1) none
+none_takes follows who lane old (Some t) new h none =
     none_same follows (state_of old.ledger).stages (state_of new.ledger).stages (claim_same who t.stage old new (ToldClaim (Granted t.args)) h.done) none
 
 -- ---- relays are settled at last
@@ -141,25 +114,33 @@ pub caught_up : (own : ℕ) (row follows : List Follow) (old new : Teller) → r
 caught_up own row follows old new is settles none =
     subst (λ (l : List Follow). CatchesUp own l old new) is (record { settles = settles; none = none })
 
-pub kept_none : (P : State → Due → Type 0) (who : ℕ) (a b : Teller) (lanes : List ℕ) (places : ℕ) (row follows : List Follow) (deadlines : List Deadline) (own : ℕ) → SettlesDue P who a b → IsMachine a lanes places follows deadlines own → row ≡ follows →
-    NoneBehind row (state_of b.ledger).stages → IsMachine b lanes places follows deadlines own × NoneBehind follows (state_of b.ledger).stages
-kept_none P who a b lanes places row follows deadlines own h m is none =
-    (kept_dues P who a b lanes places follows deadlines own h m, subst (λ (l : List Follow). NoneBehind l (state_of b.ledger).stages) is none)
+pub kept_none : (P : State → Due → Type 0) (who : ℕ) (a b : Teller) (row follows : List Follow) (deadlines : List Deadline) (own : ℕ) → SettlesDue P who a b → IsMachine a follows deadlines own → row ≡ follows →
+    NoneBehind row (state_of b.ledger).stages → IsMachine b follows deadlines own × NoneBehind follows (state_of b.ledger).stages
+kept_none P who a b row follows deadlines own h m is none =
+    (kept_dues P who a b follows deadlines own h m, subst (λ (l : List Follow). NoneBehind l (state_of b.ledger).stages) is none)
 
 -- ---- what is set
 
-pub kept_follow : (t : Teller) (lanes : List ℕ) (places : ℕ) (follows : List Follow) (deadlines : List Deadline) (own : ℕ) (f : Follow) → IsMachine t lanes places follows deadlines own → f.relay < length (state_of t.ledger).plan.stages →
-    f.stage < length (state_of t.ledger).plan.stages → IsMachine t lanes places (follows ++ f ∷ []) deadlines own
-kept_follow t lanes places follows deadlines own f h relay stage = record {
-  all_lanes = h.all_lanes;
-  room = h.room;
+pub kept_follow : (t : Teller) (follows : List Follow) (deadlines : List Deadline) (own : ℕ) (f : Follow) → IsMachine t follows deadlines own → f.relay < length (state_of t.ledger).plan.stages →
+    f.stage < length (state_of t.ledger).plan.stages → IsMachine t (follows ++ f ∷ []) deadlines own
+kept_follow t follows deadlines own f h relay stage = record {
   relays = All-push (λ (f : Follow). (f.relay < length (state_of t.ledger).plan.stages) × (f.stage < length (state_of t.ledger).plan.stages)) follows f h.relays (relay, stage);
   limits = h.limits;
   caller = h.caller;
 }
 
-pub limits_set : (s : State) (deadlines : List Deadline) (d : Deadline) → HaveStages s deadlines → d.stage < length s.plan.stages → HaveStages s (deadlines ++ d ∷ [])
-limits_set s deadlines d h l = All-push (λ (d : Deadline). d.stage < length s.plan.stages) deadlines d h l
+pub kept_set : (t : Teller) (follows : List Follow) (old new : List Deadline) (own : ℕ) (d : Deadline) → IsMachine t follows old own → d.stage < length (state_of t.ledger).plan.stages →
+    Sets (state_of t.ledger).stages d old new → IsMachine t follows new own
+kept_set t follows old new own d h l sets = record {
+  relays = h.relays;
+  limits = set_more (state_of t.ledger) (state_of t.ledger).stages d old new sets l h.limits;
+  caller = h.caller;
+}
 
-pub limits_left : (s : State) (deadlines : List Deadline) → HaveStages s deadlines → HaveStages s (open_of s.stages deadlines)
-limits_left s deadlines h = All-filter (λ (d : Deadline). not (is_settled_in s.stages d.stage)) (λ (d : Deadline). d.stage < length s.plan.stages) deadlines h
+-- and where some are forgotten
+pub kept_left : (t : Teller) (follows : List Follow) (old new : List Deadline) (own : ℕ) → IsMachine t follows old own → Forgets (state_of t.ledger).stages old new → IsMachine t follows new own
+kept_left t follows old new own h forgets = record {
+  relays = h.relays;
+  limits = set_left (state_of t.ledger) (state_of t.ledger).stages old new forgets h.limits;
+  caller = h.caller;
+}

@@ -23,7 +23,7 @@ use Rattle.cf_request.specs.Telling.{Teller, Tells, is_settled_in}
 use Rattle.cf_request.specs.declared.deadlines.Deadline.{Deadline}
 use Rattle.cf_request.specs.declared.relays.Follow.{Follow}
 use Rattle.cf_request.specs.declared.settling.Due.{Due}
-use Rattle.cf_request.proofs.Least.{next_in}
+use Rattle.cf_request.proofs.Moments.{next_in}
 use Rattle.cf_request.proofs.Turns.{StaySettled, keeps_settle}
 
 -- ---- a word takes the memory of one

@@ -19,6 +19,7 @@ use Rattle.cf_model.proofs.Histories.{state_after-append}
 use Rattle.cf_model.proofs.Moves.{keeps_outcomes}
 use Rattle.cf_model.proofs.Shape.{answered-grows}
 use Rattle.cf_ledger.specs.Ledgers.{Does, Ledger, and_event, state_at, state_of}
+use Rattle.cf_request.specs.Ready.{Lanes}
 use Rattle.cf_request.specs.Telling.{AreFresh, AreSettled, AreSettledBelow, AreSettledBy, IsKept, IsOnce, Teller, Tells, is_settled_in, most_stages}
 use Rattle.cf_request.proofs.Lists.{apart_append, apart_climbing, climbing_filter, climbing_push, contains_filter, few_apart}
 
@@ -235,13 +236,13 @@ kept_note old new word place reply order more news places count h does is are wr
     }
 
 -- what a contract sees of it
-abbrev pub view_of : Ledger → List ℕ → ℕ → Teller
-view_of ledger order count = record { ledger = ledger; taken = take count order; told = drop count order }
+abbrev pub view_of : Ledger → List ℕ → ℕ → Lanes → Teller
+view_of ledger order count lanes = record { ledger = ledger; taken = take count order; told = drop count order; lanes = lanes }
 
-pub tells_note : (old new : Ledger) (word place : ℕ) (reply : Reply) (order more news : List ℕ) (places count : ℕ) → IsKept old order places count → (does : Does word old reply new) → place ≡ length new.events - 1 →
+pub tells_note : (old new : Ledger) (word place : ℕ) (reply : Reply) (order more news : List ℕ) (places count : ℕ) (before after : Lanes) → IsKept old order places count → (does : Does word old reply new) → place ≡ length new.events - 1 →
     AreNews (state_at new place).stages (state_at new (place + 1)).stages news → more ≡ order ++ filter (is_settled_in (state_of new).stages) news →
-    Tells word (view_of old order count) reply (view_of new more count)
-tells_note old new word place reply order more news places count h does is are written =
+    Tells word (view_of old order count before) reply (view_of new more count after)
+tells_note old new word place reply order more news places count before after h does is are written =
     let fresh = filter (is_settled_in (state_of new).stages) news in
     record {
       does = does;
@@ -251,7 +252,7 @@ tells_note old new word place reply order more news places count h does is are w
       taken = ap (take count) written ∙ take-append-le count order fresh h.few;
     }
 
-none_there : (stages : List Stage) (i : ℕ) → length stages ≤ i → stage_in stages i ≡ Pending
+pub none_there : (stages : List Stage) (i : ℕ) → length stages ≤ i → stage_in stages i ≡ Pending
 none_there [] i l = refl
 none_there (x ∷ stages) zero l = absurd (omega (arith, l))
 none_there (x ∷ stages) (suc i) l = none_there stages i (omega (arith, l))

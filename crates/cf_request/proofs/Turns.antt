@@ -19,15 +19,15 @@ use Rattle.cf_model.proofs.Moves.{new_states-settled}
 use Rattle.cf_model.proofs.StateLemmas.{after-unsettled}
 use Rattle.cf_event.specs.Words.{word_of}
 use Rattle.cf_ledger.specs.Ledgers.{Ledger, state_of}
-use Rattle.cf_request.specs.Deadlines.{HaveStages}
-use Rattle.cf_request.specs.Lanes.{HasLanes}
+use Rattle.cf_request.specs.Deadlines.{AreSet}
+use Rattle.cf_request.specs.Ready.{Lanes}
 use Rattle.cf_request.specs.Relays.{AreThere}
 use Rattle.cf_request.specs.Settling.{AreSettledInTurn, IsOpen, Settles, SettlesDue, fault_event, raw, settle_event}
-use Rattle.cf_request.specs.Telling.{Teller, TellsEvent, is_settled_in, most_stages, with_memory}
+use Rattle.cf_request.specs.Telling.{Teller, TellsEvent, is_settled_in, with_memory}
 use Rattle.cf_request.specs.declared.deadlines.Deadline.{Deadline}
 use Rattle.cf_request.specs.declared.relays.Follow.{Follow}
 use Rattle.cf_request.specs.declared.settling.Due.{Due}
-use Rattle.cf_request.proofs.Telling.{outcome_stage, same_most, stays}
+use Rattle.cf_request.proofs.Telling.{outcome_stage, stays}
 use Rattle.cf_request.proofs.Words.{same_count}
 
 -- ---- an open stage is settled
@@ -105,17 +105,17 @@ StaySettled old new = (i : ℕ) → is_settled_in old i ≡ true → is_settled_
 pub record Keeps (old new : Teller) : Type 0 where
   pub settled : StaySettled (state_of old.ledger).stages (state_of new.ledger).stages
   pub count : length (state_of new.ledger).plan.stages ≡ length (state_of old.ledger).plan.stages
-  pub most : most_stages (state_of new.ledger) ≡ most_stages (state_of old.ledger)
+  pub lanes : new.lanes ≡ old.lanes
 
 pub keeps_same : (old new : Teller) → new ≡ old → Keeps old new
-keeps_same old new same = subst (λ (t : Teller). Keeps old t) (sym same) (record { settled = λ i h. h; count = refl; most = refl })
+keeps_same old new same = subst (λ (t : Teller). Keeps old t) (sym same) (record { settled = λ i h. h; count = refl; lanes = refl })
 
 -- nor does finding memory change anything of these
 pub keeps_memory : (words : ℕ) (old new : Teller) → new ≡ with_memory words old → Keeps old new
-keeps_memory words old new same = subst (λ (t : Teller). Keeps old t) (sym same) (record { settled = λ i h. h; count = refl; most = refl })
+keeps_memory words old new same = subst (λ (t : Teller). Keeps old t) (sym same) (record { settled = λ i h. h; count = refl; lanes = refl })
 
 pub keeps_then : (a b c : Teller) → Keeps a b → Keeps b c → Keeps a c
-keeps_then a b c h k = record { settled = λ i is. k.settled i (h.settled i is); count = k.count ∙ h.count; most = k.most ∙ h.most }
+keeps_then a b c h k = record { settled = λ i is. k.settled i (h.settled i is); count = k.count ∙ h.count; lanes = k.lanes ∙ h.lanes }
 
 pub keeps_event : (e : Event) (old new : Teller) (reply : Reply) → is_attach e ≡ false → TellsEvent e old reply new → Keeps old new
 keeps_event e old new reply isnt h =
@@ -124,7 +124,7 @@ keeps_event e old new reply isnt h =
     record {
       settled = λ i is. ap (λ (t : State). is_settled_in t.stages i) next ∙ ap is_some (stays s e i is) ∙ is;
       count = ap (λ (t : State). length t.plan.stages) next ∙ same_count e s isnt;
-      most = same_most old.ledger new.ledger (word_of e) reply h.tells.does;
+      lanes = h.lanes;
     }
 
 pub keeps_settle : (who : ℕ) (d : Due) (old new : Teller) → Settles who d old new → Keeps old new
@@ -140,11 +140,12 @@ keeps_dues P who a b h = keeps_turns P who h.dues a b h.are
 pub follows_kept : (a b : Teller) (follows : List Follow) → Keeps a b → AreThere (state_of a.ledger) follows → AreThere (state_of b.ledger) follows
 follows_kept a b follows keeps h = subst (λ (n : ℕ). All (λ (f : Follow). (f.relay < n) × (f.stage < n)) follows) (sym keeps.count) h
 
-pub limits_kept : (a b : Teller) (ds : List Deadline) → Keeps a b → HaveStages (state_of a.ledger) ds → HaveStages (state_of b.ledger) ds
-limits_kept a b ds keeps h = subst (λ (n : ℕ). All (λ (d : Deadline). d.stage < n) ds) (sym keeps.count) h
+pub limits_kept : (a b : Teller) (ds : List Deadline) → Keeps a b → AreSet (state_of a.ledger) ds → AreSet (state_of b.ledger) ds
+limits_kept a b ds keeps h = record { there = subst (λ (n : ℕ). All (λ (d : Deadline). d.stage < n) ds) (sym keeps.count) h.there; in_order = h.in_order }
 
-pub lanes_kept : (a b : Teller) (lanes : List ℕ) → Keeps a b → HasLanes (state_of a.ledger) lanes → HasLanes (state_of b.ledger) lanes
-lanes_kept a b lanes keeps h = h ∙ sym keeps.count
+-- a lane that is there stays there
+pub lane_kept : (a b : Teller) (lane : ℕ) → Keeps a b → lane < a.lanes.count → lane < b.lanes.count
+lane_kept a b lane keeps h = subst (λ (l : Lanes). lane < l.count) (sym keeps.lanes) h
 
 -- a word leaves what is named there
 pub follows_word : (a b : Ledger) (follows : List Follow) → length (state_of a).plan.stages ≤ length (state_of b).plan.stages → AreThere (state_of a) follows → AreThere (state_of b) follows
@@ -152,14 +153,16 @@ follows_word a b follows l there =
     All-weaker (λ (f : Follow). (f.relay < length (state_of a).plan.stages) × (f.stage < length (state_of a).plan.stages)) (λ (f : Follow). (f.relay < length (state_of b).plan.stages) × (f.stage < length (state_of b).plan.stages))
     (λ f k. (let x = k.0 in omega (arith, x, l), let y = k.1 in omega (arith, y, l))) follows there
 
-pub limits_word : (a b : Ledger) (ds : List Deadline) → length (state_of a).plan.stages ≤ length (state_of b).plan.stages → HaveStages (state_of a) ds → HaveStages (state_of b) ds
-limits_word a b ds l there =
-    All-weaker (λ (d : Deadline). d.stage < length (state_of a).plan.stages) (λ (d : Deadline). d.stage < length (state_of b).plan.stages) (λ d k. omega (arith, k, l)) ds there
+pub limits_word : (a b : Ledger) (ds : List Deadline) → length (state_of a).plan.stages ≤ length (state_of b).plan.stages → AreSet (state_of a) ds → AreSet (state_of b) ds
+limits_word a b ds l h = record {
+  there = All-weaker (λ (d : Deadline). d.stage < length (state_of a).plan.stages) (λ (d : Deadline). d.stage < length (state_of b).plan.stages) (λ d k. omega (arith, k, l)) ds h.there;
+  in_order = h.in_order;
+}
 
 -- ---- a turn more
 
 pub dues_none : (P : State → Due → Type 0) (who : ℕ) (a : Teller) → SettlesDue P who a a
-dues_none P who a = record { dues = []; are = refl }
+dues_none P who a = record { dues = []; are = refl; lanes = refl }
 
 turns_push : (P : State → Due → Type 0) (who : ℕ) (dues : List Due) (a b c : Teller) (d : Due) → AreSettledInTurn P who a dues b → IsOpen (state_of b.ledger) d.stage → P (state_of b.ledger) d → Settles who d b c →
     AreSettledInTurn P who a (dues ++ d ∷ []) c
@@ -168,4 +171,4 @@ turns_push P who [] a b c d same waits due done =
 turns_push P who (x ∷ dues) a b c d (between, was, is, did, rest) waits due done = (between, was, is, did, turns_push P who dues between b c d rest waits due done)
 
 pub dues_more : (P : State → Due → Type 0) (who : ℕ) (a b c : Teller) (d : Due) → SettlesDue P who a b → IsOpen (state_of b.ledger) d.stage → P (state_of b.ledger) d → Settles who d b c → SettlesDue P who a c
-dues_more P who a b c d h waits due done = record { dues = h.dues ++ d ∷ []; are = turns_push P who h.dues a b c d h.are waits due done }
+dues_more P who a b c d h waits due done = record { dues = h.dues ++ d ∷ []; are = turns_push P who h.dues a b c d h.are waits due done; lanes = done.done.lanes ∙ h.lanes }

@@ -1,5 +1,6 @@
 -- Events by their words.
-use Rattle.std.proofs.Common.{◌≡◌, ℕ, zero, suc, ◌+◌, ◌≤◌, Some, List, [], ◌∷◌, false, refl, ap, ◌∙◌, arith, length, length-append}
+use Rattle.std.proofs.Common.{◌≡◌, ℕ, zero, suc, ◌+◌, ◌≤◌, Bool, Some, List, [], ◌∷◌, ◌++◌, cond, true, false, nat_lt, refl, ap, ◌∙◌, arith, length, length-append}
+use Rattle.std.proofs.lemmas.Bool.{ltb-true}
 use Rattle.cf_forms.specs.Plans.{Planned, PlannedStage, attached_stage}
 use Rattle.cf_model.specs.declared.events.Event.{Event}
 use Rattle.cf_model.specs.declared.events.Event.TheVariants.{Complete as Completes, Fail as Fails, FailAs as FailsAs, Cancel as Cancels, Claim as Claims, Finish as Finishes, Tick as Ticks, Attach as Attaches}
@@ -11,18 +12,30 @@ use Rattle.cf_model.proofs.Shape.{answered-grows, answered-shape}
 use Rattle.cf_event.specs.Decoding.{event_of}
 use Rattle.cf_event.specs.Words.{word_of}
 use Rattle.cf_ledger.specs.Ledgers.{Does, Ledger, state_of}
+use Rattle.cf_request.specs.Ready.{HasLanes, Lanes, with_lane}
 use Rattle.cf_request.specs.Telling.{Teller, Tells, TellsEvent}
 use Rattle.cf_request.proofs.Telling.{next_is}
-
-pub event_told : (e : Event) (old new : Teller) (reply : Reply) → event_of (word_of e) ≡ Some e → Tells (word_of e) old reply new → TellsEvent e old reply new
-event_told e old new reply is h =
-    let same : h.does.event ≡ e = (let read = h.does.read in cc) in
-    record { tells = h; answered = h.does.told ∙ ap (answered (state_of old.ledger)) same }
 
 -- ---- how many stages there are
 
 pub same_count : (e : Event) (s : State) → is_attach e ≡ false → length ((answered s e).1.plan.stages) ≡ length s.plan.stages
 same_count e s isnt = ap (λ (p : Planned). length p.stages) (answered-shape s e isnt).plan
+
+same_lanes_by : (b : Bool) (stages lane : ℕ) (lanes : Lanes) → nat_lt (length lanes.of) stages ≡ b → length lanes.of ≡ stages → (record lanes { of = cond b (lanes.of ++ lane ∷ []) lanes.of }) ≡ lanes
+same_lanes_by true stages lane lanes less same = let l = ltb-true (length lanes.of) stages less in absurd (omega (arith, l, same))
+same_lanes_by false stages lane lanes less same = refl
+
+-- where all stages have a lane, none is added
+same_lanes : (stages lane : ℕ) (lanes : Lanes) → length lanes.of ≡ stages → with_lane stages lane lanes ≡ lanes
+same_lanes stages lane lanes same = same_lanes_by (nat_lt (length lanes.of) stages) stages lane lanes refl same
+
+pub event_told : (e : Event) (old new : Teller) (reply : Reply) → event_of (word_of e) ≡ Some e → is_attach e ≡ false → HasLanes (state_of old.ledger) old.lanes.of → Tells (word_of e) old reply new →
+    new.lanes ≡ with_lane (length (state_of new.ledger).plan.stages) 0 old.lanes → TellsEvent e old reply new
+event_told e old new reply is isnt all h lanes =
+    let same : h.does.event ≡ e = (let read = h.does.read in cc) in
+    let now = ap (λ (s : State). length s.plan.stages) (next_is old.ledger new.ledger (word_of e) reply h.does) in
+    let count = ap (λ (d : Event). length ((answered (state_of old.ledger) d).1.plan.stages)) same ∙ same_count e (state_of old.ledger) isnt in
+    record { tells = h; answered = h.does.told ∙ ap (answered (state_of old.ledger)) same; lanes = lanes ∙ same_lanes (length (state_of new.ledger).plan.stages) 0 old.lanes (omega (arith, all, now, count)) }
 
 one_more : (room : ℕ) (s : State) (new : PlannedStage) → length ((attached_by room s new).1.plan.stages) ≤ length s.plan.stages + 1
 one_more zero s new = omega arith

@@ -1,6 +1,7 @@
 -- Moments by which stages have to be settled.
-use Rattle.std.specs.Prelude.{◌≡◌, ℕ, ◌<◌, ◌≤◌, true, false, List, ◌∷◌, ◌++◌, All, Option, Some, None, cond, length, nat_le, not}
+use Rattle.std.specs.Prelude.{◌≡◌, ◌⊎◌, ℕ, ◌<◌, ◌≤◌, true, false, List, [], ◌∷◌, ◌++◌, All, length, not}
 use Rattle.std.specs.List.{filter}
+use Rattle.std.specs.List.Sorted.{IsNonDecreasingBy}
 use Rattle.cf_model.specs.declared.stage.Stage.{Stage}
 use Rattle.cf_model.specs.Events.{limit_outcome}
 use Rattle.cf_model.specs.States.{State}
@@ -10,22 +11,26 @@ use Rattle.cf_request.specs.declared.deadlines.Deadline.{Deadline}
 use Rattle.cf_request.specs.declared.relays.Follow.{Follow}
 use Rattle.cf_request.specs.declared.settling.Due.{Due}
 
--- the stages that they name are there
-abbrev pub HaveStages : State → List Deadline → Type 0
-HaveStages s deadlines = All (λ d. d.stage < length s.plan.stages) deadlines
+-- none comes before one that stands in front of it
+abbrev pub AreInOrder : List Deadline → Type 0
+AreInOrder deadlines = IsNonDecreasingBy (λ d. d.moment) deadlines
 
--- Of those whose stage is open, the first with the least moment: those that were set before it are later, and none that was set behind it is earlier.
-pub record IsNextOpen (deadlines : List Deadline) (stages : List Stage) (d : Deadline) : Type 0 where
-  pub front : List Deadline
-  pub back : List Deadline
-  pub is : deadlines ≡ front ++ d ∷ back
-  pub waits : is_settled_in stages d.stage ≡ false
-  pub before : All (λ e. is_settled_in stages e.stage ≡ false → d.moment < e.moment) front
-  pub behind : All (λ e. is_settled_in stages e.stage ≡ false → d.moment ≤ e.moment) back
+-- the stages that they name are there, and they stand in the order in which they come
+pub record AreSet (s : State) (deadlines : List Deadline) : Type 0 where
+  pub there : All (λ d. d.stage < length s.plan.stages) deadlines
+  pub in_order : AreInOrder deadlines
 
 -- no stage that has one is open
 abbrev pub NoneOpen : List Deadline → List Stage → Type 0
 NoneOpen deadlines stages = All (λ e. is_settled_in stages e.stage ≡ true) deadlines
+
+-- the first of those whose stage is open
+pub record IsNextOpen (deadlines : List Deadline) (stages : List Stage) (d : Deadline) : Type 0 where
+  pub front : List Deadline
+  pub back : List Deadline
+  pub is : deadlines ≡ front ++ d ∷ back
+  pub settled : NoneOpen front stages
+  pub waits : is_settled_in stages d.stage ≡ false
 
 -- no stage is open that has one up to a moment
 abbrev pub NoneOverdue : ℕ → List Deadline → List Stage → Type 0
@@ -39,9 +44,26 @@ pub record IsOverdue (moment : ℕ) (deadlines : List Deadline) (s : State) (d :
   pub stage : d.stage ≡ deadline.stage
   pub outcome : d.outcome ≡ limit_outcome deadline.kind
 
--- the deadlines of open stages
-abbrev pub open_of : List Stage → List Deadline → List Deadline
-open_of stages deadlines = filter (λ d. not (is_settled_in stages d.stage)) deadlines
+-- some of settled stages are left out
+abbrev pub Forgets : List Stage → List Deadline → List Deadline → Type 0
+Forgets stages [] new = new ≡ []
+Forgets stages (d ∷ old) new =
+    ((rest : List Deadline) × (new ≡ d ∷ rest) × Forgets stages old rest) ⊎ ((is_settled_in stages d.stage ≡ true) × Forgets stages old new)
+
+-- a new one stands behind all that come up to its moment, and before all that come later
+pub record IsPutAmong (d : Deadline) (old new : List Deadline) : Type 0 where
+  pub front : List Deadline
+  pub back : List Deadline
+  pub was : old ≡ front ++ back
+  pub is : new ≡ front ++ d ∷ back
+  pub before : All (λ e. e.moment ≤ d.moment) front
+  pub behind : All (λ e. d.moment < e.moment) back
+
+-- and some of settled stages may be left out
+pub record Sets (stages : List Stage) (d : Deadline) (old new : List Deadline) : Type 0 where
+  pub kept : List Deadline
+  pub forgets : Forgets stages old kept
+  pub put : IsPutAmong d kept new
 
 -- neither a relay nor a deadline is left
 abbrev pub NoneLeft : List Follow → ℕ → List Deadline → List Stage → Type 0
@@ -49,12 +71,6 @@ NoneLeft follows moment deadlines stages = NoneBehind follows stages × NoneOver
 
 -- ---- parts of it
 
--- the earlier of two, the first of which may not be there
-abbrev pub earlier : Option Deadline → Deadline → Deadline
-earlier None next = next
-earlier (Some best) next = cond (nat_le best.moment next.moment) best next
-
--- the next of those so far
-abbrev pub IsBestOf : List Deadline → List Stage → Option Deadline → Type 0
-IsBestOf deadlines stages None = NoneOpen deadlines stages
-IsBestOf deadlines stages (Some d) = IsNextOpen deadlines stages d
+-- those of open stages
+abbrev pub open_of : List Stage → List Deadline → List Deadline
+open_of stages deadlines = filter (λ d. not (is_settled_in stages d.stage)) deadlines

@@ -1,5 +1,5 @@
 -- Who is to run a stage's function.
-use Rattle.std.specs.Prelude.{◌≡◌, ◌≢◌, ℕ, zero, suc, ◌+◌, ◌<◌, ◌==◌, ◌&&◌, true, Option, Some, None, List, [], ◌∷◌, ◌++◌, cond, length, nat_lt, slice_index_or}
+use Rattle.std.specs.Prelude.{◌≡◌, ◌≢◌, ℕ, zero, suc, ◌+◌, ◌<◌, ◌==◌, ◌&&◌, true, Option, Some, None, List, cond, length}
 use Rattle.cf_forms.specs.Plans.{function_at}
 use Rattle.cf_model.specs.declared.events.Event.TheVariants.{Claim as Claims, Finish as Finishes'}
 use Rattle.cf_model.specs.declared.events.Reply.TheVariants.{Claim as ToldClaim, Finish as ToldFinish}
@@ -14,14 +14,8 @@ use Rattle.cf_ledger.specs.declared.faults.StepFault.TheVariants.{NoMemory}
 use Rattle.cf_ledger.specs.declared.step.Finish.{Finish}
 use Rattle.cf_ledger.specs.declared.step.Held.{Held}
 use Rattle.cf_ledger.specs.declared.step.Taken.{Taken}
+use Rattle.cf_request.specs.Ready.{lane_of}
 use Rattle.cf_request.specs.Telling.{Teller, TellsEvent}
-
--- there is a lane for each stage
-abbrev pub HasLanes : State → List ℕ → Type 0
-HasLanes s lanes = length lanes ≡ length s.plan.stages
-
-abbrev pub lane_of : List ℕ → ℕ → ℕ
-lane_of lanes i = slice_index_or lanes i 0
 
 -- no stage below a number is ready in a lane
 abbrev pub NoneReadyIn : State → List ℕ → ℕ → ℕ → Type 0
@@ -57,17 +51,13 @@ FinishesHeld who (Some h) old (Some f) new = FinishesStage who h old f new
 FinishesHeld who held old finish new = ⊥
 
 -- the lowest ready stage of a lane is claimed by the word for it
-pub record TakesStage (who : ℕ) (lanes : List ℕ) (lane : ℕ) (old : Teller) (t : Taken) (new : Teller) : Type 0 where
-  pub lowest : IsLowestIn (state_of old.ledger) lanes lane t.stage
+pub record TakesStage (who lane : ℕ) (old : Teller) (t : Taken) (new : Teller) : Type 0 where
+  pub lowest : IsLowestIn (state_of old.ledger) old.lanes.of lane t.stage
   pub word : t.word ≡ word_of (Claims who t.stage)
   pub done : TellsEvent (Claims who t.stage) old (ToldClaim (Granted t.args)) new
   pub function : t.function ≡ function_at (state_of old.ledger).plan.stages t.stage
 
 -- none is claimed just where none is ready, and then nothing is done
-abbrev pub TakesIn : ℕ → List ℕ → ℕ → Teller → Option Taken → Teller → Type 0
-TakesIn who lanes lane old None new = NoneReadyIn (state_of old.ledger) lanes lane (length (state_of old.ledger).plan.stages) × (new ≡ old)
-TakesIn who lanes lane old (Some t) new = TakesStage who lanes lane old t new
-
--- the lanes once there are so many stages, the last of which may be new
-abbrev pub lanes_of : ℕ → ℕ → List ℕ → List ℕ
-lanes_of stages lane lanes = cond (nat_lt (length lanes) stages) (lanes ++ lane ∷ []) lanes
+abbrev pub TakesIn : ℕ → ℕ → Teller → Option Taken → Teller → Type 0
+TakesIn who lane old None new = NoneReadyIn (state_of old.ledger) old.lanes.of lane (length (state_of old.ledger).plan.stages) × (new ≡ old)
+TakesIn who lane old (Some t) new = TakesStage who lane old t new

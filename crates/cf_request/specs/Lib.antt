@@ -1,3 +1,4 @@
+pub mod Ready
 pub mod Telling
 pub mod Settling
 pub mod Relays

@@ -9,22 +9,22 @@ use Rattle.cf_ledger.specs.declared.faults.LedgerFault.TheVariants.{NoMemory as 
 use Rattle.cf_ledger.specs.declared.faults.StepFault.{StepFault}
 use Rattle.cf_ledger.specs.declared.faults.StepFault.TheVariants.{NoMemory as NoMemoryForStep}
 use Rattle.cf_ledger.specs.declared.step.Held.{Held}
-use Rattle.cf_request.specs.Deadlines.{HaveStages, IsOverdue, NoneLeft, open_of}
-use Rattle.cf_request.specs.Lanes.{FinishesHeld, HasLanes, TakesIn, lanes_of}
+use Rattle.cf_request.specs.Deadlines.{AreSet, Forgets, IsOverdue, NoneLeft, Sets}
+use Rattle.cf_request.specs.Lanes.{FinishesHeld, TakesIn}
+use Rattle.cf_request.specs.Ready.{with_lane}
 use Rattle.cf_request.specs.Refusals.{IsRefused, NoneToRefuse, open_below}
 use Rattle.cf_request.specs.Relays.{AreThere, IsRelayDue, IsRelayOr, NoneBehind}
 use Rattle.cf_request.specs.Settling.{SettlesDue}
-use Rattle.cf_request.specs.Telling.{Teller, Tells, most_stages, with_memory}
+use Rattle.cf_request.specs.Telling.{Teller, Tells, with_memory}
 use Rattle.cf_request.specs.declared.deadlines.Deadline.{Deadline}
 use Rattle.cf_request.specs.declared.faults.MachineFault.{MachineFault}
 use Rattle.cf_request.specs.declared.faults.MachineFault.TheVariants.{NoMemory, NoStage, Past}
 use Rattle.cf_request.specs.declared.machine.Next.{Next}
 use Rattle.cf_request.specs.declared.relays.Follow.{Follow}
 
--- what is told of a ledger, of each stage the lane, which stages follow which, the deadlines, the last moment, and the machine's own caller
+-- what is told of a ledger and who runs its stages, which stages follow which, the deadlines, the last moment, and the machine's own caller
 pub record Machine : Type 0 where
   pub teller : Teller
-  pub lanes : List ℕ
   pub follows : List Follow
   pub deadlines : List Deadline
   pub moment : ℕ
@@ -38,12 +38,10 @@ state_in m = state_of m.teller.ledger
 abbrev pub free_in : Machine → ℕ
 free_in m = m.teller.ledger.free
 
--- each stage has a lane, with places for those that may be attached, and all stages that are named are there
-pub record IsMachine (teller : Teller) (lanes : List ℕ) (places : ℕ) (follows : List Follow) (deadlines : List Deadline) (own : ℕ) : Type 0 where
-  pub all_lanes : HasLanes (state_of teller.ledger) lanes
-  pub room : most_stages (state_of teller.ledger) ≤ places
+-- all stages that are named are there
+pub record IsMachine (teller : Teller) (follows : List Follow) (deadlines : List Deadline) (own : ℕ) : Type 0 where
   pub relays : AreThere (state_of teller.ledger) follows
-  pub limits : HaveStages (state_of teller.ledger) deadlines
+  pub limits : AreSet (state_of teller.ledger) deadlines
   pub caller : own ≤ 63
 
 -- memory may have been found for words to come, and nothing else has changed
@@ -62,8 +60,9 @@ pub record CatchesUp (own : ℕ) (follows : List Follow) (old new : Teller) : Ty
 pub record AppliesWord (word lane : ℕ) (old : Machine) (reply : Reply) (new : Machine) : Type 0 where
   pub between : Teller
   pub tells : Tells word (with_memory (1 + length old.follows) old.teller) reply between
+  pub lanes : between.lanes ≡ with_lane (length (state_of between.ledger).plan.stages) lane old.teller.lanes
   pub catches_up : CatchesUp old.own old.follows between new.teller
-  pub same : new ≡ record old { teller = new.teller; lanes = lanes_of (length (state_of between.ledger).plan.stages) lane old.lanes }
+  pub same : new ≡ record old { teller = new.teller }
 
 -- why a word isn't done: too little memory was found before, or else the first of a ledger's reasons
 abbrev pub IsNoWord : ℕ → Machine → LedgerFault → Type 0
@@ -78,7 +77,7 @@ pub record GoesOn (who lane : ℕ) (held : Option Held) (old : Machine) (next : 
   pub finishes : FinishesHeld who held (with_memory (2 + length old.follows) old.teller) next.finish finished
   pub between : Teller
   pub catches_up : CatchesUp old.own old.follows finished between
-  pub takes : TakesIn who old.lanes lane between next.taken new.teller
+  pub takes : TakesIn who lane between next.taken new.teller
   pub same : new ≡ record old { teller = new.teller }
 
 -- why nothing is done: too little memory was found before, or else the first of a step's reasons
@@ -103,14 +102,15 @@ IsNoFollow relay stage s Past = ⊥
 
 -- ---- deadlines
 
--- a deadline is set, behind those that are set already, and those of settled stages are forgotten
+-- a deadline is set in its place
 pub record SetsDeadline (d : Deadline) (old new : Machine) : Type 0 where
   pub there : d.stage < length (state_in old).plan.stages
-  pub same : new ≡ record old { deadlines = open_of (state_in old).stages (old.deadlines ++ d ∷ []) }
+  pub sets : Sets (state_in old).stages d old.deadlines new.deadlines
+  pub same : new ≡ record old { deadlines = new.deadlines }
 
 -- memory is wanted for the row of deadlines
 abbrev pub IsNoDeadline : Deadline → State → MachineFault → Type 0
-IsNoDeadline d s NoMemory = Unit {0}
+IsNoDeadline d s NoMemory = d.stage < length s.plan.stages
 IsNoDeadline d s NoStage = length s.plan.stages ≤ d.stage
 IsNoDeadline d s Past = ⊥
 
@@ -119,7 +119,8 @@ pub record Passes (moment : ℕ) (old new : Machine) : Type 0 where
   pub onward : old.moment ≤ moment
   pub settles : SettlesDue (IsRelayOr old.follows (IsOverdue moment old.deadlines)) old.own (with_memory (length old.follows + length old.deadlines) old.teller) new.teller
   pub none : NoneLeft old.follows moment old.deadlines (state_in new).stages
-  pub same : new ≡ record old { teller = new.teller; moment = moment }
+  pub forgets : Forgets (state_in new).stages old.deadlines new.deadlines
+  pub same : new ≡ record old { teller = new.teller; deadlines = new.deadlines; moment = moment }
 
 -- why time doesn't pass: too little memory was found before, or else the moment is before the last one
 abbrev pub IsNoPass : ℕ → Machine → MachineFault → Type 0
@@ -135,6 +136,6 @@ open_in m = open_below (state_in m).stages (length (state_in m).plan.stages)
 
 -- ready stages of the lane fail, and relays before them are settled, until none is left
 pub record Refuses (lane code : ℕ) (old new : Machine) : Type 0 where
-  pub settles : SettlesDue (IsRelayOr old.follows (IsRefused old.lanes lane code)) old.own (with_memory (open_in old) old.teller) new.teller
-  pub none : NoneToRefuse old.follows old.lanes lane (state_in new)
+  pub settles : SettlesDue (IsRelayOr old.follows (IsRefused old.teller.lanes.of lane code)) old.own (with_memory (open_in old) old.teller) new.teller
+  pub none : NoneToRefuse old.follows old.teller.lanes.of lane (state_in new)
   pub same : new ≡ record old { teller = new.teller }

@@ -49,3 +49,4 @@ AreSettledInTurn IsDue who old (d ∷ dues) new =
 pub record SettlesDue (IsDue : State → Due → Type 0) (who : ℕ) (old new : Teller) : Type 0 where
   pub dues : List Due
   pub are : AreSettledInTurn IsDue who old dues new
+  pub lanes : new.lanes ≡ old.lanes

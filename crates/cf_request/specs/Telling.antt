@@ -8,6 +8,7 @@ use Rattle.cf_model.specs.Graphs.{IsClimbing}
 use Rattle.cf_model.specs.States.{State, outcome_in, start}
 use Rattle.cf_event.specs.Words.{word_of}
 use Rattle.cf_ledger.specs.Ledgers.{Does, Ledger, state_of}
+use Rattle.cf_request.specs.Ready.{Lanes}
 
 -- whether a stage is settled
 abbrev pub is_settled_in : List Stage → ℕ → Bool
@@ -34,11 +35,12 @@ pub record AreSettled (ledger : Ledger) (xs : List ℕ) : Type 0 where
   pub first : AreFresh [] (start ledger.plan).stages opening
   pub rest : AreSettledBy (start ledger.plan) ledger.events later
 
--- the ledger, what the host has taken, and what is told and wasn't taken yet
+-- the ledger, what the host has taken, what is told and wasn't taken yet, and who runs the stages
 pub record Teller : Type 0 where
   pub ledger : Ledger
   pub taken : List ℕ
   pub told : List ℕ
+  pub lanes : Lanes
 
 -- the same, with memory for so many words at least
 abbrev pub with_memory : ℕ → Teller → Teller
@@ -63,10 +65,11 @@ pub record Tells (word : ℕ) (old : Teller) (reply : Reply) (new : Teller) : Ty
   pub told : new.told ≡ old.told ++ fresh
   pub taken : new.taken ≡ old.taken
 
--- an event is done by its word
+-- an event that attaches nothing is done by its word
 pub record TellsEvent (event : Event) (old : Teller) (reply : Reply) (new : Teller) : Type 0 where
   pub tells : Tells (word_of event) old reply new
   pub answered : (reply, state_of new.ledger) ≡ answered (state_of old.ledger) event
+  pub lanes : new.lanes ≡ old.lanes
 
 -- no number stands twice
 abbrev pub IsApart : List ℕ → Type 0

@@ -1,61 +1,18 @@
-//! Who is to run a stage's function, and what there is to run.
-ghost use Rattle.std.specs.Prelude.{◌≡◌, ◌<◌, ◌≤◌, IfErr, IfNone, IfOk, IfSome, OnErr, OnOk, Some, length, true};
+//! A caller's step: it finishes what it holds, and claims what its lane has.
+ghost use Rattle.std.specs.Prelude.{◌≡◌, ◌<◌, ◌≤◌, IfErr, OnOk, Some, length, true};
 ghost use Rattle.cf_event.specs.Words.{word_of};
 ghost use Rattle.cf_forms.specs.Plans.{function_at};
 ghost use Rattle.cf_ledger.specs.Ledgers.{state_of};
-ghost use Rattle.cf_ledger.specs.Steps.{IsHeld, IsNoStep, finished_as};
+ghost use Rattle.cf_ledger.specs.Steps.{IsHeld};
 ghost use Rattle.cf_model.specs.Graphs.{stage_in};
 ghost use Rattle.cf_model.specs.States.{claim_at, is_ready};
-ghost use Rattle.cf_request.specs.Lanes.{FinishesHeld, FinishesStage, HasLanes, IsLowestIn, IsNoFinish, NoneReadyIn, TakesIn, ready_below};
+ghost use Rattle.cf_request.specs.Lanes.{FinishesHeld, FinishesStage, IsNoFinish, TakesIn};
 ghost use Rattle.cf_request.specs.Telling.{TellsEvent};
 
 use crate::teller::Teller;
 use cf_event::{LAST_CALLER, encode};
-use cf_ledger::{Event, Finish, Held, Ledger, Reply, Stage, StepFault, Taken};
+use cf_ledger::{Event, Finish, Held, Reply, StepFault, Taken};
 use cf_model::{Claimed, Finished};
-
-/// The lowest ready stage of a lane. It costs a look at each stage before it.
-pub(crate) fn lowest_in(ledger: &Ledger, lanes: &[u8], lane: u8) -> Option<u16>
-    requires lanes { HasLanes (state_of ledger.now) lanes.now }
-    ensures lowest { IfSome result (λ i. IsLowestIn (state_of ledger.now) lanes.now lane i) }
-    ensures none { IfNone result
-        (NoneReadyIn (state_of ledger.now) lanes.now lane (length (state_of ledger.now).plan.stages)) }
-{
-    // Their numbers fit 16 bits.
-    let _known = ledger.stages();
-    let mut from: u16 = 0;
-    while let Some(i) = ledger.next_ready(from) {
-        if lanes[i as usize] == lane {
-            return Some(i);
-        }
-        from = i + 1;
-    }
-    None
-}
-
-/// How many stages of a lane are ready. It costs a look at each stage.
-pub(crate) fn ready_in(ledger: &Ledger, lanes: &[u8], lane: u8) -> u16
-    requires lanes { HasLanes (state_of ledger.now) lanes.now }
-    ensures { result ≡ ready_below (state_of ledger.now) lanes.now lane (length (state_of ledger.now).plan.stages) }
-{
-    let mut count: u16 = 0;
-    for i in 0..ledger.stages() {
-        if is_ready(ledger.stage(i)) && lanes[i as usize] == lane {
-            count += 1;
-        }
-    }
-    count
-}
-
-/// Whether a stage in this state is ready.
-fn is_ready(stage: Stage) -> bool
-    ensures { result ≡ is_ready stage }
-{
-    match stage {
-        Stage::Ready(_) => true,
-        _ => false,
-    }
-}
 
 /// Whether a caller can finish what it holds, if it holds a stage. It is refused for the first of: its caller's number,
 /// the stage, its claim.
@@ -125,13 +82,13 @@ fn finish(teller: &mut Teller, who: u8, held: Held) -> Finish
 }
 
 /// Claims the lowest ready stage of a lane, if there is one, where memory was found for a word.
-pub(crate) fn take(teller: &mut Teller, lanes: &[u8], who: u8, lane: u8) -> Option<Taken>
+pub(crate) fn take(teller: &mut Teller, who: u8, lane: u8) -> Option<Taken>
     requires caller { who ≤ 63 }
-    requires lanes { HasLanes (state_of teller.old.ledger) lanes.now }
+    requires lane { lane < teller.old.lanes.count }
     requires memory { 0 < teller.old.ledger.free }
-    ensures { TakesIn who lanes.now lane teller.old result teller.new }
+    ensures { TakesIn who lane teller.old result teller.new }
 {
-    let Some(stage) = lowest_in(teller.ledger(), lanes, lane) else {
+    let Some(stage) = teller.lowest(lane) else {
         return None;
     };
     Some(claim(teller, who, stage))

@@ -19,6 +19,7 @@ mod faults;
 mod lanes;
 pub mod laws;
 mod machine;
+mod ready;
 mod refusals;
 mod relays;
 mod settling;

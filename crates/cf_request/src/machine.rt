@@ -1,22 +1,24 @@
 //! The machine.
-ghost use Rattle.std.specs.Prelude.{◌≡◌, ◌+◌, ◌<◌, ◌≤◌, ◌++◌, [], IfErr, IfNone, IfOk, IfSome, OnErr, OnOk, drop, length, take, true, vec_capacity};
+ghost use Rattle.std.specs.Prelude.{◌≡◌, ◌<◌, ◌≤◌, ◌++◌, [], All, IfErr, IfNone, IfOk, IfSome, OnErr, OnOk, drop, length, take, true};
 ghost use Rattle.cf_forms.specs.Plans.{has_place, with_room};
 ghost use Rattle.cf_model.specs.States.{start};
-ghost use Rattle.cf_request.specs.Deadlines.{IsNextOpen, NoneOpen};
-ghost use Rattle.cf_request.specs.Lanes.{lanes_of, ready_below};
+ghost use Rattle.cf_request.specs.Deadlines.{AreInOrder, Forgets, IsNextOpen, NoneOpen};
+ghost use Rattle.cf_request.specs.Lanes.{ready_below};
+ghost use Rattle.cf_request.specs.Ready.{IsLaneCount};
 ghost use Rattle.cf_request.specs.Machines.{AppliesWord, GoesOn, IsNoDeadline, IsNoFollow, IsNoNext, IsNoPass, IsNoWord, OnlyFinds, Passes, Refuses, SetsDeadline, SetsFollow, free_in, open_in, state_in};
 ghost use Rattle.cf_request.specs.Relays.{NoneBehind};
 ghost use Rattle.cf_request.specs.Telling.{AreFresh, AreSettled, IsOnce};
 
-use crate::deadlines::{Deadline, next_open, pass, retain_open};
+use crate::deadlines::{Deadline, next_open, pass, set};
 use crate::faults::MachineFault;
-use crate::lanes::{check_held, finish_held, ready_in, take};
+use crate::lanes::{check_held, finish_held, take};
 use crate::refusals::{open_stages, refuse};
 use crate::relays::{Follow, catch_up};
 use crate::teller::Teller;
 use cf_ledger::{Finish, Held, Ledger, LedgerFault, Reply, StepFault, Taken};
 use cf_plan::Plan;
 use std::alloc::{AllocError, Global};
+use std::collections::VecDeque;
 use std::marker::Model;
 
 /// What a caller is to do next.
@@ -30,14 +32,16 @@ pub struct Next {
 
 /// A request of a service.
 ///
-/// A contract sees its teller, of each stage the lane, which stages follow which, the deadlines in the order in which
-/// they were set, the last moment, and the caller by whose words the machine settles stages itself.
+/// A contract sees its teller with the lanes, which stages follow which, the deadlines in the order in which they come,
+/// the last moment, and the caller by whose words the machine settles stages itself.
+///
+/// Deadlines of settled stages stay among the others until they come first or there is no place for a new one. So there
+/// are never more than eight and twice as many as there ever were of open stages at once.
 #[derive(Drop)]
 pub struct Machine {
     teller: Teller,
-    lanes: Vec<u8>,
     follows: Vec<Follow>,
-    deadlines: Vec<Deadline>,
+    deadlines: VecDeque<Deadline>,
     moment: u64,
     own: u8,
 }
@@ -47,56 +51,54 @@ impl Model for Machine {
 
     ghost Value = { Machine };
 
-    ghost use Rattle.std.specs.Prelude.{vec_capacity};
     ghost use Rattle.cf_ledger.specs.Ledgers.{state_of};
     ghost use Rattle.cf_request.specs.Machines.{IsMachine};
     ghost use Rattle.cf_request.specs.Relays.{NoneBehind};
 
     ghost view = { λ m. record {
       teller = m.teller;
-      lanes = m.lanes.items;
       follows = m.follows.items;
       deadlines = m.deadlines.items;
       moment = m.moment;
       own = m.own;
     } };
 
-    ghost invariant = { λ m.
-        IsMachine m.teller m.lanes.items (vec_capacity m.lanes) m.follows.items m.deadlines.items m.own
+    ghost invariant = { λ m. IsMachine m.teller m.follows.items m.deadlines.items m.own
         × NoneBehind m.follows.items (state_of m.teller.ledger).stages };
 }
 
 impl Machine {
-    /// The machine of a plan with room for so many stages more, and with the lanes of its stages. Nothing follows,
-    /// nothing is due, the moment is 0, and told are the stages that are settled from the start. It settles stages as
-    /// this caller. It fails only where there is no memory.
+    /// The machine of a plan with room for so many stages more, and with the lanes of its stages, of which there are so
+    /// many. Nothing follows, nothing is due, the moment is 0, and told are the stages that are settled from the start.
+    /// It settles stages as this caller. It fails only where there is no memory.
     pub fn new(
         alloc: Global,
         plan: &Plan,
         room: u16,
-        lanes: &[u8],
+        of: &[u8],
+        lanes: u8,
         own: u8,
     ) -> Result<Machine, AllocError>
         requires place { has_place plan.now.stages room ≡ true }
-        requires lanes { length lanes.now ≡ length plan.now.stages }
+        requires all { length of.now ≡ length plan.now.stages }
+        requires lanes { IsLaneCount lanes }
+        requires there { All (λ lane. lane < lanes) of.now }
         requires caller { own ≤ 63 }
         ensures ledger { IfOk result (λ m.
             m.teller.ledger ≡ record { plan = with_room plan.now room; events = []; free = 0 }) }
         ensures taken { IfOk result (λ m. m.teller.taken ≡ []) }
         ensures told { IfOk result (λ m. AreFresh [] (start (with_room plan.now room)).stages m.teller.told) }
-        ensures lanes { IfOk result (λ m. m.lanes ≡ lanes.now) }
+        ensures lanes { IfOk result (λ m. m.teller.lanes ≡ record { of = of.now; count = lanes }) }
         ensures follows { IfOk result (λ m. m.follows ≡ []) }
         ensures deadlines { IfOk result (λ m. m.deadlines ≡ []) }
         ensures moment { IfOk result (λ m. m.moment ≡ 0) }
         ensures own { IfOk result (λ m. m.own ≡ own) }
     {
-        let teller = Teller::new(alloc, plan, room)?;
-        let kept = copied(alloc, lanes, room)?;
+        let teller = Teller::new(alloc, plan, room, of, lanes)?;
         Ok(Machine {
             teller,
-            lanes: kept,
             follows: Vec::new(alloc),
-            deadlines: Vec::new(alloc),
+            deadlines: VecDeque::new(alloc),
             moment: 0,
             own,
         })
@@ -105,13 +107,13 @@ impl Machine {
     /// Does a word as a ledger does; a stage that it attaches is this lane's. Then it settles the relays whose stages
     /// are settled. It is refused for the first of: memory for all of that, and a ledger's reasons.
     pub fn apply(&mut self, word: u64, lane: u8) -> Result<Reply, LedgerFault>
+        requires { lane < self.old.teller.lanes.count }
         ensures done { IfOk result (λ reply. AppliesWord word lane self.old reply self.new) }
         ensures refused { OnErr result (OnlyFinds self.old self.new) }
         ensures why { IfErr result (λ fault. IsNoWord word self.old fault) }
     {
         self.teller.reserve(1 + self.follows.len())?;
-        let reply = self.teller.apply(word)?;
-        add_lane(&mut self.lanes, self.teller.stages(), lane);
+        let reply = self.teller.apply(word, lane)?;
         catch_up(&mut self.teller, &self.follows, self.own);
         Ok(reply)
     }
@@ -120,6 +122,7 @@ impl Machine {
     /// settled are settled, and it claims the lowest ready stage of its lane, if there is one. It is refused for the
     /// first of: memory for all of that, its caller's number, the stage that is held, its claim.
     pub fn next(&mut self, who: u8, lane: u8, held: Option<Held>) -> Result<Next, StepFault>
+        requires { lane < self.old.teller.lanes.count }
         ensures done { IfOk result (λ next. GoesOn who lane held self.old next self.new) }
         ensures refused { OnErr result (OnlyFinds self.old self.new) }
         ensures why { IfErr result (λ fault. IsNoNext who held self.old fault) }
@@ -128,16 +131,25 @@ impl Machine {
         check_held(&self.teller, who, held)?;
         let finish = finish_held(&mut self.teller, who, held);
         catch_up(&mut self.teller, &self.follows, self.own);
-        let taken = take(&mut self.teller, &self.lanes, who, lane);
+        let taken = take(&mut self.teller, who, lane);
         Ok(Next { finish, taken })
     }
 
-    /// How many stages of a lane are ready. It costs a look at each stage.
-    pub fn ready(&self, lane: u8) -> u16
-        ensures { result
-            ≡ ready_below (state_in self.now) self.now.lanes lane (length (state_in self.now).plan.stages) }
+    /// How many lanes there are.
+    pub fn lanes(&self) -> u8
+        ensures count { result ≡ self.now.teller.lanes.count }
+        ensures few { IsLaneCount result }
     {
-        ready_in(self.teller.ledger(), &self.lanes, lane)
+        self.teller.lanes()
+    }
+
+    /// How many stages of a lane are ready. It looks at no stage.
+    pub fn ready(&self, lane: u8) -> u16
+        requires { lane < self.now.teller.lanes.count }
+        ensures { result ≡ ready_below (state_in self.now) self.now.teller.lanes.of lane
+            (length (state_in self.now).plan.stages) }
+    {
+        self.teller.ready(lane)
     }
 
     /// A stage ends from now on as another does, if it is open when that one settles. It is refused for the first of:
@@ -158,19 +170,17 @@ impl Machine {
         Ok(())
     }
 
-    /// A stage has to be settled by a moment, or else `pass` settles it. Deadlines of settled stages are forgotten
-    /// then. It is refused for the first of: memory, a stage that isn't there.
+    /// A stage has to be settled by a moment, or else `pass` settles it. The deadline stands behind those that come up
+    /// to its moment. It is refused for the first of: a stage that isn't there, memory.
     pub fn deadline(&mut self, deadline: Deadline) -> Result<(), MachineFault>
         ensures set { OnOk result (SetsDeadline deadline self.old self.new) }
         ensures refused { OnErr result (self.new ≡ self.old) }
         ensures why { IfErr result (λ fault. IsNoDeadline deadline (state_in self.old) fault) }
     {
-        self.deadlines.reserve(1)?;
         if deadline.stage >= self.teller.stages() {
             return Err(MachineFault::NoStage);
         }
-        self.deadlines.push_reserved(deadline);
-        retain_open(&self.teller, &mut self.deadlines);
+        set(&self.teller, &mut self.deadlines, deadline)?;
         Ok(())
     }
 
@@ -179,6 +189,7 @@ impl Machine {
     /// of: memory for all relays and deadlines, a moment before the last one.
     pub fn pass(&mut self, moment: u64) -> Result<(), MachineFault>
         ensures passes { OnOk result (Passes moment self.old self.new) }
+        ensures order { AreInOrder self.old.deadlines }
         ensures refused { OnErr result (OnlyFinds self.old self.new) }
         ensures why { IfErr result (λ fault. IsNoPass moment self.old fault) }
     {
@@ -191,38 +202,36 @@ impl Machine {
         pass(
             &mut self.teller,
             &self.follows,
-            &self.deadlines,
+            &mut self.deadlines,
             moment,
             self.own,
         );
         Ok(())
     }
 
-    /// The least deadline of an open stage, and the first that was set of those that are equal, if there is one.
-    pub fn next_deadline(&self) -> Option<Deadline>
-        ensures next { IfSome result (λ d. IsNextOpen self.now.deadlines (state_in self.now).stages d) }
-        ensures none { IfNone result (NoneOpen self.now.deadlines (state_in self.now).stages) }
+    /// The first deadline of an open stage, if there is one. No deadline of an open stage comes before it, and of those
+    /// that come at the same moment it was set first. Those of settled stages that come before it are forgotten.
+    pub fn next_deadline(&mut self) -> Option<Deadline>
+        ensures next { IfSome result (λ d. IsNextOpen self.old.deadlines (state_in self.old).stages d) }
+        ensures none { IfNone result (NoneOpen self.old.deadlines (state_in self.old).stages) }
+        ensures order { AreInOrder self.old.deadlines }
+        ensures forgets { Forgets (state_in self.old).stages self.old.deadlines self.new.deadlines }
+        ensures rest { self.new ≡ record self.old { deadlines = self.new.deadlines } }
     {
-        next_open(&self.teller, &self.deadlines)
+        next_open(&self.teller, &mut self.deadlines)
     }
 
     /// Nobody runs a lane any more: its ready stages fail with a code, from the lowest on, and before each of them,
     /// and at last, the relays whose stages are settled are settled. It fails only where there is no memory for all
     /// stages that are open.
     pub fn refuse(&mut self, lane: u8, code: u32) -> Result<(), AllocError>
+        requires { lane < self.old.teller.lanes.count }
         ensures refuses { OnOk result (Refuses lane code self.old self.new) }
         ensures refused { OnErr result (OnlyFinds self.old self.new) }
         ensures why { OnErr result (free_in self.old < open_in self.old) }
     {
         self.teller.reserve(open_stages(&self.teller) as usize)?;
-        refuse(
-            &mut self.teller,
-            &self.lanes,
-            &self.follows,
-            lane,
-            code,
-            self.own,
-        );
+        refuse(&mut self.teller, &self.follows, lane, code, self.own);
         Ok(())
     }
 
@@ -241,6 +250,7 @@ impl Machine {
         ensures ledger { self.new.teller.ledger ≡ self.old.teller.ledger }
         ensures taken { self.new.teller.taken ≡ self.old.teller.taken ++ take count self.old.teller.told }
         ensures told { self.new.teller.told ≡ drop count self.old.teller.told }
+        ensures lanes { self.new.teller.lanes ≡ self.old.teller.lanes }
         ensures rest { self.new ≡ record self.old { teller = self.new.teller } }
     {
         self.teller.took(count);
@@ -252,28 +262,5 @@ impl Machine {
         ensures relays { NoneBehind self.now.follows (state_in self.now).stages }
     {
         self.teller.ledger()
-    }
-}
-
-/// These lanes, with room for so many more.
-fn copied(alloc: Global, lanes: &[u8], room: u16) -> Result<Vec<u8>, AllocError>
-    ensures lanes { IfOk result (λ row. row.items ≡ lanes.now) }
-    ensures room { IfOk result (λ row. length lanes.now + room ≤ vec_capacity row) }
-{
-    let mut row: Vec<u8> = Vec::with_capacity(alloc, lanes.len() + room as usize)?;
-    for lane in lanes {
-        row.push_reserved(*lane);
-    }
-    Ok(row)
-}
-
-/// Writes the lane of a stage that was attached, if there is now one stage more than lanes.
-fn add_lane(lanes: &mut Vec<u8>, stages: u16, lane: u8)
-    requires room { stages ≤ vec_capacity lanes.old }
-    ensures lanes { lanes.new.items ≡ lanes_of stages lane lanes.old.items }
-    ensures room { vec_capacity lanes.new ≡ vec_capacity lanes.old }
-{
-    if lanes.len() < stages as usize {
-        lanes.push_reserved(lane);
     }
 }

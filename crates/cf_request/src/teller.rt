@@ -1,13 +1,17 @@
 //! A ledger that keeps which stages were settled and not yet taken.
-ghost use Rattle.std.specs.Prelude.{◌≡◌, ◌+◌, ◌≤◌, ◌<◌, ◌++◌, [], All, IfErr, IfOk, OnErr, OnOk, drop, length, take, true, vec_capacity};
+ghost use Rattle.std.specs.Prelude.{◌≡◌, ℕ, ◌+◌, ◌≤◌, ◌<◌, ◌++◌, [], All, Contains, IfErr, IfNone, IfOk, IfSome, OnErr, OnOk, drop, false, length, take, true, vec_capacity};
 ghost use Rattle.std.specs.List.{filter};
 ghost use Rattle.cf_forms.specs.Plans.{has_place, with_room};
-ghost use Rattle.cf_model.specs.States.{outcome_at, outcome_of, start};
+ghost use Rattle.cf_model.specs.Calls.{is_attach};
+ghost use Rattle.cf_model.specs.States.{is_ready, outcome_at, outcome_of, start};
 ghost use Rattle.cf_model.specs.Ranges.{EventFits};
 ghost use Rattle.cf_event.specs.Words.{IsEvent};
-ghost use Rattle.cf_ledger.specs.Ledgers.{HasRoomFor, IsShort, LedgerRefuses, state_of};
+ghost use Rattle.cf_ledger.specs.Ledgers.{IsShort, LedgerRefuses, state_of};
+ghost use Rattle.cf_request.specs.Lanes.{IsLowestIn, NoneReadyIn, ready_below};
+ghost use Rattle.cf_request.specs.Ready.{AreFitBut, FitState, HasLanes, IsFit, IsLaneCount, none_ready, with_lane};
 ghost use Rattle.cf_request.specs.Telling.{AreFresh, AreSettled, AreSettledBelow, IsOnce, Tells, TellsEvent, is_settled_in, most_stages, with_memory};
 
+use crate::ready::ReadySets;
 use cf_event::encode;
 use cf_ledger::{Event, Ledger, LedgerFault, Reply, Stage};
 use cf_outcome::Outcome;
@@ -15,7 +19,8 @@ use cf_plan::Plan;
 use std::alloc::{AllocError, Global};
 use std::marker::Model;
 
-/// A ledger, with all stages that were settled, in order, and how many of these its host has taken.
+/// A ledger, with all stages that were settled, in order, how many of these its host has taken, and the ready stages of
+/// each lane.
 ///
 /// The row of settled stages has room for all stages that there may ever be.
 #[derive(Drop)]
@@ -23,6 +28,7 @@ pub struct Teller {
     ledger: Ledger,
     order: Vec<u16>,
     count: usize,
+    lanes: ReadySets,
 }
 
 impl Model for Teller {
@@ -30,36 +36,53 @@ impl Model for Teller {
 
     ghost Value = { Teller };
 
-    ghost use Rattle.std.specs.Prelude.{drop, take, vec_capacity};
+    ghost use Rattle.std.specs.Prelude.{drop, length, take, vec_capacity};
+    ghost use Rattle.cf_ledger.specs.Ledgers.{state_of};
+    ghost use Rattle.cf_request.specs.Ready.{FitState};
     ghost use Rattle.cf_request.specs.Telling.{IsKept};
 
     ghost view = { λ t. record {
       ledger = t.ledger;
       taken = take t.count t.order.items;
       told = drop t.count t.order.items;
+      lanes = record { of = t.lanes.of; count = length t.lanes.sets };
     } };
 
-    ghost invariant = { λ t. IsKept t.ledger t.order.items (vec_capacity t.order) t.count };
+    ghost invariant = { λ t. IsKept t.ledger t.order.items (vec_capacity t.order) t.count
+        × FitState (state_of t.ledger) t.lanes };
 }
 
 impl Teller {
-    /// The teller of a plan with room for so many stages more. Told are the stages that are settled from the start. It
-    /// fails only where there is no memory.
-    pub fn new(alloc: Global, plan: &Plan, room: u16) -> Result<Teller, AllocError>
+    /// The teller of a plan with room for so many stages more, whose stages have lanes of so many. Told are the stages
+    /// that are settled from the start. It fails only where there is no memory.
+    pub fn new(
+        alloc: Global,
+        plan: &Plan,
+        room: u16,
+        of: &[u8],
+        lanes: u8,
+    ) -> Result<Teller, AllocError>
         requires place { has_place plan.now.stages room ≡ true }
+        requires all { length of.now ≡ length plan.now.stages }
+        requires lanes { IsLaneCount lanes }
+        requires there { All (λ lane. lane < lanes) of.now }
         ensures ledger { IfOk result (λ t.
             t.ledger ≡ record { plan = with_room plan.now room; events = []; free = 0 }) }
         ensures taken { IfOk result (λ t. t.taken ≡ []) }
         ensures told { IfOk result (λ t. AreFresh [] (start (with_room plan.now room)).stages t.told) }
+        ensures lanes { IfOk result (λ t. t.lanes ≡ record { of = of.now; count = lanes }) }
     {
         let ledger = Ledger::new(alloc, plan, room)?;
         let stages = ledger.stages();
         let mut order: Vec<u16> = Vec::with_capacity(alloc, stages as usize + room as usize)?;
         note_all(&ledger, stages, &mut order);
+        let mut sets = ReadySets::new(alloc, of, room, lanes)?;
+        mark_all(&ledger, stages, &mut sets);
         Ok(Teller {
             ledger,
             order,
             count: 0,
+            lanes: sets,
         })
     }
 
@@ -73,32 +96,40 @@ impl Teller {
         self.ledger.reserve(words)
     }
 
-    /// Does a word as the ledger does. Told are then the stages that it settled, behind the others. It is refused as by
-    /// the ledger, and leaves all as it was then.
-    pub fn apply(&mut self, word: u64) -> Result<Reply, LedgerFault>
+    /// Does a word as the ledger does; a stage that it attaches is this lane's. Told are then the stages that it settled,
+    /// behind the others. It is refused as by the ledger, and leaves all as it was then.
+    pub fn apply(&mut self, word: u64, lane: u8) -> Result<Reply, LedgerFault>
+        requires { lane < self.old.lanes.count }
         ensures done { IfOk result (λ reply. Tells word self.old reply self.new) }
+        ensures lanes { OnOk result (self.new.lanes
+            ≡ with_lane (length (state_of self.new.ledger).plan.stages) lane self.old.lanes) }
         ensures refused { OnErr result (self.new ≡ self.old) }
         ensures why { IfErr result (λ fault. LedgerRefuses (state_of self.old.ledger) word fault) }
         ensures short { IfErr result (λ fault. IsShort self.old.ledger.free fault) }
     {
         let _known_before = self.ledger.stages();
         let reply = self.ledger.apply(word)?;
-        let _known_after = self.ledger.stages();
+        let stages = self.ledger.stages();
         let place = self.ledger.len() - 1;
-        note(&self.ledger, self.ledger.news(place), &mut self.order);
+        let news = self.ledger.news(place);
+        note(&self.ledger, news, &mut self.order);
+        self.lanes.reach(stages, lane);
+        mark(&self.ledger, news, &mut self.lanes);
         Ok(reply)
     }
 
-    /// Does an event that fits, by its word, where memory was found for one.
+    /// Does an event that fits and attaches nothing, by its word, where memory was found for one.
     #[tactic(auto, using(crate::proofs::Words::event_told))]
     pub fn apply_event(&mut self, event: &Event) -> Reply
         requires is { IsEvent event.now }
         requires fits { EventFits (length (state_of self.old.ledger).plan.stages) event.now }
-        requires room { HasRoomFor (state_of self.old.ledger) event.now }
+        requires attaches { is_attach event.now ≡ false }
         requires memory { 0 < self.old.ledger.free }
         ensures { TellsEvent event.now self.old result self.new }
     {
-        match self.apply(encode(event)) {
+        // There is a lane 0, and a lane for each stage.
+        let _known = self.lanes();
+        match self.apply(encode(event), 0) {
             Ok(reply) => reply,
             Err(_) => unreachable!(),
         }
@@ -127,6 +158,38 @@ impl Teller {
         outcome(&self.ledger, i)
     }
 
+    /// How many lanes there are.
+    pub fn lanes(&self) -> u8
+        ensures count { result ≡ self.now.lanes.count }
+        ensures few { IsLaneCount result }
+        ensures all { HasLanes (state_of self.now.ledger) self.now.lanes.of }
+    {
+        self.lanes.lanes()
+    }
+
+    /// The lowest ready stage of a lane, if there is one. It looks at no stage.
+    pub fn lowest(&self, lane: u8) -> Option<u16>
+        requires { lane < self.now.lanes.count }
+        ensures lowest { IfSome result (λ i. IsLowestIn (state_of self.now.ledger) self.now.lanes.of lane i) }
+        ensures none { IfNone result (NoneReadyIn (state_of self.now.ledger) self.now.lanes.of lane
+            (length (state_of self.now.ledger).plan.stages)) }
+    {
+        // There is a state for each stage.
+        let _known = self.ledger.stages();
+        self.lanes.lowest(lane)
+    }
+
+    /// How many stages of a lane are ready. It looks at no stage.
+    pub fn ready(&self, lane: u8) -> u16
+        requires { lane < self.now.lanes.count }
+        ensures { result ≡ ready_below (state_of self.now.ledger) self.now.lanes.of lane
+            (length (state_of self.now.ledger).plan.stages) }
+    {
+        // There is a state for each stage.
+        let _known = self.ledger.stages();
+        self.lanes.ready(lane)
+    }
+
     /// The stages that were settled and not yet taken, in the order of the events that settled them. With those that
     /// were taken these are each settled stage, once.
     pub fn told(&self) -> &[u16]
@@ -142,6 +205,7 @@ impl Teller {
         ensures ledger { self.new.ledger ≡ self.old.ledger }
         ensures taken { self.new.taken ≡ self.old.taken ++ take count self.old.told }
         ensures told { self.new.told ≡ drop count self.old.told }
+        ensures lanes { self.new.lanes ≡ self.old.lanes }
     {
         self.count += count.min(self.order.len() - self.count);
     }
@@ -193,5 +257,47 @@ fn note_all(ledger: &Ledger, stages: u16, order: &mut Vec<u16>)
         if outcome(ledger, i).is_some() {
             order.push_reserved(i);
         }
+    }
+}
+
+/// Writes of each of these stages whether it is ready. The sets fit at all other stages.
+fn mark(ledger: &Ledger, news: &[u16], sets: &mut ReadySets)
+    requires lanes { HasLanes (state_of ledger.now) sets.old.of }
+    requires there { All (λ i. i < length (state_of ledger.now).plan.stages) news.now }
+    requires rest { AreFitBut (Contains news.now) (state_of ledger.now).stages sets.old }
+    ensures fit { (i : ℕ) → IsFit (state_of ledger.now).stages sets.new i }
+    ensures count { length sets.new.sets ≡ length sets.old.sets }
+    ensures same { sets.new ≡ record sets.old { sets = sets.new.sets } }
+{
+    for i in news {
+        // The lane of each stage is there.
+        let _known = sets.lanes();
+        sets.write(*i, is_ready(ledger.stage(*i)));
+    }
+}
+
+/// Writes of all stages, of which there are so many, whether they are ready. None was before.
+fn mark_all(ledger: &Ledger, stages: u16, sets: &mut ReadySets)
+    requires stages { stages ≡ length (state_of ledger.now).plan.stages }
+    requires lanes { HasLanes (state_of ledger.now) sets.old.of }
+    requires rest { AreFitBut (λ i. i < stages) (state_of ledger.now).stages sets.old }
+    ensures fit { (i : ℕ) → IsFit (state_of ledger.now).stages sets.new i }
+    ensures count { length sets.new.sets ≡ length sets.old.sets }
+    ensures same { sets.new ≡ record sets.old { sets = sets.new.sets } }
+{
+    for i in 0..stages {
+        // The lane of each stage is there.
+        let _known = sets.lanes();
+        sets.write(i, is_ready(ledger.stage(i)));
+    }
+}
+
+/// Whether a stage in this state is ready.
+fn is_ready(stage: Stage) -> bool
+    ensures { result ≡ is_ready stage }
+{
+    match stage {
+        Stage::Ready(_) => true,
+        _ => false,
     }
 }

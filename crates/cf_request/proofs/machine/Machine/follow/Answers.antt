@@ -1,4 +1,4 @@
-use Rattle.std.proofs.Common.{◌∙◌, ◌∷◌, ◌++◌, [], List, ap, arith, length, length-append, subst, sym, vec_capacity}
+use Rattle.std.proofs.Common.{◌∙◌, ◌∷◌, ◌++◌, [], List, ap, arith, length, length-append, subst, sym}
 use Rattle.cf_ledger.specs.Ledgers.{state_of}
 use Rattle.cf_request.specs.Machines.{IsMachine}
 use Rattle.cf_request.specs.Relays.{IsRelayDue}
@@ -25,8 +25,8 @@ invariant_of-self-2 c =
     let f : Follow = record { relay = c.args.relay; stage = c.args.stage } in
     let stages = c.stages-stages.ensures.count in
     let items = c.push_reserved.ensures.items ∙ ap (λ (l : List Follow). l ++ f ∷ []) c.in_ok-reserve-2.ensures.items in
-    kept_none (IsRelayDue c.deref.result.now) m.own r c.catch_up.new.teller m.lanes.items (vec_capacity m.lanes) c.deref.result.now c.push_reserved.new.self.items m.deadlines.items m.own c.catch_up.ensures.settles
-    (subst (λ (l : List Follow). IsMachine r m.lanes.items (vec_capacity m.lanes) l m.deadlines.items m.own) (sym items)
-    (kept_follow r m.lanes.items (vec_capacity m.lanes) m.follows.items m.deadlines.items m.own f
-    (kept_memory _ m.teller r m.lanes.items (vec_capacity m.lanes) m.follows.items m.deadlines.items m.own c.in_ok-reserve.ensures.found c.self.invariant.0) (omega (arith, stages, c.if-relay-stages.false)) (omega (arith, stages, c.if-stage-stages.false))))
+    kept_none (IsRelayDue c.deref.result.now) m.own r c.catch_up.new.teller c.deref.result.now c.push_reserved.new.self.items m.deadlines.items m.own c.catch_up.ensures.settles
+    (subst (λ (l : List Follow). IsMachine r l m.deadlines.items m.own) (sym items)
+    (kept_follow r m.follows.items m.deadlines.items m.own f
+    (kept_memory _ m.teller r m.follows.items m.deadlines.items m.own c.in_ok-reserve.ensures.found c.self.invariant.0) (omega (arith, stages, c.if-relay-stages.false)) (omega (arith, stages, c.if-stage-stages.false))))
     c.deref.ensures.value c.catch_up.ensures.none

@@ -1,4 +1,3 @@
-use Rattle.std.proofs.Common.{vec_capacity}
 use Rattle.cf_request.specs.Refusals.{IsRefused}
 use Rattle.cf_request.specs.Relays.{IsRelayOr}
 use Rattle.cf_request.proofs.Machines.{kept_memory, kept_none}
@@ -8,5 +7,5 @@ pub invariant_of-self-2 : goal.invariant_of-self-2
 invariant_of-self-2 c =
     let m = c.self.inside in
     let r = c.reserve.new.self in
-    kept_none (IsRelayOr c.deref-2.result.now (IsRefused c.deref.result.now c.args.lane c.args.code)) m.own r c.refuse.new.teller m.lanes.items (vec_capacity m.lanes) c.deref-2.result.now m.follows.items m.deadlines.items m.own c.refuse.ensures.settles
-    (kept_memory _ m.teller r m.lanes.items (vec_capacity m.lanes) m.follows.items m.deadlines.items m.own c.in_ok-reserve.ensures.found c.self.invariant.0) c.deref-2.ensures.value c.refuse.ensures.none.0
+    kept_none (IsRelayOr c.deref.result.now (IsRefused r.lanes.of c.args.lane c.args.code)) m.own r c.refuse.new.teller c.deref.result.now m.follows.items m.deadlines.items m.own c.refuse.ensures.settles
+    (kept_memory _ m.teller r m.follows.items m.deadlines.items m.own c.in_ok-reserve.ensures.found c.self.invariant.0) c.deref.ensures.value c.refuse.ensures.none.0

@@ -1,29 +1,73 @@
-use Rattle.std.proofs.Common.{◌-◌, ℕ, ap, subst, sym, vec_capacity}
+use Rattle.std.proofs.Common.{◌≡◌, ◌-◌, ◌∙◌, ℕ, Contains, ap, arith, length, subst, sym, vec_capacity}
+use Rattle.cf_ledger.specs.Ledgers.{state_of}
+use Rattle.cf_request.specs.Ready.{AreFitBut, HasLanes, ReadySets, lanes_of, with_lane}
 use Rattle.cf_request.specs.Telling.{IsKept, Teller, Tells}
-use Rattle.cf_request.proofs.Telling.{kept_note, news_fit, news_room, tells_note, view_of}
+use Rattle.cf_request.proofs.Sets.{fit_state, lanes_in, lanes_reached, lanes_seen, left_by}
+use Rattle.cf_request.proofs.Telling.{kept_note, news_fit, news_room, same_most, tells_note, view_of}
 use Rattle.cf_request.proofs.teller.Teller.apply.Goals as goal
 
 pub note-requires-clause-there : goal.note-requires-clause-there
 note-requires-clause-there c =
-    news_fit c.self.inside.ledger c.apply.new.self c.args.word (c.len-place.result - 1) c.in_ok-reply.reply c.news.result.now c.in_ok-reply.ensures.done (ap (λ (n : ℕ). n - 1) c.len-place.ensures) c.news.ensures
-    c.stages-known_before.ensures.all_stages c.stages-known_after.ensures.all_stages
+    news_fit c.self.inside.ledger c.apply.new.self c.args.word (c.len-place.result - 1) c.in_ok-reply.reply c.news-news.result.now c.in_ok-reply.ensures.done (ap (λ (n : ℕ). n - 1) c.len-place.ensures) c.news-news.ensures
+    c.stages-known_before.ensures.all_stages c.stages-stages.ensures.all_stages
 
 pub note-requires-clause-room : goal.note-requires-clause-room
 note-requires-clause-room c =
     let t = c.self.inside in
-    news_room t.ledger c.apply.new.self c.args.word (c.len-place.result - 1) c.in_ok-reply.reply t.order.items c.news.result.now (vec_capacity t.order) t.count
-    c.self.invariant c.in_ok-reply.ensures.done (ap (λ (n : ℕ). n - 1) c.len-place.ensures) c.news.ensures c.stages-known_after.ensures.all_stages
+    news_room t.ledger c.apply.new.self c.args.word (c.len-place.result - 1) c.in_ok-reply.reply t.order.items c.news-news.result.now (vec_capacity t.order) t.count
+    c.self.invariant.0 c.in_ok-reply.ensures.done (ap (λ (n : ℕ). n - 1) c.len-place.ensures) c.news-news.ensures c.stages-stages.ensures.all_stages
+
+pub reach-requires-clause-room : goal.reach-requires-clause-room
+reach-requires-clause-room c =
+    let t = c.self.inside in
+    let most = same_most t.ledger c.apply.new.self c.args.word c.in_ok-reply.reply c.in_ok-reply.ensures.done in
+    let room = c.self.invariant.1.room in
+    let count = c.stages-stages.ensures.count in
+    omega (arith, most, room, count)
+
+pub mark-requires-clause-lanes : goal.mark-requires-clause-lanes
+mark-requires-clause-lanes c =
+    let t = c.self.inside in
+    subst (λ (r : ReadySets). HasLanes (state_of c.apply.new.self) r.of) (sym c.reach.ensures)
+    (lanes_reached t.ledger c.apply.new.self c.args.word c.stages-stages.result c.args.lane c.in_ok-reply.reply t.lanes c.in_ok-reply.ensures.done c.stages-stages.ensures.count c.self.invariant.1)
+
+pub mark-requires-clause-there : goal.mark-requires-clause-there
+mark-requires-clause-there c =
+    news_fit c.self.inside.ledger c.apply.new.self c.args.word (c.len-place.result - 1) c.in_ok-reply.reply c.news-news.result.now c.in_ok-reply.ensures.done (ap (λ (n : ℕ). n - 1) c.len-place.ensures) c.news-news.ensures
+    c.stages-known_before.ensures.all_stages c.stages-stages.ensures.all_stages
+
+pub mark-requires-clause-rest : goal.mark-requires-clause-rest
+mark-requires-clause-rest c =
+    let t = c.self.inside in
+    subst (λ (r : ReadySets). AreFitBut (Contains c.news-news.result.now) (state_of c.apply.new.self).stages r) (sym c.reach.ensures)
+    (left_by t.ledger c.apply.new.self c.args.word (c.len-place.result - 1) c.stages-stages.result c.args.lane c.in_ok-reply.reply c.news-news.result.now t.lanes
+    c.in_ok-reply.ensures.done (ap (λ (n : ℕ). n - 1) c.len-place.ensures) c.news-news.ensures c.stages-known_before.ensures.all_stages c.self.invariant.1)
+
+-- the lanes once all is written
+written : (c : goal.After-mark) → c.mark.new.sets ≡ record c.self.inside.lanes { of = lanes_of c.stages-stages.result c.args.lane c.self.inside.lanes.of; sets = c.mark.new.sets.sets }
+written c = c.mark.ensures.same ∙ ap (λ (r : ReadySets). let x : ReadySets = record r { sets = c.mark.new.sets.sets } in x) c.reach.ensures
+
+seen : (c : goal.After-mark) → lanes_in c.mark.new.sets ≡ with_lane (length (state_of c.apply.new.self).plan.stages) c.args.lane (lanes_in c.self.inside.lanes)
+seen c =
+    let t = c.self.inside in
+    lanes_seen t.lanes c.mark.new.sets c.stages-stages.result (length (state_of c.apply.new.self).plan.stages) c.args.lane (written c) (c.mark.ensures.count ∙ ap (λ (r : ReadySets). length r.sets) c.reach.ensures) c.stages-stages.ensures.count
 
 pub invariant_of-self-2 : goal.invariant_of-self-2
 invariant_of-self-2 c =
-    let t = c.self.inside in
-    subst (λ (places : ℕ). IsKept c.apply.new.self c.note.new.order.items places t.count) (sym c.note.ensures.room)
-    (kept_note t.ledger c.apply.new.self c.args.word (c.len-place.result - 1) c.in_ok-reply.reply t.order.items c.note.new.order.items c.news.result.now (vec_capacity t.order) t.count
-    c.self.invariant c.in_ok-reply.ensures.done (ap (λ (n : ℕ). n - 1) c.len-place.ensures) c.news.ensures c.note.ensures.noted)
+    let t = c.self.inside in (
+      subst (λ (places : ℕ). IsKept c.apply.new.self c.note.new.order.items places t.count) (sym c.note.ensures.room)
+          (kept_note t.ledger c.apply.new.self c.args.word (c.len-place.result - 1) c.in_ok-reply.reply t.order.items c.note.new.order.items c.news-news.result.now (vec_capacity t.order) t.count
+          c.self.invariant.0 c.in_ok-reply.ensures.done (ap (λ (n : ℕ). n - 1) c.len-place.ensures) c.news-news.ensures c.note.ensures.noted),
+      fit_state t.ledger c.apply.new.self c.args.word c.stages-stages.result c.args.lane c.in_ok-reply.reply t.lanes c.mark.new.sets c.in_ok-reply.ensures.done c.stages-stages.ensures.count c.self.invariant.1 (written c) c.mark.ensures.fit,
+    )
 
 pub returns-clause-done : goal.returns-clause-done
 returns-clause-done c =
     let t = c.self.inside in
-    subst (λ (x : Teller). Tells c.args.word x c.in_ok-reply.reply (view_of c.apply.new.self c.note.new.order.items t.count)) c.self.view_is
-    (tells_note t.ledger c.apply.new.self c.args.word (c.len-place.result - 1) c.in_ok-reply.reply t.order.items c.note.new.order.items c.news.result.now (vec_capacity t.order) t.count
-    c.self.invariant c.in_ok-reply.ensures.done (ap (λ (n : ℕ). n - 1) c.len-place.ensures) c.news.ensures c.note.ensures.noted)
+    subst (λ (x : Teller). Tells c.args.word x c.in_ok-reply.reply (view_of c.apply.new.self c.note.new.order.items t.count (lanes_in c.mark.new.sets))) c.self.view_is
+    (tells_note t.ledger c.apply.new.self c.args.word (c.len-place.result - 1) c.in_ok-reply.reply t.order.items c.note.new.order.items c.news-news.result.now (vec_capacity t.order) t.count (lanes_in t.lanes) (lanes_in c.mark.new.sets)
+    c.self.invariant.0 c.in_ok-reply.ensures.done (ap (λ (n : ℕ). n - 1) c.len-place.ensures) c.news-news.ensures c.note.ensures.noted)
+
+pub returns-clause-lanes : goal.returns-clause-lanes
+returns-clause-lanes c =
+    subst (λ (x : Teller). lanes_in c.mark.new.sets ≡ with_lane (length (state_of c.apply.new.self).plan.stages) c.args.lane x.lanes) c.self.view_is (seen c)

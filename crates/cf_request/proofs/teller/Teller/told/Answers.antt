@@ -7,9 +7,9 @@ use Rattle.cf_request.proofs.teller.Teller.told.Goals as goal
 pub returns-clause-once : goal.returns-clause-once
 returns-clause-once c =
     let t = c.self.inside in
-    subst (λ (x : Teller). IsOnce (state_of x.ledger) (x.taken ++ x.told)) c.self.view_is (once_kept t.ledger t.order.items (vec_capacity t.order) t.count c.self.invariant)
+    subst (λ (x : Teller). IsOnce (state_of x.ledger) (x.taken ++ x.told)) c.self.view_is (once_kept t.ledger t.order.items (vec_capacity t.order) t.count c.self.invariant.0)
 
 pub returns-clause-order : goal.returns-clause-order
 returns-clause-order c =
     let t = c.self.inside in
-    subst (λ (x : Teller). AreSettled x.ledger (x.taken ++ x.told)) c.self.view_is (settled_kept t.ledger t.order.items (vec_capacity t.order) t.count c.self.invariant)
+    subst (λ (x : Teller). AreSettled x.ledger (x.taken ++ x.told)) c.self.view_is (settled_kept t.ledger t.order.items (vec_capacity t.order) t.count c.self.invariant.0)

@@ -1,10 +1,10 @@
-use Rattle.std.proofs.Common.{◌≡◌, ◌+◌, ◌≤◌, length, take, vec_capacity}
-use Rattle.cf_request.proofs.machine.copied.Given as goal
+use Rattle.std.proofs.Common.{◌≡◌, ◌≤◌, length, take, vec_capacity}
+use Rattle.cf_request.proofs.ready.copied.Given as goal
 
 -- those so far are written
 abbrev pub invariant-loop-lane : goal.invariant-loop-lane
 invariant-loop-lane l = record {
   written : l.row.items ≡ take l.lane-index l.lanes;
   count : length l.row.items ≡ l.lane-index;
-  room : length l.lanes + l.room ≤ vec_capacity l.row;
+  room : l.places ≤ vec_capacity l.row;
 }

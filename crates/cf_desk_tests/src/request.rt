@@ -1,0 +1,4 @@
+//! Tests of the machine of a request, by its public calls alone. A test is a table of steps, which one loop takes.
+
+mod machines;
+mod steps;

@@ -1,0 +1,267 @@
+use crate::request::steps::{Step, opened, take};
+use cf_forms::{Answer, Args, LimitKind};
+use cf_ledger::{Finish, Held, LedgerFault, Reply, StepFault, Taken};
+use cf_model::Attached;
+use cf_outcome::{Cause, Outcome, Value};
+use cf_request::{Deadline, MachineFault, Next};
+
+/// Caller 0 gives sources 0 and 1 the number 5.
+const COMPLETE_0: u64 = 0x0100000100000005;
+
+const COMPLETE_1: u64 = 0x0100001100000005;
+/// It cancels source 0.
+const CANCEL_0: u64 = 0x0300000000000000;
+/// It fails source 0 as timed out, or with a bad answer.
+const TIMED_OUT_0: u64 = 0x0800000000000000;
+
+const BAD_ANSWER_0: u64 = 0x0800000100000000;
+/// It attaches an apply of source 1 by function 3.
+const ATTACH: u64 = 0x0700001103000003;
+/// It claims stage 9, which isn't there.
+const NO_STAGE: u64 = 0x0400009000000000;
+
+const SETTLED: Result<Reply, LedgerFault> = Ok(Reply::Flag(true));
+
+/// Nothing was held, and nothing is to be done.
+const IDLE: Result<Next, StepFault> = Ok(Next {
+    finish: None,
+    taken: None,
+});
+
+/// The first apply is claimed by caller 7.
+const TAKES: Result<Next, StepFault> = Ok(Next {
+    finish: None,
+    taken: Some(Taken {
+        stage: 4,
+        function: Some(0),
+        args: Args::One(Value::Int(5)),
+        word: 0x0407004000000000,
+    }),
+});
+
+/// It is finished with 6, and nothing else is ready in lane 2.
+const HELD: Option<Held> = Some(Held {
+    stage: 4,
+    answer: Answer::Give(Value::Int(6)),
+});
+
+const FINISHES: Result<Next, StepFault> = Ok(Next {
+    finish: Some(Finish {
+        late: false,
+        word: 0x0507004100000006,
+    }),
+    taken: None,
+});
+
+/// A stage that isn't there, held.
+const FAR: Option<Held> = Some(Held {
+    stage: 9,
+    answer: Answer::Give(Value::Nil),
+});
+
+const BY_LANES: [Step; 21] = [
+    Step::Next(7, 1, None, IDLE),
+    Step::Apply(COMPLETE_0, 0, SETTLED),
+    Step::Ready(1, 1),
+    Step::Ready(2, 0),
+    Step::Next(7, 2, None, IDLE),
+    Step::Next(64, 1, None, Err(StepFault::NoCaller)),
+    Step::Next(7, 1, FAR, Err(StepFault::NoStage)),
+    Step::Next(7, 1, HELD, Err(StepFault::NotHeld)),
+    Step::Next(7, 1, None, TAKES),
+    Step::Ready(1, 0),
+    Step::Next(7, 2, HELD, FINISHES),
+    Step::Ready(1, 1),
+    Step::Told(&[0, 4]),
+    Step::Took(1),
+    Step::Told(&[4]),
+    Step::Apply(0, 0, Err(LedgerFault::NoEvent)),
+    Step::Apply(NO_STAGE, 0, Err(LedgerFault::NoStage)),
+    Step::Apply(COMPLETE_1, 0, SETTLED),
+    Step::Told(&[4, 1]),
+    Step::Took(9),
+    Step::Told(&[]),
+];
+
+#[test]
+fn runs_by_lanes(rt: HostRuntime) {
+    let mut machine = opened(&rt, rt.alloc());
+    take(&rt, &mut machine, &BY_LANES);
+    drop(machine);
+}
+
+const ATTACHES: [Step; 5] = [
+    Step::Apply(ATTACH, 3, Ok(Reply::Attach(Attached::At(7)))),
+    Step::Apply(ATTACH, 3, Err(LedgerFault::NoRoom)),
+    Step::Apply(COMPLETE_1, 0, SETTLED),
+    Step::Ready(2, 1),
+    Step::Ready(3, 1),
+];
+
+#[test]
+fn attached_stages_have_lanes(rt: HostRuntime) {
+    let mut machine = opened(&rt, rt.alloc());
+    take(&rt, &mut machine, &ATTACHES);
+    drop(machine);
+}
+
+const CANCELLED: Outcome = Outcome::Fault {
+    cause: Cause::Cancelled,
+    wrapped: false,
+};
+
+const TIMED_OUT: Outcome = Outcome::Fault {
+    cause: Cause::TimedOut,
+    wrapped: false,
+};
+
+const BAD_ANSWER: Outcome = Outcome::Fault {
+    cause: Cause::BadAnswer,
+    wrapped: false,
+};
+
+/// Source 2 follows source 0, and source 1 follows source 2.
+const FOLLOWS: [Step; 4] = [
+    Step::Follow(1, 2, Ok(())),
+    Step::Follow(2, 0, Ok(())),
+    Step::Follow(2, 7, Err(MachineFault::NoStage)),
+    Step::Follow(7, 2, Err(MachineFault::NoStage)),
+];
+
+/// What source 0 ends as by these words.
+const ENDS: [(u64, Outcome); 4] = [
+    (COMPLETE_0, Outcome::Value(Value::Int(5))),
+    (CANCEL_0, CANCELLED),
+    (TIMED_OUT_0, TIMED_OUT),
+    (BAD_ANSWER_0, BAD_ANSWER),
+];
+
+/// Both relays end as source 0 does by this word, by two words more, and so does one that follows later.
+fn alike(word: u64, outcome: Outcome) -> [Step; 6] {
+    [
+        Step::Apply(word, 0, SETTLED),
+        Step::Ends(2, outcome),
+        Step::Ends(1, outcome),
+        Step::Len(3),
+        Step::Follow(3, 1, Ok(())),
+        Step::Ends(3, outcome),
+    ]
+}
+
+#[test]
+fn relays_end_as_their_stages(rt: HostRuntime) {
+    for (word, outcome) in &ENDS {
+        let mut machine = opened(&rt, rt.alloc());
+        take(&rt, &mut machine, &FOLLOWS);
+        take(&rt, &mut machine, &alike(*word, *outcome));
+        drop(machine);
+    }
+}
+
+/// Stage 1 times out at moment 30, and stage 2 at 20.
+const LAST: Deadline = Deadline {
+    stage: 1,
+    moment: 30,
+    kind: LimitKind::Timeout,
+};
+
+const SECOND: Deadline = Deadline {
+    stage: 2,
+    moment: 20,
+    kind: LimitKind::Timeout,
+};
+
+/// Stage 3 times out at moment 25. Before that it has followed source 0.
+const LATE: Deadline = Deadline {
+    stage: 3,
+    moment: 25,
+    kind: LimitKind::Timeout,
+};
+
+const NO_DEADLINE: Deadline = Deadline {
+    stage: 7,
+    moment: 20,
+    kind: LimitKind::Timeout,
+};
+
+/// Source 0 is given 5 at moment 20.
+const GIVES: Deadline = Deadline {
+    stage: 0,
+    moment: 20,
+    kind: LimitKind::Give(Value::Int(5)),
+};
+
+const BY_MOMENTS: [Step; 17] = [
+    Step::NextDeadline(None),
+    Step::Deadline(LAST, Ok(())),
+    Step::Deadline(GIVES, Ok(())),
+    Step::Deadline(SECOND, Ok(())),
+    Step::Deadline(NO_DEADLINE, Err(MachineFault::NoStage)),
+    Step::NextDeadline(Some(GIVES)),
+    Step::Pass(19, Ok(())),
+    Step::Told(&[]),
+    Step::Follow(3, 0, Ok(())),
+    Step::Deadline(LATE, Ok(())),
+    Step::Pass(29, Ok(())),
+    Step::Told(&[0, 3, 2]),
+    Step::Ends(3, Outcome::Value(Value::Int(5))),
+    Step::Ends(2, TIMED_OUT),
+    Step::NextDeadline(Some(LAST)),
+    Step::Pass(28, Err(MachineFault::Past)),
+    Step::Pass(29, Ok(())),
+];
+
+#[test]
+fn moments_come_in_order(rt: HostRuntime) {
+    let mut machine = opened(&rt, rt.alloc());
+    take(&rt, &mut machine, &BY_MOMENTS);
+    drop(machine);
+}
+
+/// There is no place for the ninth. So the first, whose stage is settled, is forgotten.
+const MANY: [Step; 15] = [
+    Step::Apply(COMPLETE_0, 0, SETTLED),
+    Step::Deadline(GIVES, Ok(())),
+    Step::Deadline(LAST, Ok(())),
+    Step::Deadline(LAST, Ok(())),
+    Step::Deadline(LAST, Ok(())),
+    Step::Deadline(LAST, Ok(())),
+    Step::Deadline(LAST, Ok(())),
+    Step::Deadline(LAST, Ok(())),
+    Step::Deadline(LAST, Ok(())),
+    Step::Deadline(SECOND, Ok(())),
+    Step::NextDeadline(Some(SECOND)),
+    Step::Pass(20, Ok(())),
+    Step::NextDeadline(Some(LAST)),
+    Step::Pass(30, Ok(())),
+    Step::NextDeadline(None),
+];
+
+#[test]
+fn settled_deadlines_make_place(rt: HostRuntime) {
+    let mut machine = opened(&rt, rt.alloc());
+    take(&rt, &mut machine, &MANY);
+    drop(machine);
+}
+
+const THROWN: Outcome = Outcome::Fault {
+    cause: Cause::Thrown(40),
+    wrapped: false,
+};
+
+/// A handle whose apply has failed is ready in the same lane, and fails too.
+const REFUSES: [Step; 6] = [
+    Step::Apply(COMPLETE_0, 0, SETTLED),
+    Step::Apply(COMPLETE_1, 0, SETTLED),
+    Step::Refuse(1, 40),
+    Step::Told(&[0, 1, 4, 6]),
+    Step::Ends(6, THROWN),
+    Step::Ready(2, 1),
+];
+
+#[test]
+fn a_refused_lane_fails(rt: HostRuntime) {
+    let mut machine = opened(&rt, rt.alloc());
+    take(&rt, &mut machine, &REFUSES);
+    drop(machine);
+}

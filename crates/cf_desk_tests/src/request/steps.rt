@@ -1,0 +1,90 @@
+//! What is done to the machine of a request and asked of it, as rows: a call, and what it is answered.
+use crate::checks::{holds, must};
+use crate::plans::{Row, plan_of};
+use cf_forms::Form;
+use cf_ledger::{Held, LedgerFault, Reply, Stage, StepFault};
+use cf_outcome::Outcome;
+use cf_request::{Deadline, Machine, MachineFault, Next};
+use std::alloc::Global;
+use std::process::Abort;
+
+/// A call of `Machine` with its answer last.
+#[derive(Clone, Copy)]
+pub(crate) enum Step {
+    /// A word, and the lane of a stage that it attaches.
+    Apply(u64, u8, Result<Reply, LedgerFault>),
+    /// A caller, the lane that it asks, and what it holds.
+    Next(u8, u8, Option<Held>, Result<Next, StepFault>),
+    Ready(u8, u16),
+    /// A relay, and the stage that it follows.
+    Follow(u16, u16, Result<(), MachineFault>),
+    Deadline(Deadline, Result<(), MachineFault>),
+    Pass(u64, Result<(), MachineFault>),
+    NextDeadline(Option<Deadline>),
+    /// A lane and a code.
+    Refuse(u8, u32),
+    Told(&'static [u16]),
+    Took(usize),
+    /// A stage that is settled, with its outcome.
+    Ends(u16, Outcome),
+    Len(usize),
+}
+
+/// Whether a call is answered so.
+fn is_answered(machine: &mut Machine, step: Step) -> bool {
+    match step {
+        Step::Apply(word, lane, answer) => {
+            lane < machine.lanes() && machine.apply(word, lane) == answer
+        }
+        Step::Next(who, lane, held, answer) => {
+            lane < machine.lanes() && machine.next(who, lane, held) == answer
+        }
+        Step::Ready(lane, answer) => lane < machine.lanes() && machine.ready(lane) == answer,
+        Step::Follow(relay, stage, answer) => machine.follow(relay, stage) == answer,
+        Step::Deadline(deadline, answer) => machine.deadline(deadline) == answer,
+        Step::Pass(moment, answer) => machine.pass(moment) == answer,
+        Step::NextDeadline(answer) => machine.next_deadline() == answer,
+        Step::Refuse(lane, code) => { lane < machine.lanes() && machine.refuse(lane, code).is_ok() }
+        Step::Told(answer) => machine.told() == answer,
+        Step::Took(count) => {
+            machine.took(count);
+            true
+        }
+        Step::Ends(i, outcome) => {
+            i < machine.ledger().stages() && machine.ledger().stage(i) == Stage::Settled(outcome)
+        }
+        Step::Len(answer) => machine.ledger().len() == answer,
+    }
+}
+
+/// The machine takes these steps, and each is answered as it says.
+pub(crate) fn take(rt: &impl Abort, machine: &mut Machine, steps: &[Step]) {
+    for (at, step) in steps.iter().enumerate() {
+        holds(rt, is_answered(machine, *step), ("step", at));
+    }
+}
+
+/// Four sources, an apply of each of the first two, and a handle of the first apply.
+const STAGES: [Row<'static>; 7] = [
+    (Form::Source, &[], None),
+    (Form::Source, &[], None),
+    (Form::Source, &[], None),
+    (Form::Source, &[], None),
+    (Form::Apply, &[0], Some(0)),
+    (Form::Apply, &[1], Some(1)),
+    (Form::Handle, &[4], Some(2)),
+];
+
+/// The applies are lane 1's and lane 2's, and the handle is lane 1's. There are four lanes.
+const LANES: [u8; 7] = [0, 0, 0, 0, 1, 2, 1];
+
+/// The machine's own caller.
+const OWN: u8 = 63;
+
+/// A machine of these stages, with room for one more.
+pub(crate) fn opened(rt: &impl Abort, alloc: Global) -> Machine {
+    let plan = plan_of(rt, alloc, &STAGES);
+    holds(rt, plan.has_place(1), "place");
+    holds(rt, plan.stages() == 7, "stages");
+    must(rt, Machine::new(alloc, &plan, 1, &LANES, 4, OWN))
+}
