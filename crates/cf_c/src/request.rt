@@ -158,7 +158,12 @@ pub extern "C" fn cf_request_told(
 
 /// How many stages of a lane are ready.
 #[unsafe(no_mangle)]
-pub extern "C" fn cf_request_ready(alloc: Global, h: &mut CfHandle, lane: u8, ready: &mut u16) -> u32
+pub extern "C" fn cf_request_ready(
+    alloc: Global,
+    h: &mut CfHandle,
+    lane: u8,
+    ready: &mut u16,
+) -> u32
     ensures { HandleTells (OfRequest (TellsReadyOf lane)) h.old h.new result ready.old ready.new }
 {
     tell!(alloc, h, ready, held => asking::ready(&mut held, lane))
