@@ -1,10 +1,11 @@
 //! One request of a service as a machine, which tells each settled stage once.
 ghost use Rattle.cf_c_handles.specs.Building.{kind_of};
 ghost use Rattle.cf_c_handles.specs.Handles.{HandleDoes, HandleOpens, HandleTells, HandleWrites};
-ghost use Rattle.cf_c_handles.specs.RequestCalls.{AppliesIn, FollowsIn, GoesOnIn, OfRequest, PassesIn, RefusesIn, SetsDeadlineIn, TellsIn, TellsNextDeadline, TellsReadyOf};
+ghost use Rattle.cf_c_handles.specs.RequestCalls.{AppliesIn, FollowsIn, GoesOnIn, OfRequest, PassesIn, RefusesIn, SetsDeadlineIn, TellsIn, TellsNextIn, TellsReadyOf};
 ghost use Rattle.cf_c_handles.specs.Requests.{RequestOf};
 
 use crate::handle::{ask, tell};
+use cf_c_handles::code::Code;
 use cf_c_handles::handle::{CfHandle, fill};
 use cf_c_handles::plan::kind_of;
 use cf_c_handles::request::{asking, doing, request_of};
@@ -26,7 +27,7 @@ pub extern "C" fn cf_request_new(
     ensures { HandleOpens (RequestOf sizes.now lanes.now) plan.old plan.new result request.old request.new }
 {
     match plan.take(alloc) {
-        None => fill(alloc, request, Err(cf_c_handles::code::Code::Empty)),
+        None => fill(alloc, request, Err(Code::Empty)),
         Some(held) => {
             let made = request_of(alloc, &held, *sizes, lanes);
             plan.put(held);
@@ -123,7 +124,7 @@ pub extern "C" fn cf_request_next_deadline(
     h: &mut CfHandle,
     deadline: &mut CfDeadline,
 ) -> u32
-    ensures { HandleTells (OfRequest TellsNextDeadline) h.old h.new result deadline.old deadline.new }
+    ensures { HandleTells TellsNextIn h.old h.new result deadline.old deadline.new }
 {
     tell!(alloc, h, deadline, held => asking::next_deadline(&mut held))
 }
@@ -158,7 +159,12 @@ pub extern "C" fn cf_request_told(
 
 /// How many stages of a lane are ready.
 #[unsafe(no_mangle)]
-pub extern "C" fn cf_request_ready(alloc: Global, h: &mut CfHandle, lane: u8, ready: &mut u16) -> u32
+pub extern "C" fn cf_request_ready(
+    alloc: Global,
+    h: &mut CfHandle,
+    lane: u8,
+    ready: &mut u16,
+) -> u32
     ensures { HandleTells (OfRequest (TellsReadyOf lane)) h.old h.new result ready.old ready.new }
 {
     tell!(alloc, h, ready, held => asking::ready(&mut held, lane))

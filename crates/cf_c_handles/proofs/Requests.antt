@@ -13,8 +13,8 @@ none_there s i n stages past = rw (slice_get_past s.stages i (omega arith)) refl
 
 -- what the machine says of a taking is all that has changed
 pub takes_so_many : (count : ℕ) (old new : Machine) → new.teller.ledger ≡ old.teller.ledger → new.teller.taken ≡ old.teller.taken ++ take count old.teller.told →
-    new.teller.told ≡ drop count old.teller.told → new ≡ record old { teller = new.teller } → new ≡ taking count old
-takes_so_many count old new ledger taken told rest =
+    new.teller.told ≡ drop count old.teller.told → new.teller.lanes ≡ old.teller.lanes → new ≡ record old { teller = new.teller } → new ≡ taking count old
+takes_so_many count old new ledger taken told lanes rest =
     let teller : new.teller ≡ record old.teller { taken = old.teller.taken ++ take count old.teller.told; told = drop count old.teller.told } =
-    λ j. record { ledger = ledger j; taken = taken j; told = told j } in
+    λ j. record { ledger = ledger j; taken = taken j; told = told j; lanes = lanes j } in
     rest ∙ ap (λ (t : Teller). record old { teller = t }) teller

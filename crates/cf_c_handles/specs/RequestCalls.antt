@@ -1,7 +1,7 @@
 -- What a request behind a handle is asked.
-use Rattle.std.specs.Prelude.{◌≡◌, ◌⊎◌, ℕ, ◌<◌, Result, Ok, Err, List, length}
+use Rattle.std.specs.Prelude.{◌≡◌, ◌⊎◌, ℕ, ◌<◌, ◌≤◌, Result, Ok, Err, List, length}
 use Rattle.cf_model.specs.declared.events.Reply.{Reply}
-use Rattle.cf_request.specs.Deadlines.{IsNextOpen, NoneOpen}
+use Rattle.cf_request.specs.Deadlines.{Forgets, IsNextOpen, NoneOpen}
 use Rattle.cf_request.specs.Lanes.{ready_below}
 use Rattle.cf_request.specs.Machines.{AppliesWord, GoesOn, IsNoDeadline, IsNoFollow, IsNoNext, IsNoPass, IsNoWord, Machine, OnlyFinds, Passes, Refuses, SetsDeadline, SetsFollow, free_in, open_in, state_in}
 use Rattle.cf_request.specs.declared.deadlines.Deadline.{Deadline}
@@ -14,7 +14,7 @@ use Rattle.cf_c_handles.specs.Replies.{as_reply}
 use Rattle.cf_c_handles.specs.Requests.{TellsInto, as_deadline}
 use Rattle.cf_c_handles.specs.Tasks.{held_by}
 use Rattle.cf_c_handles.specs.declared.code.Code.{Code}
-use Rattle.cf_c_handles.specs.declared.code.Code.TheVariants.{NoMemory, NoStage, Nothing, PastMoment, WrongKind}
+use Rattle.cf_c_handles.specs.declared.code.Code.TheVariants.{NoLane, NoMemory, NoStage, Nothing, PastMoment, WrongKind}
 use Rattle.cf_c_handles.specs.declared.handle.object.Object.{Object}
 use Rattle.cf_c_handles.specs.declared.handle.object.Object.TheVariants.{Request}
 use Rattle.cf_c_handles.specs.declared.values.request.CfApplied.{CfApplied}
@@ -22,6 +22,16 @@ use Rattle.cf_c_handles.specs.declared.values.request.CfDeadline.{CfDeadline}
 use Rattle.cf_c_handles.specs.declared.values.request.CfRequestStep.{CfRequestStep}
 use Rattle.cf_c_handles.specs.declared.values.request.CfTold.{CfTold}
 use Rattle.cf_c_handles.specs.declared.values.task.CfTask.{CfTask}
+
+-- ---- lanes
+
+-- how many lanes there are
+abbrev pub lanes_in : Machine → ℕ
+lanes_in m = m.teller.lanes.count
+
+-- exactly where a lane isn't there, C is told that, and nothing changes
+abbrev pub IfLane : ℕ → Machine → Result (Unit {0}) Code → Object → Type 0 → Type 0 → Type 0
+IfLane lane m r new Same Goes = ((lanes_in m ≤ lane) × (r ≡ Err NoLane) × (new ≡ Request m) × Same) ⊎ ((lane < lanes_in m) × Goes)
 
 -- ---- why a call does nothing
 
@@ -71,7 +81,8 @@ IsNoRefusal m faults.NoStage = ⊥
 IsNoRefusal m faults.Past = ⊥
 
 abbrev pub RefusesIn : ℕ → ℕ → Object → List CfTold × ℕ → Result (Unit {0}) Code → Object → List CfTold × ℕ → Type 0
-RefusesIn lane code = TellsAfter (Refuses lane code) IsNoRefusal
+RefusesIn lane code (Request m) had r new has = IfLane lane m r new (has ≡ had) (TellsAfter (Refuses lane code) IsNoRefusal (Request m) had r new has)
+RefusesIn lane code held had r new has = (r ≡ Err WrongKind) × (new ≡ held) × (has ≡ had)
 
 abbrev pub TellsIn : Object → List CfTold × ℕ → Result (Unit {0}) Code → Object → List CfTold × ℕ → Type 0
 TellsIn = TellsAfter (λ old new. new ≡ old) (λ m fault. ⊥)
@@ -88,9 +99,13 @@ pub record HasApplied (word lane : ℕ) (old : Machine) (new : Object) (had has 
   pub tells : TellsInto between had.1 has.1 has.0.told now
   pub is : new ≡ Request now
 
+-- or the word is refused for a fault that is due
+abbrev pub AppliesOrNot : ℕ → ℕ → Machine → CfApplied × List CfTold → Result (Unit {0}) Code → Object → CfApplied × List CfTold → Type 0
+AppliesOrNot word lane m had (Ok done) new has = HasApplied word lane m new had has
+AppliesOrNot word lane m had (Err code) new has = IsDueAs word_code (IsNoWord word m) code × StaysButFinds m new × (has ≡ had)
+
 abbrev pub AppliesIn : ℕ → ℕ → Object → CfApplied × List CfTold → Result (Unit {0}) Code → Object → CfApplied × List CfTold → Type 0
-AppliesIn word lane (Request m) had (Ok done) new has = HasApplied word lane m new had has
-AppliesIn word lane (Request m) had (Err code) new has = IsDueAs word_code (IsNoWord word m) code × StaysButFinds m new × (has ≡ had)
+AppliesIn word lane (Request m) had r new has = IfLane lane m r new (has ≡ had) (AppliesOrNot word lane m had r new has)
 AppliesIn word lane held had r new has = (r ≡ Err WrongKind) × (new ≡ held) × (has ≡ had)
 
 -- ---- a caller's step
@@ -117,7 +132,7 @@ pub record IsNotGone (old : Machine) (r : Result (Unit {0}) Code) (new : Object)
 
 -- it is done, also if nothing was claimed, or refused for a fault that is due
 abbrev pub GoesOnIn : Object → CfRequestStep × CfTask × List CfTold → Result (Unit {0}) Code → Object → CfRequestStep × CfTask × List CfTold → Type 0
-GoesOnIn (Request m) had r new has = HasGoneOn m r new had has ⊎ IsNotGone m r new had has
+GoesOnIn (Request m) had r new has = IfLane had.0.lane m r new (has ≡ had) (HasGoneOn m r new had has ⊎ IsNotGone m r new had has)
 GoesOnIn held had r new has = (r ≡ Err WrongKind) × (new ≡ held) × (has ≡ had)
 
 -- ---- calls that tell no stages
@@ -133,7 +148,8 @@ OfRequest Tells (Request m) r new = Tells m r × (new ≡ Request m)
 OfRequest Tells held r new = (r ≡ Err WrongKind) × (new ≡ held)
 
 abbrev pub TellsReadyOf : ℕ → Machine → Result ℕ Code → Type 0
-TellsReadyOf lane m r = r ≡ Ok (ready_below (state_in m) m.lanes lane (length (state_in m).plan.stages))
+TellsReadyOf lane m (Ok n) = (lane < lanes_in m) × (n ≡ ready_below (state_in m) m.teller.lanes.of lane (length (state_in m).plan.stages))
+TellsReadyOf lane m (Err code) = (lanes_in m ≤ lane) × (code ≡ NoLane)
 
 -- the deadline that comes next
 pub record IsNextTo (m : Machine) (d : CfDeadline) : Type 0 where
@@ -144,3 +160,14 @@ pub record IsNextTo (m : Machine) (d : CfDeadline) : Type 0 where
 abbrev pub TellsNextDeadline : Machine → Result CfDeadline Code → Type 0
 TellsNextDeadline m (Ok d) = IsNextTo m d
 TellsNextDeadline m (Err code) = (code ≡ Nothing) × NoneOpen m.deadlines (state_in m).stages
+
+-- deadlines of settled stages may be forgotten, and nothing else has changed
+pub record StaysButForgets (old : Machine) (new : Object) : Type 0 where
+  pub now : Machine
+  pub is : new ≡ Request now
+  pub forgets : Forgets (state_in old).stages old.deadlines now.deadlines
+  pub rest : now ≡ record old { deadlines = now.deadlines }
+
+abbrev pub TellsNextIn : Object → Result CfDeadline Code → Object → Type 0
+TellsNextIn (Request m) r new = TellsNextDeadline m r × StaysButForgets m new
+TellsNextIn held r new = (r ≡ Err WrongKind) × (new ≡ held)

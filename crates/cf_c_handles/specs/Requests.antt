@@ -7,6 +7,7 @@ use Rattle.cf_forms.specs.declared.limits.LimitKind.TheVariants.{Timeout, Give}
 use Rattle.cf_forms.specs.Plans.{Planned, has_place, with_room}
 use Rattle.cf_model.specs.States.{State, outcome_at, start}
 use Rattle.cf_request.specs.Machines.{Machine, state_in}
+use Rattle.cf_request.specs.Ready.{IsLaneCount}
 use Rattle.cf_request.specs.Telling.{AreFresh}
 use Rattle.cf_request.specs.declared.deadlines.Deadline.{Deadline}
 use Rattle.cf_c_handles.specs.Ledgers.{AreWritten}
@@ -58,8 +59,7 @@ pub record TellsInto (old : Machine) (had has : List CfTold) (count : ℕ) (new 
 
 -- there are 1 to 16 lanes, and a lane is named for each stage
 pub record AreLanes (plan : Planned) (count : ℕ) (lanes : List ℕ) : Type 0 where
-  pub some : 0 < count
-  pub few : count ≤ 16
+  pub some : IsLaneCount count
   pub each : length lanes ≡ length plan.stages
 
 -- each of these is one of so many lanes
@@ -73,7 +73,7 @@ pub record IsNewRequest (p : Planned) (sizes : CfRequestSizes) (lanes : List ℕ
   pub ledger : now.teller.ledger ≡ record { plan = with_room p sizes.room; events = []; free = 0 }
   pub taken : now.teller.taken ≡ []
   pub told : AreFresh [] (start (with_room p sizes.room)).stages now.teller.told
-  pub lanes_are : now.lanes ≡ lanes
+  pub lanes_are : now.teller.lanes ≡ record { of = lanes; count = sizes.lanes }
   pub follows : now.follows ≡ []
   pub deadlines : now.deadlines ≡ []
   pub moment : now.moment ≡ 0

@@ -43,7 +43,7 @@ pub fn request_of(
     if sizes.own > 63 {
         return Err(Code::NoWord);
     }
-    let machine = Machine::new(alloc, plan, sizes.room, lanes, sizes.own)?;
+    let machine = Machine::new(alloc, plan, sizes.room, lanes, sizes.lanes, sizes.own)?;
     Ok(Object::Request(machine))
 }
 
@@ -51,7 +51,7 @@ pub fn request_of(
 fn are_lanes(plan: &Plan, count: u8, lanes: &[u8]) -> bool
     ensures { IsTrue result ↔ AreLanes plan.now count lanes.now }
 {
-    0 < count && count <= MOST_LANES && lanes.len() == plan.stages() as usize
+    1 <= count && count <= MOST_LANES && lanes.len() == plan.stages() as usize
 }
 
 /// Whether each of these is one of so many lanes.

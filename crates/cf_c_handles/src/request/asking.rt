@@ -1,5 +1,5 @@
 //! What a request behind a handle is asked.
-ghost use Rattle.cf_c_handles.specs.RequestCalls.{OfRequest, TellsNextDeadline, TellsReadyOf};
+ghost use Rattle.cf_c_handles.specs.RequestCalls.{OfRequest, TellsNextIn, TellsReadyOf};
 
 use crate::code::Code;
 use crate::handle::object::Object;
@@ -9,15 +9,18 @@ use crate::values::request::{CfDeadline, as_deadline};
 pub fn ready(held: &mut Object, lane: u8) -> Result<u16, Code>
     ensures { OfRequest (TellsReadyOf lane) held.old result held.new }
 {
-    match held {
-        Object::Request(machine) => Ok(machine.ready(lane)),
-        _ => Err(Code::WrongKind),
+    let Object::Request(machine) = held else {
+        return Err(Code::WrongKind);
+    };
+    if lane >= machine.lanes() {
+        return Err(Code::NoLane);
     }
+    Ok(machine.ready(lane))
 }
 
 /// The least deadline of a stage that is open.
 pub fn next_deadline(held: &mut Object) -> Result<CfDeadline, Code>
-    ensures { OfRequest TellsNextDeadline held.old result held.new }
+    ensures { TellsNextIn held.old result held.new }
 {
     let Object::Request(machine) = held else {
         return Err(Code::WrongKind);

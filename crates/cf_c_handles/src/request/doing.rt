@@ -24,6 +24,9 @@ pub fn apply(
     let Object::Request(machine) = held else {
         return Err(Code::WrongKind);
     };
+    if lane >= machine.lanes() {
+        return Err(Code::NoLane);
+    }
     match machine.apply(word, lane) {
         Err(fault) => Err(word_code(fault)),
         Ok(reply) => {
@@ -46,6 +49,9 @@ pub fn next(
     let Object::Request(machine) = held else {
         return Err(Code::WrongKind);
     };
+    if step.lane >= machine.lanes() {
+        return Err(Code::NoLane);
+    }
     match machine.next(step.who, step.lane, held_by(task)) {
         Err(fault) => Err(step_code(fault)),
         Ok(next) => {
@@ -108,6 +114,9 @@ pub fn refuse(
     let Object::Request(machine) = held else {
         return Err(Code::WrongKind);
     };
+    if lane >= machine.lanes() {
+        return Err(Code::NoLane);
+    }
     match machine.refuse(lane, code) {
         Err(_) => Err(Code::NoMemory),
         Ok(()) => {
