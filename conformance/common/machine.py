@@ -248,7 +248,7 @@ class Machine:
         self.deadlines = [it for it in self.deadlines if not self.is_settled(it.stage)]
 
     def pass_to(self, moment: int) -> None:
-        """Lets time pass up to a moment: settles relays, and then one stage after another whose deadline has come, and relays after each."""
+        """Lets time pass up to a moment: settles relays, then one stage after another whose deadline has come, and relays after each."""
         if moment < self.moment:
             raise Refused("PAST_MOMENT")
         self.moment = moment

@@ -12,7 +12,8 @@ import model
 import random_runs
 
 Request = Any  # a `machine.Machine`, or what has the same methods: a `library.Library`
-KINDS = {"next": 36.0, "apply": 26, "pass_to": 5, "deadline": 6, "follow": 8, "rest": 2, "refuse": 2, "ready": 1, "cancel_all": 0.5, "restart": 0.5}
+KINDS = {"next": 36.0, "apply": 26, "pass_to": 5, "deadline": 6, "follow": 8, "rest": 2, "refuse": 2, "ready": 1, "cancel_all": 0.5,
+         "restart": 0.5}
 EVENTS = {"complete": 9, "fail": 2, "failAs": 1.5, "cancel": 1.5, "claim": 2, "finish": 1.5, "tick": 1, "attach": 11, "word": 0.7}
 FORMS = model.FORMS + ["compose", "compose", "exceptionallyCompose"]  # so that more stages link
 NO_WORDS = [0, 1, 2**56, 2**63, 2**64 - 1, 7 * 2**56 + 15 * 2**32, 3 * 2**56 + 1, 9 * 2**56]
@@ -54,8 +55,10 @@ def random_opening(rng: random.Random) -> Opening:
 
 def wrong_openings(rng: random.Random, opening: Opening) -> Iterator[Opening]:
     """Openings that are refused, for one reason or for several."""
-    spoilt: List[Dict[str, Any]] = [{"lanes": opening.lanes[:-1]}, {"lanes": opening.lanes + [0]}, {"lanes": opening.lanes[:-1] + [opening.of_lanes]},
-              {"of_lanes": 0}, {"of_lanes": 17}, {"own": 64}, {"own": 255}, {"room": 4097 - len(opening.lanes)}, {"room": 65535}]
+    lanes = opening.lanes
+    spoilt: List[Dict[str, Any]] = [
+        {"lanes": lanes[:-1]}, {"lanes": lanes + [0]}, {"lanes": lanes[:-1] + [opening.of_lanes]}, {"of_lanes": 0}, {"of_lanes": 17},
+        {"own": 64}, {"own": 255}, {"room": 4097 - len(lanes)}, {"room": 65535}]
     for _ in range(2):
         changes: Dict[str, Any] = {}
         for more in rng.sample(spoilt, rng.choice([1, 1, 2])):

@@ -14,8 +14,8 @@ import machine
 from calls import Difference, Opening
 
 sys.path.insert(1, str(Path(__file__).resolve().parents[2] / "clients/python"))
-from cf._library import (CAnswer, CArgs, CHandle, COutcome, CReply, CStage, CTask, CValue, GOT, NIL, INT, NO_FUNCTION, PENDING,  # noqa: E402
-                         STRUCTURES, THROWN, VALUE)
+from cf._library import (CAnswer, CArgs, CHandle, COutcome, CReply, CStage, CTask, CValue, GOT, INT, NIL, NO_FUNCTION,  # noqa: E402
+                         PENDING, STRUCTURES, THROWN, VALUE)
 
 TELLING = ["apply", "next", "follow", "pass_to", "refuse", "cancel_all"]  # calls with a row for told stages
 LONGEST = 64  # row of told stages
@@ -47,7 +47,7 @@ class CDeadline(c.Structure):
     _fields_ = [("stage", c.c_uint16), ("moment", c.c_uint64), ("kind", c.c_uint32), ("value", CValue)]
 
 
-OWN_STRUCTURES = {"cf_request_sizes": CSizes, "cf_told": CTold, "cf_applied": CApplied, "cf_request_step": CRequestStep, "cf_deadline": CDeadline}
+OWN = {"cf_request_sizes": CSizes, "cf_told": CTold, "cf_applied": CApplied, "cf_request_step": CRequestStep, "cf_deadline": CDeadline}
 H, P, U8, U16, U32, U64, SIZE = c.POINTER(CHandle), c.POINTER, c.c_uint8, c.c_uint16, c.c_uint32, c.c_uint64, c.c_size_t
 TOLD = [P(CTold), SIZE]
 CALLS: Dict[str, List[Any]] = {
@@ -81,7 +81,7 @@ def load() -> c.CDLL:
     loaded.cf_free.restype, loaded.cf_free.argtypes = None, [H]
     for name, kinds in CALLS.items():
         getattr(loaded, name).restype, getattr(loaded, name).argtypes = U32, kinds
-    for name, structure in {**STRUCTURES, **OWN_STRUCTURES}.items():
+    for name, structure in {**STRUCTURES, **OWN}.items():
         if loaded.cf_layout(name.encode()) != c.sizeof(structure):
             raise ImportError(f"{name} has another size than here")
     return loaded
@@ -314,6 +314,29 @@ class Library:
 
     def rest(self) -> None:
         """Does nothing."""
+
+
+def is_pointer(kind: Any) -> bool:
+    return issubclass(kind, c._Pointer)
+
+
+def check_handles() -> int:
+    """Each call of a request refuses a handle of another kind, an empty one, and a null pointer. It answers how many it refused."""
+    plan, count = CHandle(), 0
+    check(C.cf_builder_new(plan, 0, 0))
+    check(C.cf_build(plan))
+    for name, kinds in [(name, kinds) for name, kinds in CALLS.items() if name.startswith("cf_request_") and name != "cf_request_new"]:
+        given = [kind._type_() if is_pointer(kind) else kind() for kind in kinds]
+        wanted: List[Tuple[int, Any, str]] = [(0, plan, "WRONG_KIND"), (0, CHandle(), "EMPTY")]
+        # a row for no stages may be null
+        wanted += [(place, None, "NULL") for place, kind in enumerate(kinds) if is_pointer(kind) and kind is not TOLD[0]]
+        for place, pointer, why in wanted:
+            told = NAMES[getattr(C, name)(*given[:place], pointer, *given[place + 1:])]
+            if told != why:
+                raise Difference(f"{name} without what it needs at {place}: it answers {told}, and not {why}")
+        count += len(wanted)
+    C.cf_free(plan)
+    return count
 
 
 def limit_in(outcome: machine.Outcome) -> Tuple[int, CValue]:
