@@ -14,6 +14,7 @@ import random_runs
 Request = Any  # a `machine.Machine`, or what has the same methods: a `library.Library`
 KINDS = {"next": 36.0, "apply": 26, "pass_to": 5, "deadline": 6, "follow": 8, "rest": 2, "refuse": 2, "ready": 1, "cancel_all": 0.5,
          "restart": 0.5}
+OFTEN = ["next", "apply", "pass_to", "deadline", "follow", "rest", "refuse"]  # one of these comes more often by a seed
 EVENTS = {"complete": 9, "fail": 2, "failAs": 1.5, "cancel": 1.5, "claim": 2, "finish": 1.5, "tick": 1, "attach": 11, "word": 0.7}
 FORMS = model.FORMS + ["compose", "compose", "exceptionallyCompose"]  # so that more stages link
 NO_WORDS = [0, 1, 2**56, 2**63, 2**64 - 1, 7 * 2**56 + 15 * 2**32, 3 * 2**56 + 1, 9 * 2**56]
@@ -41,7 +42,7 @@ class Difference(Exception):
 
 
 def random_plan(rng: random.Random) -> Any:
-    size = rng.randrange(1, 17) if rng.random() < 0.9 else rng.randrange(17, 49)
+    size = rng.randrange(*rng.choices([(1, 17), (17, 65), (65, 301)], [90, 8, 2])[0])
     stages = [random_runs.random_stage(rng, i, FORMS) for i in range(size)]
     limits = [random_runs.random_limit(rng, size) for _ in range(rng.choice([0, 0, 0, 2]))]
     return model.plan_of({"stages": stages, "limits": limits})[0]
@@ -72,6 +73,8 @@ class Draws:
 
     def __init__(self, rng: random.Random, plain: machine.Machine) -> None:
         self.rng, self.plain = rng, plain
+        self.kinds = dict(KINDS)
+        self.kinds[rng.choice(OFTEN)] *= 6
 
     def seldom(self) -> bool:
         return self.rng.random() < 0.03
@@ -133,7 +136,7 @@ class Draws:
         """A moment near the last one, seldom before it, and very seldom the last of all."""
         if self.rng.random() < 0.002:
             return LAST
-        return max(0, min(LAST, self.plain.moment + self.rng.choice([-1, 0, 0, 1, 1, 2, 3, 5, 9])))
+        return max(0, min(LAST, self.plain.moment + self.rng.choice([-1, 0, 0, 1, 1, 2, 3, 5, 9, 20])))
 
     def attached(self) -> Tuple[Any, ...]:
         """The form, sources and function of a stage that fits its form."""
@@ -168,7 +171,7 @@ class Draws:
 
     def call(self, thread: int) -> Call:
         """The next call, which this thread makes."""
-        who, kind = self.caller(thread), self.one_of(KINDS)
+        who, kind = self.caller(thread), self.one_of(self.kinds)
         if self.rng.random() < 0.1 and all(self.plain.is_settled(i) for i in range(self.plain.stages())):
             kind = "restart"
         return Call(kind, self.given(kind, who), self.room())
