@@ -70,8 +70,8 @@ CALLS: Dict[str, List[Any]] = {
     "cf_request_told": [H, *TOLD, P(SIZE)],
     "cf_request_ready": [H, U8, P(U16)],
     "cf_request_cancel_all": [H, U8, *TOLD, P(SIZE)],
-    "cf_request_restart": [H],
 }
+LATER = {"cancel_all": "cf_request_cancel_all"}  # calls of a machine that the library may not have yet
 
 
 def load() -> c.CDLL:
@@ -79,6 +79,8 @@ def load() -> c.CDLL:
     loaded.cf_layout.restype, loaded.cf_layout.argtypes = SIZE, [c.c_char_p]
     loaded.cf_code_name.restype, loaded.cf_code_name.argtypes = c.c_char_p, [U32]
     loaded.cf_free.restype, loaded.cf_free.argtypes = None, [H]
+    for name in [name for name in CALLS if name in LATER.values() and not hasattr(loaded, name)]:
+        del CALLS[name]
     for name, kinds in CALLS.items():
         getattr(loaded, name).restype, getattr(loaded, name).argtypes = U32, kinds
     for name, structure in {**STRUCTURES, **OWN}.items():
@@ -88,6 +90,7 @@ def load() -> c.CDLL:
 
 
 C = load()
+LACKING = [kind for kind, name in LATER.items() if name not in CALLS]
 
 
 def name_of(code: int) -> str:
@@ -177,9 +180,7 @@ class Library:
         self.lanes = list(range(opening.of_lanes))
         try:
             self.build()
-            lanes = (U8 * len(opening.lanes))(*opening.lanes)
-            sizes = CSizes(opening.room, opening.of_lanes, opening.own)
-            check(C.cf_request_new(self.plan, sizes, lanes, len(lanes), self.request))
+            self.open()
         except machine.Refused:
             self.close()
             raise
@@ -193,6 +194,11 @@ class Library:
         for stage, at, outcome in self.opening.plan.limits:
             check(C.cf_builder_limit(self.plan, stage, at, *limit_in(outcome)))
         check(C.cf_build(self.plan))
+
+    def open(self) -> None:
+        lanes = (U8 * len(self.opening.lanes))(*self.opening.lanes)
+        sizes = CSizes(self.opening.room, self.opening.of_lanes, self.opening.own)
+        check(C.cf_request_new(self.plan, sizes, lanes, len(lanes), self.request))
 
     def close(self) -> None:
         C.cf_free(self.request)
@@ -310,7 +316,9 @@ class Library:
         return None, self.told(self.total.value, room)
 
     def restart(self) -> None:
-        check(C.cf_request_restart(self.request))
+        """The library has no call for this. So it is a new one."""
+        C.cf_free(self.request)
+        self.open()
 
     def rest(self) -> None:
         """Does nothing."""
