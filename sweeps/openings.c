@@ -317,12 +317,11 @@ static uint32_t step_request(cf_handle *request, const request_step *step, cf_ta
     return call_request(request, step, task, row, &n);
 }
 
-/* A request with these calls: how many words it has then, and how many stages are to be told. */
+/* A request with these calls: how many words it has then, and what a host can ask of it. */
 static uint32_t request_with(long numbers[3], const request_step *steps, size_t count) {
     static const uint8_t lanes[] = {0, 0, 1};
     cf_handle plan = {0}, request = {0};
     cf_task task = {0};
-    size_t told = 0;
     numbers[2] = 0;
     uint32_t code = make_plan(&plan, &numbers[2]);
     cf_request_sizes sizes = {.room = 200, .lanes = 2, .own = 63};
@@ -330,10 +329,8 @@ static uint32_t request_with(long numbers[3], const request_step *steps, size_t 
         code = cf_request_new(&plan, &sizes, lanes, 3, &request);
     for (size_t k = 0; k < count && code == CF_OK; k++)
         code = step_request(&request, &steps[k], &task, &numbers[2]);
-    if (code == CF_OK)
-        code = cf_request_told(&request, NULL, 0, &told);
     numbers[0] = (long)words_of(&request);
-    numbers[1] = (long)told;
+    numbers[1] = (long)(asked_of(&request) % 1000000);
     cf_free(&request);
     cf_free(&plan);
     return code;
@@ -349,9 +346,10 @@ static uint32_t request(long numbers[3]) {
     return request_with(numbers, steps, sizeof steps / sizeof *steps);
 }
 
-/* A hundred stages are attached. Each has a deadline, and the last fifty follow the stage below them, so that one call settles many. */
+/* A hundred stages are attached. Each has a deadline, and the last fifty follow the stage below them, so that one call settles many.
+ * Each call of a request that takes memory finds some that it lacks, here or in the request before. */
 static uint32_t long_request(long numbers[3]) {
-    request_step steps[302];
+    request_step steps[253];
     size_t count = 0;
     for (uint16_t k = 0; k < 100; k++) {
         steps[count++] = (request_step){ATTACH, 0, k % 2};
@@ -359,6 +357,7 @@ static uint32_t long_request(long numbers[3]) {
         if (k >= 50)
             steps[count++] = (request_step){FOLLOW, k + 3, k + 2};
     }
+    steps[count++] = (request_step){REFUSE, 1, 0};
     steps[count++] = (request_step){PASS, 60, 0};
     steps[count++] = (request_step){PASS, 200, 0};
     return request_with(numbers, steps, count);
