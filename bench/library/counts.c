@@ -13,6 +13,10 @@
  *   ledger_words                  the same words in one row by cf_ledger_apply_all; a word
  *   ledger_row                    these words behind that of the source's completion, in one row; a word
  *   ledger_step                   cf_ledger_step; a stage
+ *   request_claim, request_finish the same words by cf_request_apply, with the reply and what is told
+ *   request_next, request_idle    cf_request_next; a stage. One of them that finds nothing
+ *   request_deadline              cf_request_deadline, where the deadline before it is to be forgotten
+ *   request_attach, request_run   over one source: a chain of 16 that is attached, by cf_request_apply, and run, by cf_request_next; a stage
  *   graph_claim, graph_finish     cf_claim and cf_finish_with
  *   apply_claim, apply_finish       the same as words by cf_apply
  *   graph_ready, graph_get        the lowest ready stage asked for before each claim; the outcome of each stage
@@ -35,7 +39,7 @@
 
 #define COUNTED static __attribute__((noinline)) void
 
-enum { STAGES = 512, APPLIES = STAGES - 1, TASKS = 16, WORDS = 2 * STAGES - 1, RECORDS = 3 * STAGES };
+enum { STAGES = 512, APPLIES = STAGES - 1, TASKS = 16, CHAINED = 16, WORDS = 2 * STAGES - 1, RECORDS = 3 * STAGES };
 
 static void say(const char *row, int parts) { printf("%s %d\n", row, parts); }
 
@@ -118,6 +122,86 @@ static void count_ledger(cf_handle *plan) {
   cf_free(&ledger);
   say("ledger_claim", APPLIES), say("ledger_finish", APPLIES), say("ledger_words", WORDS - 1), say("ledger_row", WORDS);
   say("ledger_step", APPLIES);
+}
+
+/* ---- Requests ---- */
+
+static cf_applied applied;
+static cf_told told[4];
+
+COUNTED request_claim(cf_handle *request, uint64_t word) {
+  MUST(cf_request_apply(request, word, 0, &applied, told, 4));
+  must_be(applied.reply.answer == CF_GRANTED && applied.told == 0, "a request's claim");
+}
+
+COUNTED request_finish(cf_handle *request, uint64_t word) {
+  MUST(cf_request_apply(request, word, 0, &applied, told, 4));
+  must_be(applied.reply.answer == CF_WON && applied.told == 1, "a request's finish");
+}
+
+static cf_request_step turn = {.who = ME};
+
+COUNTED request_next(cf_handle *request) {
+  cf_task task = {0};
+  while (cf_request_next(request, &turn, &task, told, 4) == CF_OK) task.answer = answer(&task.args);
+  must_be(!task.held && task.finished == CF_WON, "a request's last step");
+}
+
+COUNTED request_idle(cf_handle *request) {
+  cf_task task = {0};
+  must_be(cf_request_next(request, &turn, &task, told, 4) == CF_NOTHING, "a step that finds nothing");
+}
+
+COUNTED request_deadline(cf_handle *request, uint16_t stage) { MUST(cf_request_deadline(request, stage, stage, CF_TIMEOUT, number(0))); }
+
+COUNTED request_attach(cf_handle *request, uint64_t word) { MUST(cf_request_apply(request, word, 0, &applied, told, 4)); }
+
+COUNTED request_run(cf_handle *request) {
+  cf_task task = {0};
+  while (cf_request_next(request, &turn, &task, told, 4) == CF_OK) task.answer = answer(&task.args);
+}
+
+/* A request whose first stage is completed. */
+static cf_handle open_request(cf_handle *plan, uint16_t stages, uint16_t room) {
+  static const uint8_t lanes[STAGES];
+  const cf_request_sizes sizes = {.room = room, .lanes = 1, .own = ME};
+  cf_handle request = {0};
+  MUST(cf_request_new(plan, &sizes, lanes, stages, &request));
+  MUST(cf_request_apply(&request, words[0], 0, &applied, told, 4));
+  return request;
+}
+
+static void count_chained(void) {
+  cf_handle plan = plan_of(SOURCES, 1), request = open_request(&plan, 1, CHAINED);
+  for (uint16_t i = 0; i < CHAINED; i++)
+    request_attach(&request, word_of((cf_event){.call = CF_CALL_ATTACH, .form = CF_APPLY, .sources = 1, .first = i}));
+  request_run(&request);
+  must_be(told[0].stage == CHAINED, "the end of a chain");
+  cf_free(&request), cf_free(&plan);
+  say("request_attach", CHAINED), say("request_run", CHAINED);
+}
+
+static void count_request(cf_handle *plan) {
+  cf_handle request = open_request(plan, STAGES, 0);
+  for (int i = 1; i < WORDS; i += 2) {
+    request_claim(&request, words[i]);
+    request_finish(&request, words[i + 1]);
+  }
+  cf_free(&request);
+  request = open_request(plan, STAGES, 0);
+  request_next(&request);
+  request_idle(&request);
+  cf_free(&request);
+  request = open_request(plan, STAGES, 0);
+  for (uint16_t i = 1; i < STAGES; i++) {
+    request_deadline(&request, i);
+    MUST(cf_request_apply(&request, words[2 * i - 1], 0, &applied, told, 4));
+    MUST(cf_request_apply(&request, words[2 * i], 0, &applied, told, 4));
+  }
+  cf_free(&request);
+  say("request_claim", APPLIES), say("request_finish", APPLIES), say("request_next", APPLIES), say("request_idle", 1);
+  say("request_deadline", APPLIES);
+  count_chained();
 }
 
 /* ---- Graphs ---- */
@@ -323,6 +407,7 @@ int main(int count, char **given_words) {
       count_completions(&plan);
     } else {
       count_ledger(&plan);
+      count_request(&plan);
       count_graph(&plan);
       count_desk(&plan);
     }

@@ -4,7 +4,7 @@
 #include "rows.h"
 #include <string.h>
 
-enum { SOURCE = 0, TWICE = 1, STAGES = 2, NOT_THERE = STAGES, CALLERS = 2, LOG = 64, CALLS = 64, TEXT = 64 };
+enum { SOURCE = 0, TWICE = 1, STAGES = 2, NOT_THERE = STAGES, CALLERS = 2, LOG = 64, CALLS = 64, TEXT = 64, OWN = 63 };
 static const uint16_t NEVER = UINT16_MAX;
 
 #define ROW(call, wanted) row(#call, (call), (wanted))
@@ -13,6 +13,7 @@ static const uint16_t NEVER = UINT16_MAX;
 /* What calls write. Each is filled with one byte before, and has to be so afterwards. */
 static struct {
   cf_reply reply; cf_task task; cf_outcome outcome; cf_now now; cf_record record; cf_event event; cf_stage stage; cf_step step;
+  cf_applied applied; cf_request_step turn; cf_told told[2]; cf_deadline deadline;
   cf_news news[2]; uint64_t words[2]; uint16_t stages[2]; uint8_t text[TEXT]; uint16_t number; uint8_t small; uint32_t calls; uint64_t word;
   size_t n;
 } out;
@@ -29,6 +30,8 @@ static bool is_filled(void) {
 static const cf_value value = {CF_INT, 5};
 static const cf_answer given = {.kind = CF_GIVE, .value = {CF_INT, 6}};
 static const cf_desk_sizes sizes = {.log = LOG, .calls = CALLS, .room = 1, .functions = 1};
+static const cf_request_sizes lanes = {.room = 1, .lanes = 2, .own = OWN};
+static const uint8_t lane_of[] = {0, 1};
 static const cf_given first = {.stage = SOURCE, .value = {CF_INT, 5}};
 static const uint16_t of = SOURCE;
 
@@ -45,6 +48,7 @@ static void plan_calls(cf_handle *h, uint32_t wanted) {
   ROW(cf_graph_new(h, 0, &empty), wanted);
   ROW(cf_ledger_new(h, 0, &empty), wanted);
   ROW(cf_ledger_of(h, 0, NULL, 0, &empty, &out.n), wanted);
+  ROW(cf_request_new(h, &lanes, lane_of, STAGES, &empty), wanted);
   ROW(cf_desk_open(h, callers, CALLERS, LOG, CALLS), wanted);
   ROW(cf_desk_open_with(h, callers, CALLERS, &sizes), wanted);
   HOLDS(!empty.full && !callers[0].full && !callers[1].full);
@@ -82,18 +86,33 @@ static void sweep_calls(cf_handle *h, uint32_t wanted) {
   ROW(cf_sweep_end(h), wanted);
 }
 
+static const cf_handle *request; /* which is asked as a ledger is */
+
 static void ledger_calls(cf_handle *h, uint32_t wanted) {
   ROW(cf_ledger_apply(h, 1, &out.reply, out.news, 2, &out.n), wanted);
   ROW(cf_ledger_step(h, &out.step, &out.task, out.news, 2, &out.n), wanted);
   ROW(cf_ledger_apply_all(h, NULL, 0, &out.n), wanted);
+  ROW(cf_ledger_grow(h, 1), wanted);
+  ROW(cf_ledger_restart(h), wanted);
+  if (h && h == request) return;
   ROW(cf_ledger_words(h, 0, out.words, 2, &out.n), wanted);
   ROW(cf_ledger_news(h, 0, out.stages, 2, &out.n), wanted);
   ROW(cf_ledger_ready(h, 0, &out.number), wanted);
   ROW(cf_ledger_stage(h, SOURCE, &out.stage), wanted);
   ROW(cf_ledger_function(h, TWICE, &out.number), wanted);
   ROW(cf_ledger_stages(h, &out.number), wanted);
-  ROW(cf_ledger_grow(h, 1), wanted);
-  ROW(cf_ledger_restart(h), wanted);
+}
+
+static void request_calls(cf_handle *h, uint32_t wanted) {
+  ROW(cf_request_apply(h, 1, 0, &out.applied, out.told, 2), wanted);
+  ROW(cf_request_next(h, &out.turn, &out.task, out.told, 2), wanted);
+  ROW(cf_request_follow(h, SOURCE, TWICE, out.told, 2, &out.n), wanted);
+  ROW(cf_request_deadline(h, SOURCE, 1, CF_TIMEOUT, value), wanted);
+  ROW(cf_request_pass(h, 1, out.told, 2, &out.n), wanted);
+  ROW(cf_request_next_deadline(h, &out.deadline), wanted);
+  ROW(cf_request_refuse(h, 0, 1, out.told, 2, &out.n), wanted);
+  ROW(cf_request_told(h, out.told, 2, &out.n), wanted);
+  ROW(cf_request_ready(h, 0, &out.number), wanted);
 }
 
 static void caller_calls(cf_handle *h, uint32_t wanted) {
@@ -136,9 +155,10 @@ static void closed_calls(cf_handle *h, uint32_t wanted) {
 
 /* ---- One handle of each kind ---- */
 
-enum kind { BUILDER, PLAN, GRAPH, SWEEP, LEDGER, CALLER, CLOSING, CLOSED, KINDS };
+enum kind { BUILDER, PLAN, GRAPH, SWEEP, LEDGER, REQUEST, CALLER, CLOSING, CLOSED, KINDS };
 static void (*const calls_of[KINDS])(cf_handle *h, uint32_t wanted) = {builder_calls, plan_calls, graph_calls, sweep_calls,
-                                                                       ledger_calls, caller_calls, closing_calls, closed_calls};
+                                                                       ledger_calls, request_calls, caller_calls, closing_calls,
+                                                                       closed_calls};
 static cf_handle held[KINDS], other_caller;
 
 static void build(cf_handle *builder) {
@@ -156,6 +176,8 @@ static void make_all(void) {
   ROW(cf_graph_new(&held[PLAN], 1, &held[SWEEP]), CF_OK);
   ROW(cf_sweep_begin(&held[SWEEP]), CF_OK);
   ROW(cf_ledger_new(&held[PLAN], 1, &held[LEDGER]), CF_OK);
+  ROW(cf_request_new(&held[PLAN], &lanes, lane_of, STAGES, &held[REQUEST]), CF_OK);
+  request = &held[REQUEST];
   ROW(cf_desk_open_with(&held[PLAN], callers, CALLERS, &sizes), CF_OK);
   held[CALLER] = callers[0], other_caller = callers[1];
   memset(callers, 0, sizeof callers);
@@ -174,6 +196,7 @@ static void make_all(void) {
 static void are_as_before(void) {
   cf_outcome outcome;
   cf_stage stage;
+  cf_deadline deadline;
   uint16_t number;
   size_t n;
   ROW(cf_get(&held[GRAPH], SOURCE, &outcome), CF_OK);
@@ -183,6 +206,9 @@ static void are_as_before(void) {
   ROW(cf_ledger_stage(&held[LEDGER], SOURCE, &stage), CF_OK);
   HOLDS(stage.kind == CF_IS_PENDING && stage.who == CF_NOBODY);
   HOLDS(cf_ledger_words(&held[LEDGER], 0, NULL, 0, &n) == CF_OK && n == 0);
+  HOLDS(cf_ledger_words(&held[REQUEST], 0, NULL, 0, &n) == CF_OK && n == 0);
+  HOLDS(cf_request_told(&held[REQUEST], NULL, 0, &n) == CF_OK && n == 0);
+  HOLDS(cf_request_next_deadline(&held[REQUEST], &deadline) == CF_NOTHING);
   HOLDS(cf_desk_left(&held[CALLER], &number) == CF_OK && number == CALLS);
   HOLDS(cf_desk_seen(&held[CALLER], &number) == CF_OK && number == 0);
   HOLDS(cf_close_end(&held[CLOSING]) == CF_NOT_ALL);
@@ -217,7 +243,7 @@ static void by_handles(void) {
 
 static void by_pointers(void) {
   cf_handle *builder = &held[BUILDER], *plan = &held[PLAN], *graph = &held[GRAPH], *ledger = &held[LEDGER], *caller = &held[CALLER];
-  cf_handle empty = {0};
+  cf_handle empty = {0}, *asked = &held[REQUEST];
   fill();
   ROW(cf_builder_new(NULL, 0, 0), CF_NULL);
   ROW(cf_builder_stage(builder, CF_APPLY, NULL, 1, 0, &out.number), CF_NULL);
@@ -271,6 +297,24 @@ static void by_pointers(void) {
   ROW(cf_ledger_stage(ledger, SOURCE, NULL), CF_NULL);
   ROW(cf_ledger_function(ledger, TWICE, NULL), CF_NULL);
   ROW(cf_ledger_stages(ledger, NULL), CF_NULL);
+  ROW(cf_request_new(plan, NULL, lane_of, STAGES, &empty), CF_NULL);
+  ROW(cf_request_new(plan, &lanes, NULL, STAGES, &empty), CF_NULL);
+  ROW(cf_request_new(plan, &lanes, lane_of, STAGES, NULL), CF_NULL);
+  ROW(cf_request_apply(asked, 1, 0, NULL, out.told, 2), CF_NULL);
+  ROW(cf_request_apply(asked, 1, 0, &out.applied, NULL, 2), CF_NULL);
+  ROW(cf_request_next(asked, NULL, &out.task, out.told, 2), CF_NULL);
+  ROW(cf_request_next(asked, &out.turn, NULL, out.told, 2), CF_NULL);
+  ROW(cf_request_next(asked, &out.turn, &out.task, NULL, 2), CF_NULL);
+  ROW(cf_request_follow(asked, SOURCE, TWICE, NULL, 2, &out.n), CF_NULL);
+  ROW(cf_request_follow(asked, SOURCE, TWICE, out.told, 2, NULL), CF_NULL);
+  ROW(cf_request_pass(asked, 1, NULL, 2, &out.n), CF_NULL);
+  ROW(cf_request_pass(asked, 1, out.told, 2, NULL), CF_NULL);
+  ROW(cf_request_next_deadline(asked, NULL), CF_NULL);
+  ROW(cf_request_refuse(asked, 0, 1, NULL, 2, &out.n), CF_NULL);
+  ROW(cf_request_refuse(asked, 0, 1, out.told, 2, NULL), CF_NULL);
+  ROW(cf_request_told(asked, NULL, 2, &out.n), CF_NULL);
+  ROW(cf_request_told(asked, out.told, 2, NULL), CF_NULL);
+  ROW(cf_request_ready(asked, 0, NULL), CF_NULL);
   ROW(cf_desk_complete(caller, SOURCE, value, NULL), CF_NULL);
   ROW(cf_desk_fail(caller, SOURCE, 1, NULL), CF_NULL);
   ROW(cf_desk_fail_as(caller, SOURCE, CF_TIMED_OUT, NULL), CF_NULL);
@@ -315,9 +359,11 @@ static void by_pointers(void) {
 
 static void by_numbers(uint16_t stage) {
   cf_handle *builder = &held[BUILDER], *graph = &held[GRAPH], *ledger = &held[LEDGER], *caller = &held[CALLER];
+  cf_handle *asked = &held[REQUEST];
   const cf_given late[] = {first, {.stage = stage}};
   cf_task task = {.held = 1, .stage = stage};
   cf_step step = {0};
+  cf_request_step turn = {0};
   cf_event event = {.call = CF_CALL_CANCEL, .stage = stage};
   fill();
   ROW(cf_builder_stage(builder, CF_APPLY, &stage, 1, 0, &out.number), CF_SOURCE_NOT_LOWER);
@@ -340,6 +386,11 @@ static void by_numbers(uint16_t stage) {
   ROW(cf_ledger_function(ledger, stage, &out.number), CF_NO_STAGE);
   ROW(cf_ledger_ready(ledger, stage, &out.number), CF_NOTHING);
   ROW(cf_ledger_step(ledger, &step, &task, out.news, 2, &out.n), CF_NO_STAGE);
+  ROW(cf_request_next(asked, &turn, &task, out.told, 2), CF_NO_STAGE);
+  ROW(cf_request_follow(asked, stage, SOURCE, out.told, 2, &out.n), CF_NO_STAGE);
+  ROW(cf_request_follow(asked, SOURCE, stage, out.told, 2, &out.n), CF_NO_STAGE);
+  ROW(cf_request_deadline(asked, stage, 1, CF_TIMEOUT, value), CF_NO_STAGE);
+  ROW(cf_ledger_stage(asked, stage, &out.stage), CF_NO_STAGE);
   ROW(cf_desk_complete(caller, stage, value, &out.reply), CF_NO_STAGE);
   ROW(cf_desk_fail(caller, stage, 1, &out.reply), CF_NO_STAGE);
   ROW(cf_desk_fail_as(caller, stage, CF_TIMED_OUT, &out.reply), CF_NO_STAGE);
@@ -368,6 +419,8 @@ static void by_other_numbers(void) {
   cf_event event = {.call = 8};
   cf_task task = {.held = 1, .stage = TWICE};
   cf_step step = {.who = 64};
+  cf_request_step turn = {.who = 64};
+  cf_handle *asked = &held[REQUEST];
   fill();
   ROW(cf_builder_new(&held[GRAPH], 0, 0), CF_FULL);
   ROW(cf_builder_stage(builder, 19, &of, 1, 0, &out.number), CF_NO_SUCH_NUMBER);
@@ -403,6 +456,22 @@ static void by_other_numbers(void) {
   ROW(cf_ledger_step(ledger, &step, &task, out.news, 2, &out.n), CF_NOT_HELD);
   ROW(cf_ledger_grow(ledger, NEVER), CF_ROOM);
   ROW(cf_ledger_apply(ledger, 0, &out.reply, out.news, 2, &out.n), CF_NO_WORD);
+  ROW(cf_request_new(plan, &(cf_request_sizes){.room = 4095, .lanes = 2}, lane_of, STAGES, &empty), CF_ROOM);
+  ROW(cf_request_new(plan, &(cf_request_sizes){.lanes = 0}, lane_of, STAGES, &empty), CF_LANES);
+  ROW(cf_request_new(plan, &(cf_request_sizes){.lanes = 17}, lane_of, STAGES, &empty), CF_LANES);
+  ROW(cf_request_new(plan, &lanes, lane_of, STAGES - 1, &empty), CF_LANES);
+  ROW(cf_request_new(plan, &(cf_request_sizes){.lanes = 1}, lane_of, STAGES, &empty), CF_NO_LANE);
+  ROW(cf_request_new(plan, &(cf_request_sizes){.lanes = 2, .own = 64}, lane_of, STAGES, &empty), CF_NO_WORD);
+  ROW(cf_request_new(plan, &lanes, lane_of, STAGES, &held[GRAPH]), CF_FULL);
+  ROW(cf_request_next(asked, &turn, &task, out.told, 2), CF_NO_WORD);
+  turn.who = 0;
+  ROW(cf_request_next(asked, &turn, &task, out.told, 2), CF_NOT_HELD);
+  turn.lane = 2;
+  ROW(cf_request_next(asked, &turn, &task, out.told, 2), CF_NO_LANE);
+  ROW(cf_request_apply(asked, 0, 0, &out.applied, out.told, 2), CF_NO_WORD);
+  ROW(cf_request_apply(asked, 0, 2, &out.applied, out.told, 2), CF_NO_LANE);
+  ROW(cf_request_refuse(asked, 2, 1, out.told, 2, &out.n), CF_NO_LANE);
+  ROW(cf_request_ready(asked, 2, &out.number), CF_NO_LANE);
   ROW(cf_apply(graph, UINT64_MAX, &out.reply), CF_NO_WORD);
   ROW(cf_event_of(0, &out.event), CF_NO_WORD);
   ROW(cf_word_of_event(&event, &out.word), CF_NO_SUCH_NUMBER);

@@ -31,6 +31,7 @@
  *   - a sweep: a graph while one walk up through all its stages is under way (cf_sweep_begin);
  *   - a ledger: a graph that also keeps the word of each event, for one thread or for several under a lock of yours
  *     (cf_ledger_new);
+ *   - a request: a ledger that also knows whom to wake, what to run and until when (cf_request_new);
  *   - a caller of a desk: a desk is a graph that several threads share without a lock, and each thread has a caller's
  *     handle of its own (cf_desk_open);
  *   - a notice: what a caller of a desk has seen, for another thread (cf_desk_notice);
@@ -57,7 +58,9 @@
  * copies what it needs, and keeps no pointer of yours once the call has returned. These calls take memory, and
  * answer CF_NO_MEMORY if it is refused: cf_builder_new, cf_builder_stage, cf_builder_limit, cf_build, cf_graph_new,
  * cf_plan_of, cf_desk_open, cf_desk_open_with, cf_desk_notice, cf_close_begin, cf_ledger_new, cf_ledger_of,
- * cf_ledger_apply, cf_ledger_step, cf_ledger_apply_all, cf_ledger_grow and cf_run_script. No other call takes any.
+ * cf_ledger_apply, cf_ledger_step, cf_ledger_apply_all, cf_ledger_grow, cf_request_new, cf_request_apply,
+ * cf_request_next, cf_request_follow, cf_request_deadline, cf_request_pass, cf_request_refuse and cf_run_script. No
+ * other call takes any.
  *
  * Codes. Each call answers a cf_code, except cf_free and the last four calls of this header. The code is CF_OK (0)
  * if the call did what it was asked. The comments list the other codes of each call. If several apply, the call
@@ -72,8 +75,8 @@
  *
  * Results. A call writes its results through pointers, if it answers CF_OK. If it answers another code, it has
  * written nothing, and nothing behind a handle has changed. These are the exceptions:
- *   - cf_next, cf_round, cf_sweep_next and cf_ledger_step have done their work also if they answer CF_NOTHING. This
- *     code says that no ready stage was left to claim.
+ *   - cf_next, cf_round, cf_sweep_next, cf_ledger_step and cf_request_next have done their work also if they answer
+ *     CF_NOTHING. This code says that no ready stage was left to claim.
  *   - cf_desk_next may have done a part of its work.
  *   - cf_work, cf_desk_complete_many and cf_ledger_apply_all have done their work up to the point where they stopped,
  *     and tell how far they came.
@@ -134,6 +137,9 @@ typedef enum {
   CF_NO_ROOM = 30,            /* a ledger has no room for the stage that a word attaches */
   CF_LOST = 31,               /* another caller of the desk claimed or settled the stage first */
   CF_NOT_OVER = 32,           /* not all stages are behind the sweep yet */
+  CF_LANES = 33,              /* a request has to have 1 to 16 lanes, and a lane for each stage of its plan */
+  CF_NO_LANE = 34,            /* a lane that the call names isn't there */
+  CF_PAST_MOMENT = 35,        /* the moment is before the last one */
   CF_NULL = 255               /* a pointer is null that may not be; nothing was done */
 } cf_code;
 
@@ -881,7 +887,9 @@ uint32_t cf_ledger_step(cf_handle *ledger, cf_step *step, cf_task *task, cf_news
  * Codes: CF_NO_WORD, CF_NO_STAGE, CF_NO_ROOM or CF_NO_MEMORY, for which the next one can't be done. */
 uint32_t cf_ledger_apply_all(cf_handle *ledger, const uint64_t *words, size_t n, size_t *done);
 
-/* Tells the words of a ledger.
+/* This call and the next five ask a ledger, and so does the ledger of a request: the handle may be of either kind.
+ *
+ * Tells the words of a ledger.
  *   - from: the place of the first word that is told, 0, 1, ..
  *   - words, room: a buffer for `room` words, which gets them as far as there is room.
  *   - n: gets how many words there are from that place on, which is 0 past the end. */
@@ -923,6 +931,139 @@ uint32_t cf_ledger_grow(cf_handle *ledger, uint16_t more);
  * ledger keeps its memory. So it costs less to keep one for the next request than to open a new one. */
 uint32_t cf_ledger_restart(cf_handle *ledger);
 
+/* ---- Requests: what a service does for one request ---- */
+
+/* A request is a ledger that knows four things more: which stages are settled and weren't told yet, who is to run the
+ * function of each stage, which stage ends as another one does, and by which moments stages have to be settled. It
+ * runs nothing, waits for nothing and reads no clock. Your program is its host, and does the rest: it calls the
+ * functions, wakes those who wait, and sleeps until the next moment. docs/C.md has a host step by step, docs/REQUEST.md
+ * what is promised, and clients/c/host.c a whole one. If several threads share a request, your program keeps it under
+ * one lock.
+ *
+ * Lanes. Each stage has a lane, which is a number from 0 on: whoever runs this lane is to call the stage's function.
+ * A lane may be a pool of threads, an event loop, or one thread.
+ *
+ * Telling. A stage is told once, when it is settled, in the order of the events that settled them. The calls that can
+ * settle stages have a row for this:
+ *   - told, room: a row for `room` stages. It gets the stages that are settled and weren't told yet, as far as there is
+ *     room for them. These are told then. All others stay to be told, by the next of these calls or by cf_request_told.
+ *   - n, or a field `told`: gets how many there were to tell, which may be more than `room`.
+ *
+ * The words, the news and the stages of a request are asked by cf_ledger_words, cf_ledger_news, cf_ledger_ready,
+ * cf_ledger_stage, cf_ledger_function and cf_ledger_stages. Its words make the same ledger again (cf_ledger_of). What
+ * the request settles by itself stands there as words of its own caller.
+ *
+ * A call that takes memory finds it first. If it answers CF_NO_MEMORY, nothing has changed, and it may be made again. */
+
+/* A stage that is told: its number, and its outcome. */
+typedef struct { uint16_t stage; cf_outcome outcome; } cf_told;
+
+/* What a request is opened with.
+ *   - room: how many stages may be attached later.
+ *   - lanes: how many lanes there are, 1 to 16.
+ *   - own: the number of the caller in whose name the request settles stages itself, 0 to 63. */
+typedef struct { uint16_t room; uint8_t lanes; uint8_t own; } cf_request_sizes;
+
+/* Opens a request of a plan. Nothing follows, nothing is due, and the moment is 0.
+ *   - plan: the plan. It stays behind its handle. Its limits are those of a graph, and fire by a word of CF_CALL_TICK.
+ *   - sizes: as said above.
+ *   - lanes, n: the lane of each of the plan's n stages.
+ *   - request: an empty handle, behind which the request is put.
+ *
+ * Codes:
+ *   - CF_FULL, CF_EMPTY, CF_WRONG_KIND, CF_ROOM: as for cf_graph_new.
+ *   - CF_LANES: sizes->lanes isn't 1 to 16, or n isn't the number of the plan's stages.
+ *   - CF_NO_LANE: one of the n lanes isn't below sizes->lanes.
+ *   - CF_NO_WORD: sizes->own is above 63.
+ *   - CF_NO_MEMORY. */
+uint32_t cf_request_new(cf_handle *plan, const cf_request_sizes *sizes, const uint8_t *lanes, size_t n, cf_handle *request);
+
+/* What cf_request_apply has done: the reply of the word, and how many stages there were to tell. */
+typedef struct { cf_reply reply; size_t told; } cf_applied;
+
+/* Does a word, as cf_ledger_apply does. Then it settles the stages that follow a stage that is settled now.
+ *   - lane: the lane of the stage that the word attaches. It has to be there with any word.
+ *   - applied: gets the reply.
+ *   - told, room: a row, as said above.
+ *
+ * Codes:
+ *   - CF_NO_LANE: there is no such lane.
+ *   - CF_NO_MEMORY.
+ *   - CF_NO_WORD, CF_NO_STAGE: as for cf_ledger_apply.
+ *   - CF_NO_ROOM: there is no room for the stage that the word attaches. */
+uint32_t cf_request_apply(cf_handle *request, uint64_t word, uint8_t lane, cf_applied *applied, cf_told *told, size_t room);
+
+/* What cf_request_next is asked, and how many stages there were to tell.
+ *   - who: the caller, 0 to 63. Your program writes it.
+ *   - lane: the lane in which it works. Your program writes it.
+ *   - told: gets how many stages there were to tell. */
+typedef struct { uint8_t who; uint8_t lane; size_t told; } cf_request_step;
+
+/* One step of a caller's loop, as cf_next does it. It finishes the stage that the task holds, if there is one, with
+ * the answer in the task, and settles the stages that follow one that is settled now. Then it claims the lowest ready
+ * stage of the lane, and writes it into the task.
+ *   - task: all bytes 0 for the first step.
+ *   - told, room: a row, as said above.
+ *
+ * Codes:
+ *   - CF_NO_LANE: there is no such lane.
+ *   - CF_NO_MEMORY.
+ *   - CF_NO_WORD: step->who is above 63.
+ *   - CF_NO_STAGE: the stage that the task holds isn't there.
+ *   - CF_NOT_HELD: the caller has no open claim of the stage that the task holds.
+ *   - CF_NOTHING: no stage of the lane is ready. The finish was done, if there was one. The task holds nothing, and all
+ *     else is written as with CF_OK. */
+uint32_t cf_request_next(cf_handle *request, cf_request_step *step, cf_task *task, cf_told *told, size_t room);
+
+/* From now on a stage ends as another stage of the request does, unless it is settled before. It gets the same value,
+ * or a fault of the same cause: a cancellation cancels it, a time-out times it out.
+ *   - relay: the stage that follows.
+ *   - stage: the stage that it follows.
+ *   - told, room, n: a row, as said above.
+ *
+ * Codes: CF_NO_MEMORY, and CF_NO_STAGE if one of the two isn't there. */
+uint32_t cf_request_follow(cf_handle *request, uint16_t relay, uint16_t stage, cf_told *told, size_t room, size_t *n);
+
+/* Sets a moment by which a stage has to be settled. If it is open then, cf_request_pass settles it. A stage may have
+ * several, and attached stages may have some, too.
+ *   - moment: the moment, in a unit of your choice.
+ *   - kind, value: as for cf_builder_limit.
+ *
+ * Codes: CF_NO_MEMORY, and CF_NO_STAGE if there is no such stage. */
+uint32_t cf_request_deadline(cf_handle *request, uint16_t stage, uint64_t moment, uint32_t kind, cf_value value);
+
+/* Lets time pass up to a moment. All open stages whose deadline has come are settled, in the order of their moments,
+ * and those of one moment in the order in which the deadlines were set. A stage that follows another one that is
+ * settled then ends as that one does.
+ *   - told, room, n: a row, as said above.
+ *
+ * Codes: CF_NO_MEMORY, and CF_PAST_MOMENT if the moment is before that of the last cf_request_pass. */
+uint32_t cf_request_pass(cf_handle *request, uint64_t moment, cf_told *told, size_t room, size_t *n);
+
+/* A deadline: the stage, the moment, CF_TIMEOUT or CF_GIVE_VALUE, and the value, which is CF_NIL for CF_TIMEOUT. */
+typedef struct { uint16_t stage; uint64_t moment; uint32_t kind; cf_value value; } cf_deadline;
+
+/* Tells the deadline that comes next, of those whose stage is open. Your program sleeps until its moment.
+ *
+ * Code: CF_NOTHING if no stage that has one is open. */
+uint32_t cf_request_next_deadline(cf_handle *request, cf_deadline *deadline);
+
+/* Nobody runs a lane any more: its ready stages fail, and so do those that become ready by this.
+ *   - code: the code of the exception with which they fail.
+ *   - told, room, n: a row, as said above.
+ *
+ * Codes: CF_NO_LANE if there is no such lane, and CF_NO_MEMORY. */
+uint32_t cf_request_refuse(cf_handle *request, uint8_t lane, uint32_t code, cf_told *told, size_t room, size_t *n);
+
+/* Tells the stages that are settled and weren't told yet.
+ *   - told, room, n: a row, as said above. */
+uint32_t cf_request_told(cf_handle *request, cf_told *told, size_t room, size_t *n);
+
+/* Tells how many stages of a lane are ready.
+ *
+ * Code: CF_NO_LANE if there is no such lane. */
+uint32_t cf_request_ready(cf_handle *request, uint8_t lane, uint16_t *ready);
+
 /* ---- Scripts and texts ---- */
 
 /* Each of these calls writes a text into a buffer of `room` bytes, as far as there is room. It writes the length of
@@ -954,13 +1095,13 @@ uint32_t cf_code_text(uint32_t code, uint8_t *text, size_t room, size_t *length)
 /* The version of this header. A library of a later version with the same first number has all that stands here,
  * unchanged. */
 #define CF_VERSION_MAJOR 1
-#define CF_VERSION_MINOR 4
+#define CF_VERSION_MINOR 5
 #define CF_VERSION_PATCH 0
 
 /* None of the next four calls answers a cf_code. The texts that they answer are static and end in a zero byte. Your
  * program doesn't free them. */
 
-/* Answers the version of the library, such as "1.4.0". */
+/* Answers the version of the library, such as "1.5.0". */
 const char *cf_version(void);
 
 /* Answers whether a program that was written for this version of the header runs with the library. */

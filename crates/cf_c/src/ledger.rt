@@ -1,7 +1,7 @@
 //! A graph with the words of all that was done to it.
 ghost use Rattle.cf_c_handles.specs.Handles.{HandleDoes, HandleOpens, HandleOpensFrom, HandleTells, HandleWrites};
 ghost use Rattle.cf_c_handles.specs.LedgerSteps.{StepsLedger};
-ghost use Rattle.cf_c_handles.specs.Ledgers.{DoesRow, DoesWord, Grows, LedgerFrom, LedgerOf, OfLedger, StartsAgain, TellsFunction, TellsReady, TellsStage, TellsStages, WritesNews, WritesWords};
+ghost use Rattle.cf_c_handles.specs.Ledgers.{DoesRow, DoesWord, Grows, LedgerFrom, LedgerOf, OfLedger, OfLedgerWriting, StartsAgain, TellsFunction, TellsReady, TellsStage, TellsStages, WritesNews, WritesWords};
 
 use crate::handle::{ask, tell};
 use cf_c_handles::code::Code;
@@ -113,7 +113,7 @@ pub extern "C" fn cf_ledger_words(
     words: &mut [u64],
     n: &mut usize,
 ) -> u32
-    ensures { HandleWrites (WritesWords from) h.old h.new result (words.old, n.old) (words.new, n.new) }
+    ensures { HandleWrites (OfLedgerWriting (WritesWords from)) h.old h.new result (words.old, n.old) (words.new, n.new) }
 {
     ask!(alloc, h, held => telling::words(&mut held, from, words, n))
 }
@@ -127,7 +127,7 @@ pub extern "C" fn cf_ledger_news(
     stages: &mut [u16],
     n: &mut usize,
 ) -> u32
-    ensures { HandleWrites (WritesNews place) h.old h.new result (stages.old, n.old) (stages.new, n.new) }
+    ensures { HandleWrites (OfLedgerWriting (WritesNews place)) h.old h.new result (stages.old, n.old) (stages.new, n.new) }
 {
     ask!(alloc, h, held => telling::news(&mut held, place, stages, n))
 }

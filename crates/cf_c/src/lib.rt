@@ -9,6 +9,7 @@
 //! | `plan` | a plan that is being built |
 //! | `graph` | a graph that one caller has alone |
 //! | `ledger` | a graph with the words of all that was done to it |
+//! | `request` | one request of a service as a machine, which tells each settled stage once |
 //! | `opening`, `desk` | the callers of a graph that several share: how it is opened, and what each of them is asked |
 //! | `close` | a desk that is being closed, and a closed one with its records |
 //! | `events` | events and their words |
@@ -23,4 +24,5 @@ mod handle;
 mod ledger;
 mod opening;
 mod plan;
+mod request;
 mod texts;

@@ -24,7 +24,7 @@ use Rattle.cf_c_handles.specs.Values.{as_outcome}
 use Rattle.cf_c_handles.specs.declared.code.Code.{Code}
 use Rattle.cf_c_handles.specs.declared.code.Code.TheVariants.{Empty, Full, WrongKind, NoMemory, NoRoom, NoStage, NoWord, Nothing, Room}
 use Rattle.cf_c_handles.specs.declared.handle.object.Object.{Object}
-use Rattle.cf_c_handles.specs.declared.handle.object.Object.TheVariants.{Ledger, Plan}
+use Rattle.cf_c_handles.specs.declared.handle.object.Object.TheVariants.{Ledger, Plan, Request}
 use Rattle.cf_c_handles.specs.declared.values.CfReply.{CfReply}
 use Rattle.cf_c_handles.specs.declared.values.stage.CfNews.{CfNews}
 use Rattle.cf_c_handles.specs.declared.values.stage.CfStage.{CfStage}
@@ -94,9 +94,10 @@ OpensFrom Makes (Some plan) kept code None new had has = IsMadeFrom Makes plan k
 
 -- ---- what it is asked
 
--- a ledger is asked this, and stays
+-- a ledger is asked this, or that of a request, and stays
 abbrev pub OfLedger : {X : Type 0} → (Ledger' → Result X Code → Type 0) → Object → Result X Code → Object → Type 0
 OfLedger Tells (Ledger l) r new = Tells l r × (new ≡ Ledger l)
+OfLedger Tells (Request m) r new = Tells m.teller.ledger r × (new ≡ Request m)
 OfLedger Tells held r new = (r ≡ Err WrongKind) × (new ≡ held)
 
 abbrev pub TellsStage : ℕ → Ledger' → Result CfStage Code → Type 0
@@ -210,9 +211,14 @@ StartsAgain held r new = (r ≡ Err WrongKind) × (new ≡ held)
 
 -- ---- what it writes for C
 
-abbrev pub WritesWords : ℕ → Object → List ℕ × ℕ → Result (Unit {0}) Code → Object → List ℕ × ℕ → Type 0
-WritesWords from (Ledger l) had r new has = (r ≡ Ok tt) × (new ≡ Ledger l) × GivesText (drop from (map word_of l.events)) had.0 has.0 has.1
-WritesWords from held had r new has = (r ≡ Err WrongKind) × (new ≡ held) × (has ≡ had)
+-- a ledger, or that of a request, writes this, and stays
+abbrev pub OfLedgerWriting : {X : Type 0} → (Ledger' → X → Result (Unit {0}) Code → X → Type 0) → Object → X → Result (Unit {0}) Code → Object → X → Type 0
+OfLedgerWriting Writes (Ledger l) had r new has = Writes l had r has × (new ≡ Ledger l)
+OfLedgerWriting Writes (Request m) had r new has = Writes m.teller.ledger had r has × (new ≡ Request m)
+OfLedgerWriting Writes held had r new has = (r ≡ Err WrongKind) × (new ≡ held) × (has ≡ had)
+
+abbrev pub WritesWords : ℕ → Ledger' → List ℕ × ℕ → Result (Unit {0}) Code → List ℕ × ℕ → Type 0
+WritesWords from l had r has = (r ≡ Ok tt) × GivesText (drop from (map word_of l.events)) had.0 has.0 has.1
 
 -- the stages that the event at a place changed
 pub record HasNews (l : Ledger') (place : ℕ) (had has : List ℕ × ℕ) : Type 0 where
@@ -221,10 +227,9 @@ pub record HasNews (l : Ledger') (place : ℕ) (had has : List ℕ × ℕ) : Typ
   pub changed : AreNews (state_at l place).stages (state_at l (place + 1)).stages stages
   pub given : GivesText stages had.0 has.0 has.1
 
-abbrev pub WritesNews : ℕ → Object → List ℕ × ℕ → Result (Unit {0}) Code → Object → List ℕ × ℕ → Type 0
-WritesNews place (Ledger l) had (Ok done) new has = (new ≡ Ledger l) × HasNews l place had has
-WritesNews place (Ledger l) had (Err fault) new has = (fault ≡ Nothing) × (length l.events ≤ place) × (new ≡ Ledger l) × (has ≡ had)
-WritesNews place held had r new has = (r ≡ Err WrongKind) × (new ≡ held) × (has ≡ had)
+abbrev pub WritesNews : ℕ → Ledger' → List ℕ × ℕ → Result (Unit {0}) Code → List ℕ × ℕ → Type 0
+WritesNews place l had (Ok done) has = HasNews l place had has
+WritesNews place l had (Err fault) has = (fault ≡ Nothing) × (length l.events ≤ place) × (has ≡ had)
 
 -- what stands behind a handle is asked and stays there, what C has is written, and C gets the code
 pub record IsWritten {X : Type 0} (Asks : Object → X → Result (Unit {0}) Code → Object → X → Type 0) (held : Object) (new : Option Object) (code : ℕ) (had has : X) : Type 0 where

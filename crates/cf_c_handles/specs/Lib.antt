@@ -16,6 +16,8 @@ pub mod Opening
 pub mod Plans
 pub mod Records
 pub mod Replies
+pub mod RequestCalls
+pub mod Requests
 pub mod Rounds
 pub mod Restarts
 pub mod Scripts

@@ -67,6 +67,12 @@ pub enum Code {
     Lost,
     /// 32: a sweep hasn't gone through all stages yet.
     NotOver,
+    /// 33: a request is to have no lane, or more than 16, or not a lane for each stage of its plan.
+    Lanes,
+    /// 34: a lane that the call names isn't there.
+    NoLane,
+    /// 35: the moment is before the last one.
+    PastMoment,
 }
 
 impl From<AllocError> for Code {
@@ -126,6 +132,9 @@ pub fn text_of(number: u32) -> Option<&'static str>
         30 => Some("NoRoom"),
         31 => Some("Lost"),
         32 => Some("NotOver"),
+        33 => Some("Lanes"),
+        34 => Some("NoLane"),
+        35 => Some("PastMoment"),
         255 => Some("Null"),
         _ => None,
     }

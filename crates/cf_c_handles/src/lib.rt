@@ -10,6 +10,7 @@
 //! | `plan` | a plan that is being built |
 //! | `graph` | a graph that one caller has alone |
 //! | `ledger` | a graph with the words of all that was done to it |
+//! | `request` | one request of a service as a machine, which tells each settled stage once |
 //! | `desk` | the callers of a graph that several share: how it is opened, and what each of them is asked |
 //! | `close` | a desk that is being closed, and a closed one with its records |
 //! | `values` | values, replies and events |
@@ -24,5 +25,6 @@ pub mod graph;
 pub mod handle;
 pub mod ledger;
 pub mod plan;
+pub mod request;
 pub mod texts;
 pub mod values;

@@ -7,6 +7,7 @@ ghost use Rattle.cf_c_handles.specs.Values.{answer_of, answer_with, args_with, a
 
 pub mod attaching;
 pub mod event;
+pub mod request;
 pub mod stage;
 pub mod task;
 

@@ -7,11 +7,10 @@ use Rattle.std.proofs.lemmas.List.Elements.{All-append, All-cons, All-contains, 
 use Rattle.cf_outcome.specs.declared.outcome.Outcome.{Outcome}
 use Rattle.cf_model.specs.declared.stage.Stage.{Stage}
 use Rattle.cf_model.specs.States.{State}
-use Rattle.cf_request.specs.Deadlines.{HaveStages, IsBestOf, IsNextOpen, IsOverdue, NoneOpen, NoneOverdue, earlier, open_of}
+use Rattle.cf_request.specs.Deadlines.{HaveStages, IsBestOf, IsNextOpen, NoneOpen, NoneOverdue, earlier, open_of}
 use Rattle.cf_request.specs.Settling.{IsOpen}
 use Rattle.cf_request.specs.Telling.{is_settled_in}
 use Rattle.cf_request.specs.declared.deadlines.Deadline.{Deadline}
-use Rattle.cf_request.specs.declared.settling.Due.{Due}
 
 -- an waits stage's deadline isn't before this one
 abbrev NotBefore : List Stage → Deadline → Deadline → Type 0
@@ -105,13 +104,6 @@ later_by false moment d e later h come = let l = h refl in absurd (omega (arith,
 pub none_come : (moment : ℕ) (ds : List Deadline) (stages : List Stage) (d : Deadline) → IsNextOpen ds stages d → moment < d.moment → NoneOverdue moment ds stages
 none_come moment ds stages d h later =
     All-weaker (NotBefore stages d) (λ (e : Deadline). e.moment ≤ moment → is_settled_in stages e.stage ≡ true) (λ e k come. later_by (is_settled_in stages e.stage) moment d e later k come) ds (none_before ds stages d h)
-
--- where one is due, one is overdue
-pub due_overdue : (moment : ℕ) (ds : List Deadline) (s : State) (d : Due) → IsOpen s d.stage → IsOverdue moment ds s d → NoneOverdue moment ds s.stages → ⊥
-due_overdue moment ds s d waits due none =
-    let on = All-contains (λ (e : Deadline). e.moment ≤ moment → is_settled_in s.stages e.stage ≡ true) ds due.deadline none (next_in ds s.stages due.deadline due.next) due.come in
-    let off = due.next.waits in
-    cc
 
 -- ---- those of waits stages
 

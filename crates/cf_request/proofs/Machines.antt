@@ -1,13 +1,17 @@
 -- What a machine keeps.
-use Rattle.std.proofs.Common.{◌≡◌, ℕ, ◌+◌, ◌<◌, ◌≤◌, Bool, true, false, cond, not, Option, Some, None, List, [], ◌∷◌, ◌++◌, length, length-append, nat_lt, refl, ap, sym, ◌∙◌, arith, subst}
-use Rattle.std.specs.Prelude.{IfOk, OnErr, OnOk, Result, Ok, Err, is_ok}
+use Rattle.std.proofs.Common.{◌≡◌, ℕ, zero, suc, ◌+◌, ◌<◌, ◌≤◌, Bool, true, false, cond, not, Option, Some, None, List, [], ◌∷◌, ◌++◌, length, length-append, nat_lt, refl, ap, set, sym, ◌∙◌, arith, subst}
+use Rattle.std.specs.Prelude.{is_some, slice_get, unwrap_or}
 use Rattle.std.proofs.lemmas.Bool.{ltb-true, ltb-false}
-use Rattle.std.proofs.lemmas.List.Elements.{All-filter, All-push}
+use Rattle.std.proofs.lemmas.List.Elements.{All-filter, All-push, All-weaker}
+use Rattle.cf_forms.specs.declared.forms.Args.{Args}
 use Rattle.cf_model.specs.declared.events.Event.TheVariants.{Claim as Claims, Finish as Finishes}
 use Rattle.cf_model.specs.declared.events.Reply.{Reply}
 use Rattle.cf_model.specs.declared.events.Reply.TheVariants.{Claim as ToldClaim, Finish as ToldFinish}
 use Rattle.cf_model.specs.declared.replies.Claimed.TheVariants.{Granted}
-use Rattle.cf_model.specs.States.{State}
+use Rattle.cf_model.specs.Events.{claimed_by}
+use Rattle.cf_model.specs.States.{State, outcome_in, outcome_of, stage_at}
+use Rattle.cf_model.specs.declared.stage.Stage.{Stage}
+use Rattle.cf_model.specs.declared.stage.Stage.TheVariants.{Pending, Ready, Claimed, Linked, Settled}
 use Rattle.cf_ledger.specs.Ledgers.{state_of}
 use Rattle.cf_ledger.specs.Steps.{finished_as}
 use Rattle.cf_ledger.specs.declared.step.Finish.{Finish}
@@ -15,14 +19,14 @@ use Rattle.cf_ledger.specs.declared.step.Held.{Held}
 use Rattle.cf_ledger.specs.declared.step.Taken.{Taken}
 use Rattle.cf_request.specs.Deadlines.{HaveStages, open_of}
 use Rattle.cf_request.specs.Lanes.{FinishesHeld, TakesIn, lanes_of}
-use Rattle.cf_request.specs.Machines.{CatchesUp, IsMachine, TakesAfter}
-use Rattle.cf_request.specs.Relays.{IsRelayDue, NoneBehind, SomeBehind}
+use Rattle.cf_request.specs.Machines.{CatchesUp, IsMachine}
+use Rattle.cf_request.specs.Relays.{IsRelayDue, NoneBehind}
 use Rattle.cf_request.specs.Settling.{SettlesDue}
-use Rattle.cf_request.specs.Telling.{Teller, Tells, is_settled_in}
+use Rattle.cf_request.specs.Telling.{Teller, Tells, TellsEvent, is_settled_in, with_memory}
 use Rattle.cf_request.specs.declared.deadlines.Deadline.{Deadline}
 use Rattle.cf_request.specs.declared.relays.Follow.{Follow}
 use Rattle.cf_request.specs.declared.settling.Due.{Due}
-use Rattle.cf_request.proofs.Turns.{Keeps, follows_kept, follows_word, keeps_dues, keeps_event, keeps_same, keeps_then, lanes_kept, limits_kept, limits_word}
+use Rattle.cf_request.proofs.Turns.{Keeps, after_event, follows_kept, follows_word, keeps_dues, keeps_event, keeps_memory, keeps_same, lanes_kept, limits_kept, limits_word}
 use Rattle.cf_request.proofs.Telling.{same_most}
 use Rattle.cf_request.proofs.Words.{at_most_one, none_lost}
 
@@ -32,6 +36,22 @@ lanes_count_by true stages lane lanes is low high =
     let size = length-append lanes (lane ∷ []) in
     omega (arith, less, size, low, high)
 lanes_count_by false stages lane lanes is low high = let less = ltb-false (length lanes) stages is in omega (arith, less, low, high)
+
+pub kept_by : (a b : Teller) (lanes : List ℕ) (places : ℕ) (follows : List Follow) (deadlines : List Deadline) (own : ℕ) → Keeps a b → IsMachine a lanes places follows deadlines own → IsMachine b lanes places follows deadlines own
+kept_by a b lanes places follows deadlines own keeps h =
+    let most = keeps.most in
+    let room = h.room in
+    record {
+      all_lanes = lanes_kept a b lanes keeps h.all_lanes;
+      room = omega (arith, most, room);
+      relays = follows_kept a b follows keeps h.relays;
+      limits = limits_kept a b deadlines keeps h.limits;
+      caller = h.caller;
+    }
+
+pub kept_memory : (words : ℕ) (a b : Teller) (lanes : List ℕ) (places : ℕ) (follows : List Follow) (deadlines : List Deadline) (own : ℕ) → b ≡ with_memory words a → IsMachine a lanes places follows deadlines own →
+    IsMachine b lanes places follows deadlines own
+kept_memory words a b lanes places follows deadlines own is h = kept_by a b lanes places follows deadlines own (keeps_memory words a b is) h
 
 -- what is kept, once a word is done
 pub kept_word : (a b : Teller) (word lane : ℕ) (reply : Reply) (lanes : List ℕ) (places : ℕ) (follows : List Follow) (deadlines : List Deadline) (own : ℕ) → IsMachine a lanes places follows deadlines own → Tells word a reply b →
@@ -51,24 +71,13 @@ kept_word a b word lane reply lanes places follows deadlines own h tells =
       caller = h.caller;
     }
 
--- the same, once the lanes are written
-pub kept_lanes : (a b : Teller) (word lane : ℕ) (reply : Reply) (lanes lanes' : List ℕ) (stages places places' : ℕ) (follows : List Follow) (deadlines : List Deadline) (own : ℕ) → IsMachine a lanes places follows deadlines own → Tells word a reply b →
-    stages ≡ length (state_of b.ledger).plan.stages → lanes' ≡ lanes_of stages lane lanes → places' ≡ places → IsMachine b lanes' places' follows deadlines own
-kept_lanes a b word lane reply lanes lanes' stages places places' follows deadlines own h tells count written same =
+-- the same, once memory is found before, and the lanes are written
+pub kept_lanes : (words : ℕ) (a r b : Teller) (word lane : ℕ) (reply : Reply) (lanes lanes' : List ℕ) (stages places places' : ℕ) (follows : List Follow) (deadlines : List Deadline) (own : ℕ) → IsMachine a lanes places follows deadlines own → r ≡ with_memory words a →
+    Tells word r reply b → stages ≡ length (state_of b.ledger).plan.stages → lanes' ≡ lanes_of stages lane lanes → places' ≡ places → IsMachine b lanes' places' follows deadlines own
+kept_lanes words a r b word lane reply lanes lanes' stages places places' follows deadlines own h found tells count written same =
     subst (λ (p : ℕ). IsMachine b lanes' p follows deadlines own) (sym same)
-    (subst (λ (l : List ℕ). IsMachine b l places follows deadlines own) (sym (written ∙ ap (λ (n : ℕ). lanes_of n lane lanes) count)) (kept_word a b word lane reply lanes places follows deadlines own h tells))
-
-pub kept_by : (a b : Teller) (lanes : List ℕ) (places : ℕ) (follows : List Follow) (deadlines : List Deadline) (own : ℕ) → Keeps a b → IsMachine a lanes places follows deadlines own → IsMachine b lanes places follows deadlines own
-kept_by a b lanes places follows deadlines own keeps h =
-    let most = keeps.most in
-    let room = h.room in
-    record {
-      all_lanes = lanes_kept a b lanes keeps h.all_lanes;
-      room = omega (arith, most, room);
-      relays = follows_kept a b follows keeps h.relays;
-      limits = limits_kept a b deadlines keeps h.limits;
-      caller = h.caller;
-    }
+    (subst (λ (l : List ℕ). IsMachine b l places follows deadlines own) (sym (written ∙ ap (λ (n : ℕ). lanes_of n lane lanes) count))
+    (kept_word r b word lane reply lanes places follows deadlines own (kept_memory words a r lanes places follows deadlines own found h) tells))
 
 -- and once due stages are settled
 pub kept_dues : (P : State → Due → Type 0) (who : ℕ) (a b : Teller) (lanes : List ℕ) (places : ℕ) (follows : List Follow) (deadlines : List Deadline) (own : ℕ) → SettlesDue P who a b → IsMachine a lanes places follows deadlines own →
@@ -77,26 +86,65 @@ kept_dues P who a b lanes places follows deadlines own h m = kept_by a b lanes p
 
 -- ---- a step of a caller
 
-pub keeps_held : (who : ℕ) (held : Option Held) (old : Teller) (finish : Option Finish) (new : Teller) → FinishesHeld who held old finish new → Keeps old new
+keeps_held : (who : ℕ) (held : Option Held) (old : Teller) (finish : Option Finish) (new : Teller) → FinishesHeld who held old finish new → Keeps old new
 keeps_held who None old None new h = keeps_same old new h
 keeps_held who (Some g) old (Some f) new h = keeps_event (Finishes who g.stage g.answer) old new (ToldFinish (finished_as f.late)) refl h.done
 keeps_held who None old (Some f) new h = absurd h
 keeps_held who (Some g) old None new h = absurd h
 
-keeps_takes : (who : ℕ) (lanes : List ℕ) (lane : ℕ) (old : Teller) (taken : Option Taken) (new : Teller) → TakesIn who lanes lane old taken new → Keeps old new
+pub keeps_takes : (who : ℕ) (lanes : List ℕ) (lane : ℕ) (old : Teller) (taken : Option Taken) (new : Teller) → TakesIn who lanes lane old taken new → Keeps old new
 keeps_takes who lanes lane old None new h = keeps_same old new h.1
 keeps_takes who lanes lane old (Some t) new h = keeps_event (Claims who t.stage) old new (ToldClaim (Granted t.args)) refl h.done
 
-pub keeps_after : (own : ℕ) (follows : List Follow) (who : ℕ) (lanes : List ℕ) (lane : ℕ) (old : Teller) (taken : Option Taken) (new : Teller) → TakesAfter own follows who lanes lane old taken new → Keeps old new
-keeps_after own follows who lanes lane old taken new h =
-    keeps_then old h.between new (keeps_dues (IsRelayDue follows) own old h.between h.settles) (keeps_takes who lanes lane h.between taken new h.takes)
+-- what is kept, once memory is found and what is held is finished
+pub kept_finish : (words : ℕ) (a r b : Teller) (who : ℕ) (held : Option Held) (finish : Option Finish) (lanes : List ℕ) (places : ℕ) (follows : List Follow) (deadlines : List Deadline) (own : ℕ) → IsMachine a lanes places follows deadlines own →
+    r ≡ with_memory words a → FinishesHeld who held r finish b → IsMachine b lanes places follows deadlines own
+kept_finish words a r b who held finish lanes places follows deadlines own h found done =
+    kept_by r b lanes places follows deadlines own (keeps_held who held r finish b done) (kept_memory words a r lanes places follows deadlines own found h)
 
--- ---- relays at last
+-- ---- no relay is behind
 
-pub caught_up : {A E : Type 0} (own : ℕ) (follows : List Follow) (old new : Teller) (result : Result A E) (all : Bool) → all ≡ is_ok result → SettlesDue (IsRelayDue follows) own old new → OnOk result (NoneBehind follows (state_of new.ledger).stages) →
-    OnErr result (SomeBehind follows (state_of new.ledger).stages) → CatchesUp own follows old all new
-caught_up own follows old new (Ok x) all is h none some = record { settles = h; none = λ e. none; some = λ e. cc }
-caught_up own follows old new (Err x) all is h none some = record { settles = h; none = λ e. cc; some = λ e. some }
+set_claimed : (xs : List Stage) (i j : ℕ) (args : Args) → unwrap_or (slice_get xs i) Pending ≡ Ready args → outcome_in (set xs i Claimed) j ≡ outcome_in xs j
+set_claimed [] i j args h = refl
+set_claimed (x ∷ xs) zero zero args h = sym (ap outcome_of h)
+set_claimed (x ∷ xs) zero (suc j) args h = refl
+set_claimed (x ∷ xs) (suc i) zero args h = refl
+set_claimed (x ∷ xs) (suc i) (suc j) args h = set_claimed xs i j args h
+
+claimed_outcome : (x : Stage) (s : State) (who i j : ℕ) → stage_at s i ≡ x → outcome_in ((claimed_by x s who i).1.stages) j ≡ outcome_in s.stages j
+claimed_outcome Pending s who i j h = refl
+claimed_outcome (Ready args) s who i j h = set_claimed s.stages i j args h
+claimed_outcome Claimed s who i j h = refl
+claimed_outcome (Linked k) s who i j h = refl
+claimed_outcome (Settled o) s who i j h = refl
+
+-- a claim settles nothing
+claim_same : (who i : ℕ) (old new : Teller) (reply : Reply) → TellsEvent (Claims who i) old reply new → (j : ℕ) → is_settled_in (state_of new.ledger).stages j ≡ is_settled_in (state_of old.ledger).stages j
+claim_same who i old new reply h j =
+    let s = state_of old.ledger in
+    ap (λ (t : State). is_settled_in t.stages j) (after_event (Claims who i) old new reply h) ∙ ap is_some (claimed_outcome (stage_at s i) s who i j refl)
+
+none_same : (follows : List Follow) (old new : List Stage) → ((j : ℕ) → is_settled_in new j ≡ is_settled_in old j) → NoneBehind follows old → NoneBehind follows new
+none_same follows old new same h =
+    All-weaker (λ (f : Follow). is_settled_in old f.stage ≡ true → is_settled_in old f.relay ≡ true) (λ (f : Follow). is_settled_in new f.stage ≡ true → is_settled_in new f.relay ≡ true)
+    (λ f k on. same f.relay ∙ k (sym (same f.stage) ∙ on)) follows h
+
+pub none_takes : (follows : List Follow) (who : ℕ) (lanes : List ℕ) (lane : ℕ) (old : Teller) (taken : Option Taken) (new : Teller) → TakesIn who lanes lane old taken new → NoneBehind follows (state_of old.ledger).stages →
+    NoneBehind follows (state_of new.ledger).stages
+none_takes follows who lanes lane old None new h none = subst (λ (t : Teller). NoneBehind follows (state_of t.ledger).stages) (sym h.1) none
+none_takes follows who lanes lane old (Some t) new h none =
+    none_same follows (state_of old.ledger).stages (state_of new.ledger).stages (claim_same who t.stage old new (ToldClaim (Granted t.args)) h.done) none
+
+-- ---- relays are settled at last
+
+pub caught_up : (own : ℕ) (row follows : List Follow) (old new : Teller) → row ≡ follows → SettlesDue (IsRelayDue row) own old new → NoneBehind row (state_of new.ledger).stages → CatchesUp own follows old new
+caught_up own row follows old new is settles none =
+    subst (λ (l : List Follow). CatchesUp own l old new) is (record { settles = settles; none = none })
+
+pub kept_none : (P : State → Due → Type 0) (who : ℕ) (a b : Teller) (lanes : List ℕ) (places : ℕ) (row follows : List Follow) (deadlines : List Deadline) (own : ℕ) → SettlesDue P who a b → IsMachine a lanes places follows deadlines own → row ≡ follows →
+    NoneBehind row (state_of b.ledger).stages → IsMachine b lanes places follows deadlines own × NoneBehind follows (state_of b.ledger).stages
+kept_none P who a b lanes places row follows deadlines own h m is none =
+    (kept_dues P who a b lanes places follows deadlines own h m, subst (λ (l : List Follow). NoneBehind l (state_of b.ledger).stages) is none)
 
 -- ---- what is set
 
@@ -115,9 +163,3 @@ limits_set s deadlines d h l = All-push (λ (d : Deadline). d.stage < length s.p
 
 pub limits_left : (s : State) (deadlines : List Deadline) → HaveStages s deadlines → HaveStages s (open_of s.stages deadlines)
 limits_left s deadlines h = All-filter (λ (d : Deadline). not (is_settled_in s.stages d.stage)) (λ (d : Deadline). d.stage < length s.plan.stages) deadlines h
-
--- what follows a finish
-pub keeps_going : {E : Type 0} (own : ℕ) (follows : List Follow) (who : ℕ) (lanes : List ℕ) (lane : ℕ) (old new : Teller) (r : Result (Option Taken) E) → IfOk r (λ taken. TakesAfter own follows who lanes lane old taken new) →
-    OnErr r (SettlesDue (IsRelayDue follows) own old new) → Keeps old new
-keeps_going own follows who lanes lane old new (Ok taken) done starved = keeps_after own follows who lanes lane old taken new done
-keeps_going own follows who lanes lane old new (Err e) done starved = keeps_dues (IsRelayDue follows) own old new starved

@@ -1,7 +1,7 @@
 -- Loops that settle one open stage at each turn.
-use Rattle.std.proofs.Common.{◌≡◌, ℕ, zero, suc, ◌+◌, ◌<◌, ◌≤◌, Bool, true, false, cond, Option, Some, None, List, [], ◌∷◌, ◌++◌, All, length, set, refl, ap, sym, ◌∙◌, arith, subst, inl, inr}
-use Rattle.std.specs.Prelude.{Err, Ok, OnErr, Result, is_some, slice_get, option_and_then}
-use Rattle.std.proofs.lemmas.List.Elements.{All-contains, All-weaker}
+use Rattle.std.proofs.Common.{◌≡◌, ℕ, zero, suc, ◌<◌, ◌≤◌, true, false, Option, Some, None, List, [], ◌∷◌, ◌++◌, All, length, set, refl, ap, sym, ◌∙◌, arith, subst}
+use Rattle.std.specs.Prelude.{is_some, slice_get, option_and_then}
+use Rattle.std.proofs.lemmas.List.Elements.{All-weaker}
 use Rattle.cf_outcome.specs.declared.outcome.Cause.{Cause}
 use Rattle.cf_outcome.specs.declared.outcome.Cause.TheVariants.{Thrown, Cancelled, TimedOut, BadAnswer}
 use Rattle.cf_outcome.specs.declared.outcome.Outcome.{Outcome}
@@ -19,16 +19,14 @@ use Rattle.cf_model.proofs.Moves.{new_states-settled}
 use Rattle.cf_model.proofs.StateLemmas.{after-unsettled}
 use Rattle.cf_event.specs.Words.{word_of}
 use Rattle.cf_ledger.specs.Ledgers.{Ledger, state_of}
-use Rattle.cf_request.specs.Deadlines.{HaveStages, IsOverdue, SomeLeft}
+use Rattle.cf_request.specs.Deadlines.{HaveStages}
 use Rattle.cf_request.specs.Lanes.{HasLanes}
-use Rattle.cf_request.specs.Refusals.{IsRefused, SomeToRefuse}
-use Rattle.cf_request.specs.Relays.{AreThere, IsRelayDue, IsRelayOr, NoneBehind}
+use Rattle.cf_request.specs.Relays.{AreThere}
 use Rattle.cf_request.specs.Settling.{AreSettledInTurn, IsOpen, Settles, SettlesDue, fault_event, raw, settle_event}
-use Rattle.cf_request.specs.Telling.{Teller, TellsEvent, is_settled_in, most_stages}
+use Rattle.cf_request.specs.Telling.{Teller, TellsEvent, is_settled_in, most_stages, with_memory}
 use Rattle.cf_request.specs.declared.deadlines.Deadline.{Deadline}
 use Rattle.cf_request.specs.declared.relays.Follow.{Follow}
 use Rattle.cf_request.specs.declared.settling.Due.{Due}
-use Rattle.cf_request.proofs.Least.{due_overdue}
 use Rattle.cf_request.proofs.Telling.{outcome_stage, same_most, stays}
 use Rattle.cf_request.proofs.Words.{same_count}
 
@@ -66,7 +64,7 @@ ends_with : (s : State) (who i : ℕ) (o : Outcome) → outcome_at s i ≡ None 
 ends_with s who i (Gives v) none l = settles_by (outcome_at s i) s i (Gives v) none none l
 ends_with s who i (Fault cause wrapped) none l = faults_with s who i cause none l
 
-after_event : (e : Event) (old new : Teller) (reply : Reply) → TellsEvent e old reply new → state_of new.ledger ≡ (answered (state_of old.ledger) e).1
+pub after_event : (e : Event) (old new : Teller) (reply : Reply) → TellsEvent e old reply new → state_of new.ledger ≡ (answered (state_of old.ledger) e).1
 after_event e old new reply h = ap (λ p. p.1) h.answered
 
 -- it ends as it should
@@ -111,6 +109,10 @@ pub record Keeps (old new : Teller) : Type 0 where
 
 pub keeps_same : (old new : Teller) → new ≡ old → Keeps old new
 keeps_same old new same = subst (λ (t : Teller). Keeps old t) (sym same) (record { settled = λ i h. h; count = refl; most = refl })
+
+-- nor does finding memory change anything of these
+pub keeps_memory : (words : ℕ) (old new : Teller) → new ≡ with_memory words old → Keeps old new
+keeps_memory words old new same = subst (λ (t : Teller). Keeps old t) (sym same) (record { settled = λ i h. h; count = refl; most = refl })
 
 pub keeps_then : (a b c : Teller) → Keeps a b → Keeps b c → Keeps a c
 keeps_then a b c h k = record { settled = λ i is. k.settled i (h.settled i is); count = k.count ∙ h.count; most = k.most ∙ h.most }
@@ -167,72 +169,3 @@ turns_push P who (x ∷ dues) a b c d (between, was, is, did, rest) waits due do
 
 pub dues_more : (P : State → Due → Type 0) (who : ℕ) (a b c : Teller) (d : Due) → SettlesDue P who a b → IsOpen (state_of b.ledger) d.stage → P (state_of b.ledger) d → Settles who d b c → SettlesDue P who a c
 dues_more P who a b c d h waits due done = record { dues = h.dues ++ d ∷ []; are = turns_push P who h.dues a b c d h.are waits due done }
-
--- ---- fewer stages are open
-
-abbrev pub open_in : List Stage → ℕ
-open_in [] = 0
-open_in (x ∷ xs) = cond (is_some (outcome_of x)) 0 1 + open_in xs
-
-less_by : (a b : Bool) → (a ≡ true → b ≡ true) → cond b 0 1 ≤ cond a 0 1
-less_by true true h = omega arith
-less_by true false h = let e = h refl in cc
-less_by false true h = omega arith
-less_by false false h = omega arith
-
-less_than : (a b : Bool) → a ≡ false → b ≡ true → cond b 0 1 < cond a 0 1
-less_than true b before now = cc
-less_than false true before now = omega arith
-less_than false false before now = cc
-
-no_more : (old new : List Stage) → length new ≡ length old → StaySettled old new → open_in new ≤ open_in old
-no_more [] [] size stay = omega arith
-no_more [] (y ∷ new) size stay = absurd (omega (arith, size))
-no_more (x ∷ old) [] size stay = absurd (omega (arith, size))
-no_more (x ∷ old) (y ∷ new) size stay =
-    let one = less_by (is_some (outcome_of x)) (is_some (outcome_of y)) (stay 0) in
-    let rest = no_more old new (omega (arith, size)) (λ i h. stay (suc i) h) in
-    omega (arith, one, rest)
-
-fewer_open : (old new : List Stage) (i : ℕ) → length new ≡ length old → StaySettled old new → is_settled_in old i ≡ false → is_settled_in new i ≡ true → open_in new < open_in old
-fewer_open [] [] i size stay before now = cc
-fewer_open [] (y ∷ new) i size stay before now = absurd (omega (arith, size))
-fewer_open (x ∷ old) [] i size stay before now = absurd (omega (arith, size))
-fewer_open (x ∷ old) (y ∷ new) zero size stay before now =
-    let one = less_than (is_some (outcome_of x)) (is_some (outcome_of y)) before now in
-    let rest = no_more old new (omega (arith, size)) (λ i h. stay (suc i) h) in
-    omega (arith, one, rest)
-fewer_open (x ∷ old) (y ∷ new) (suc i) size stay before now =
-    let one = less_by (is_some (outcome_of x)) (is_some (outcome_of y)) (stay 0) in
-    let rest = fewer_open old new i (omega (arith, size)) (λ k h. stay (suc k) h) before now in
-    omega (arith, one, rest)
-
-pub fewer_by : (who : ℕ) (d : Due) (old new : Teller) → IsOpen (state_of old.ledger) d.stage → Settles who d old new → open_in (state_of new.ledger).stages < open_in (state_of old.ledger).stages
-fewer_by who d old new waits h =
-    let keeps = keeps_settle who d old new h in
-    let before = reached_length old.ledger.plan old.ledger.events in
-    let after = reached_length new.ledger.plan new.ledger.events in
-    let count = keeps.count in
-    fewer_open (state_of old.ledger).stages (state_of new.ledger).stages d.stage (omega (arith, before, after, count)) keeps.settled waits.1 (ap is_some h.ends)
-
--- ---- relays
-
--- where a relay is due, one is behind
-pub due_behind : (follows : List Follow) (s : State) (d : Due) → IsOpen s d.stage → IsRelayDue follows s d → NoneBehind follows s.stages → ⊥
-due_behind follows s d waits due none =
-    let f = due.follow in
-    let on = All-contains (λ (f : Follow). is_settled_in s.stages f.stage ≡ true → is_settled_in s.stages f.relay ≡ true) follows f none due.is (ap is_some due.settled) in
-    let off = ap (is_settled_in s.stages) due.relay ∙ waits.1 in
-    cc
-
-pub on_err : {A E : Type 0} (r : Result A E) (P : Type 0) → P → OnErr r P
-on_err (Ok a) P p = tt
-on_err (Err e) P p = p
-
-pub left_due : (follows : List Follow) (moment : ℕ) (ds : List Deadline) (s : State) (d : Due) → IsOpen s d.stage → IsRelayOr follows (IsOverdue moment ds) s d → SomeLeft follows moment ds s.stages
-left_due follows moment ds s d waits (inl relay) none = due_behind follows s d waits relay none.0
-left_due follows moment ds s d waits (inr other) none = due_overdue moment ds s d waits other.1 none.1
-
-pub refused_due : (follows : List Follow) (lanes : List ℕ) (lane code : ℕ) (s : State) (d : Due) → IsOpen s d.stage → IsRelayOr follows (IsRefused lanes lane code) s d → SomeToRefuse follows lanes lane s
-refused_due follows lanes lane code s d waits (inl relay) none = due_behind follows s d waits relay none.0
-refused_due follows lanes lane code s d waits (inr other) none = let lowest = other.1.lowest in none.1 d.stage lowest.there lowest.ready lowest.its_lane

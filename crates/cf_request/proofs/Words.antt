@@ -1,19 +1,16 @@
 -- Events by their words.
-use Rattle.std.proofs.Common.{◌≡◌, ℕ, zero, suc, ◌+◌, ◌≤◌, Some, List, [], ◌∷◌, false, refl, ap, ◌∙◌, arith, subst, length, length-append}
+use Rattle.std.proofs.Common.{◌≡◌, ℕ, zero, suc, ◌+◌, ◌≤◌, Some, List, [], ◌∷◌, false, refl, ap, ◌∙◌, arith, length, length-append}
 use Rattle.cf_forms.specs.Plans.{Planned, PlannedStage, attached_stage}
 use Rattle.cf_model.specs.declared.events.Event.{Event}
 use Rattle.cf_model.specs.declared.events.Event.TheVariants.{Complete as Completes, Fail as Fails, FailAs as FailsAs, Cancel as Cancels, Claim as Claims, Finish as Finishes, Tick as Ticks, Attach as Attaches}
 use Rattle.cf_model.specs.declared.events.Reply.{Reply}
 use Rattle.cf_model.specs.Calls.{is_attach}
 use Rattle.cf_model.specs.Events.{answered, attached_by}
-use Rattle.cf_model.specs.Ranges.{EventFits}
 use Rattle.cf_model.specs.States.{State}
 use Rattle.cf_model.proofs.Shape.{answered-grows, answered-shape}
 use Rattle.cf_event.specs.Decoding.{event_of}
 use Rattle.cf_event.specs.Words.{word_of}
-use Rattle.cf_ledger.specs.Ledgers.{Does, HasRoomFor, Ledger, LedgerRefuses, state_of}
-use Rattle.cf_ledger.specs.declared.faults.LedgerFault.{LedgerFault}
-use Rattle.cf_ledger.specs.declared.faults.LedgerFault.TheVariants.{NoMemory, NoEvent, NoStage, NoRoom}
+use Rattle.cf_ledger.specs.Ledgers.{Does, Ledger, state_of}
 use Rattle.cf_request.specs.Telling.{Teller, Tells, TellsEvent}
 use Rattle.cf_request.proofs.Telling.{next_is}
 
@@ -21,17 +18,6 @@ pub event_told : (e : Event) (old new : Teller) (reply : Reply) → event_of (wo
 event_told e old new reply is h =
     let same : h.does.event ≡ e = (let read = h.does.read in cc) in
     record { tells = h; answered = h.does.told ∙ ap (answered (state_of old.ledger)) same }
-
--- an event that fits is refused for want of memory alone
-pub only_memory : (s : State) (w : ℕ) (e : Event) (fault : LedgerFault) → event_of w ≡ Some e → EventFits (length s.plan.stages) e → HasRoomFor s e → LedgerRefuses s w fault → fault ≡ NoMemory
-only_memory s w e NoMemory is fits room h = refl
-only_memory s w e NoEvent is fits room h = cc
-only_memory s w e NoStage is fits room (d, read, not) =
-    let same : e ≡ d = cc in
-    absurd (not (subst (EventFits (length s.plan.stages)) same fits))
-only_memory s w e NoRoom is fits room (d, read, there, not) =
-    let same : e ≡ d = cc in
-    absurd (not (subst (HasRoomFor s) same room))
 
 -- ---- how many stages there are
 

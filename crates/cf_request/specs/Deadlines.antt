@@ -47,10 +47,6 @@ open_of stages deadlines = filter (λ d. not (is_settled_in stages d.stage)) dea
 abbrev pub NoneLeft : List Follow → ℕ → List Deadline → List Stage → Type 0
 NoneLeft follows moment deadlines stages = NoneBehind follows stages × NoneOverdue moment deadlines stages
 
--- one is
-abbrev pub SomeLeft : List Follow → ℕ → List Deadline → List Stage → Type 0
-SomeLeft follows moment deadlines stages = ¬ NoneLeft follows moment deadlines stages
-
 -- ---- parts of it
 
 -- the earlier of two, the first of which may not be there

@@ -8,7 +8,9 @@ use Rattle.cf_model.specs.Graphs.{stage_in}
 use Rattle.cf_model.specs.States.{State, is_ready}
 use Rattle.cf_event.specs.Words.{word_of}
 use Rattle.cf_ledger.specs.Ledgers.{state_of}
-use Rattle.cf_ledger.specs.Steps.{finished_as}
+use Rattle.cf_ledger.specs.Steps.{IsNoStep, finished_as}
+use Rattle.cf_ledger.specs.declared.faults.StepFault.{StepFault}
+use Rattle.cf_ledger.specs.declared.faults.StepFault.TheVariants.{NoMemory}
 use Rattle.cf_ledger.specs.declared.step.Finish.{Finish}
 use Rattle.cf_ledger.specs.declared.step.Held.{Held}
 use Rattle.cf_ledger.specs.declared.step.Taken.{Taken}
@@ -37,6 +39,11 @@ abbrev pub ready_below : State → List ℕ → ℕ → ℕ → ℕ
 ready_below s lanes lane zero = 0
 ready_below s lanes lane (suc k) =
     cond (is_ready (stage_in s.stages k) && (lane_of lanes k == lane)) 1 0 + ready_below s lanes lane k
+
+-- why what is held can't be finished: the first of a step's reasons, without want of memory
+abbrev pub IsNoFinish : ℕ → Option Held → State → StepFault → Type 0
+IsNoFinish who held s NoMemory = ⊥
+IsNoFinish who held s fault = IsNoStep who held s fault
 
 -- what is held is finished by the word for it
 pub record FinishesStage (who : ℕ) (h : Held) (old : Teller) (f : Finish) (new : Teller) : Type 0 where

@@ -1,19 +1,23 @@
 -- A request as a machine, and what its calls do.
-use Rattle.std.specs.Prelude.{◌≡◌, ℕ, ◌<◌, ◌≤◌, Bool, true, false, Option, None, List, [], ◌∷◌, ◌++◌, length}
+use Rattle.std.specs.Prelude.{◌≡◌, ℕ, ◌+◌, ◌<◌, ◌≤◌, Option, List, [], ◌∷◌, ◌++◌, length}
+use Rattle.cf_model.specs.declared.events.Reply.{Reply}
 use Rattle.cf_model.specs.States.{State}
-use Rattle.cf_ledger.specs.Ledgers.{state_of}
+use Rattle.cf_ledger.specs.Ledgers.{LedgerRefuses, state_of}
+use Rattle.cf_ledger.specs.Steps.{IsNoStep}
+use Rattle.cf_ledger.specs.declared.faults.LedgerFault.{LedgerFault}
+use Rattle.cf_ledger.specs.declared.faults.LedgerFault.TheVariants.{NoMemory as NoMemoryForIt}
+use Rattle.cf_ledger.specs.declared.faults.StepFault.{StepFault}
+use Rattle.cf_ledger.specs.declared.faults.StepFault.TheVariants.{NoMemory as NoMemoryForStep}
 use Rattle.cf_ledger.specs.declared.step.Held.{Held}
-use Rattle.cf_ledger.specs.declared.step.Taken.{Taken}
-use Rattle.cf_request.specs.Deadlines.{HaveStages, IsOverdue, SomeLeft, open_of}
+use Rattle.cf_request.specs.Deadlines.{HaveStages, IsOverdue, NoneLeft, open_of}
 use Rattle.cf_request.specs.Lanes.{FinishesHeld, HasLanes, TakesIn, lanes_of}
-use Rattle.cf_request.specs.Refusals.{IsRefused}
-use Rattle.cf_request.specs.Relays.{AreThere, IsRelayDue, IsRelayOr, NoneBehind, SomeBehind}
+use Rattle.cf_request.specs.Refusals.{IsRefused, NoneToRefuse, open_below}
+use Rattle.cf_request.specs.Relays.{AreThere, IsRelayDue, IsRelayOr, NoneBehind}
 use Rattle.cf_request.specs.Settling.{SettlesDue}
-use Rattle.cf_request.specs.Telling.{Teller, Tells, most_stages}
+use Rattle.cf_request.specs.Telling.{Teller, Tells, most_stages, with_memory}
 use Rattle.cf_request.specs.declared.deadlines.Deadline.{Deadline}
 use Rattle.cf_request.specs.declared.faults.MachineFault.{MachineFault}
 use Rattle.cf_request.specs.declared.faults.MachineFault.TheVariants.{NoMemory, NoStage, Past}
-use Rattle.cf_request.specs.declared.machine.Done.{Done}
 use Rattle.cf_request.specs.declared.machine.Next.{Next}
 use Rattle.cf_request.specs.declared.relays.Follow.{Follow}
 
@@ -30,6 +34,10 @@ pub record Machine : Type 0 where
 abbrev pub state_in : Machine → State
 state_in m = state_of m.teller.ledger
 
+-- for how many words memory was found
+abbrev pub free_in : Machine → ℕ
+free_in m = m.teller.ledger.free
+
 -- each stage has a lane, with places for those that may be attached, and all stages that are named are there
 pub record IsMachine (teller : Teller) (lanes : List ℕ) (places : ℕ) (follows : List Follow) (deadlines : List Deadline) (own : ℕ) : Type 0 where
   pub all_lanes : HasLanes (state_of teller.ledger) lanes
@@ -38,72 +46,95 @@ pub record IsMachine (teller : Teller) (lanes : List ℕ) (places : ℕ) (follow
   pub limits : HaveStages (state_of teller.ledger) deadlines
   pub caller : own ≤ 63
 
--- relays are settled: all of them, or as many as there was memory for
-pub record CatchesUp (own : ℕ) (follows : List Follow) (old : Teller) (all : Bool) (new : Teller) : Type 0 where
+-- memory may have been found for words to come, and nothing else has changed
+pub record OnlyFinds (old new : Machine) : Type 0 where
+  pub found : free_in old ≤ free_in new
+  pub same : new ≡ record old { teller = record old.teller { ledger = record old.teller.ledger { free = free_in new } } }
+
+-- all relays are settled whose stages are
+pub record CatchesUp (own : ℕ) (follows : List Follow) (old new : Teller) : Type 0 where
   pub settles : SettlesDue (IsRelayDue follows) own old new
-  pub none : all ≡ true → NoneBehind follows (state_of new.ledger).stages
-  pub some : all ≡ false → SomeBehind follows (state_of new.ledger).stages
+  pub none : NoneBehind follows (state_of new.ledger).stages
+
+-- ---- words
 
 -- a word is done, then relays are settled; a stage that it attached has the lane
-pub record AppliesWord (word lane : ℕ) (old : Machine) (done : Done) (new : Machine) : Type 0 where
+pub record AppliesWord (word lane : ℕ) (old : Machine) (reply : Reply) (new : Machine) : Type 0 where
   pub between : Teller
-  pub tells : Tells word old.teller done.reply between
-  pub catches_up : CatchesUp old.own old.follows between done.all new.teller
+  pub tells : Tells word (with_memory (1 + length old.follows) old.teller) reply between
+  pub catches_up : CatchesUp old.own old.follows between new.teller
   pub same : new ≡ record old { teller = new.teller; lanes = lanes_of (length (state_of between.ledger).plan.stages) lane old.lanes }
 
--- all relays are settled, then the next stage of the lane is claimed
-pub record TakesAfter (own : ℕ) (follows : List Follow) (who : ℕ) (lanes : List ℕ) (lane : ℕ) (old : Teller) (taken : Option Taken) (new : Teller) : Type 0 where
-  pub between : Teller
-  pub settles : SettlesDue (IsRelayDue follows) own old between
-  pub none : NoneBehind follows (state_of between.ledger).stages
-  pub takes : TakesIn who lanes lane between taken new
+-- why a word isn't done: too little memory was found before, or else the first of a ledger's reasons
+abbrev pub IsNoWord : ℕ → Machine → LedgerFault → Type 0
+IsNoWord word m NoMemoryForIt = free_in m < 1 + length m.follows
+IsNoWord word m fault = LedgerRefuses (state_in m) word fault
 
--- where there was no memory for all, some relays may be settled, and nothing is claimed
-abbrev pub TakesIf : Bool → ℕ → List Follow → ℕ → List ℕ → ℕ → Teller → Option Taken → Teller → Type 0
-TakesIf true own follows who lanes lane old taken new = TakesAfter own follows who lanes lane old taken new
-TakesIf false own follows who lanes lane old taken new = (taken ≡ None) × SettlesDue (IsRelayDue follows) own old new
+-- ---- a caller's step
 
 -- what is held is finished, relays are settled, and the next stage of the lane is claimed
 pub record GoesOn (who lane : ℕ) (held : Option Held) (old : Machine) (next : Next) (new : Machine) : Type 0 where
+  pub finished : Teller
+  pub finishes : FinishesHeld who held (with_memory (2 + length old.follows) old.teller) next.finish finished
   pub between : Teller
-  pub finishes : FinishesHeld who held old.teller next.finish between
-  pub takes : TakesIf next.all old.own old.follows who old.lanes lane between next.taken new.teller
+  pub catches_up : CatchesUp old.own old.follows finished between
+  pub takes : TakesIn who old.lanes lane between next.taken new.teller
   pub same : new ≡ record old { teller = new.teller }
 
+-- why nothing is done: too little memory was found before, or else the first of a step's reasons
+abbrev pub IsNoNext : ℕ → Option Held → Machine → StepFault → Type 0
+IsNoNext who held m NoMemoryForStep = free_in m < 2 + length m.follows
+IsNoNext who held m fault = IsNoStep who held (state_in m) fault
+
+-- ---- relays
+
 -- a stage follows another, behind those that do already, and relays are settled
-pub record SetsFollow (relay stage : ℕ) (old : Machine) (all : Bool) (new : Machine) : Type 0 where
+pub record SetsFollow (relay stage : ℕ) (old new : Machine) : Type 0 where
   pub there : (relay < length (state_in old).plan.stages) × (stage < length (state_in old).plan.stages)
   pub set : new.follows ≡ old.follows ++ (record { relay = relay; stage = stage }) ∷ []
-  pub catches_up : CatchesUp old.own new.follows old.teller all new.teller
+  pub catches_up : CatchesUp old.own new.follows (with_memory (1 + length old.follows) old.teller) new.teller
   pub same : new ≡ record old { teller = new.teller; follows = new.follows }
 
+-- memory is wanted for the words, and for the row of those that follow
 abbrev pub IsNoFollow : ℕ → ℕ → State → MachineFault → Type 0
-IsNoFollow relay stage s NoMemory = (relay < length s.plan.stages) × (stage < length s.plan.stages)
+IsNoFollow relay stage s NoMemory = Unit {0}
 IsNoFollow relay stage s NoStage = ¬ ((relay < length s.plan.stages) × (stage < length s.plan.stages))
 IsNoFollow relay stage s Past = ⊥
+
+-- ---- deadlines
 
 -- a deadline is set, behind those that are set already, and those of settled stages are forgotten
 pub record SetsDeadline (d : Deadline) (old new : Machine) : Type 0 where
   pub there : d.stage < length (state_in old).plan.stages
   pub same : new ≡ record old { deadlines = open_of (state_in old).stages (old.deadlines ++ d ∷ []) }
 
+-- memory is wanted for the row of deadlines
 abbrev pub IsNoDeadline : Deadline → State → MachineFault → Type 0
-IsNoDeadline d s NoMemory = d.stage < length s.plan.stages
+IsNoDeadline d s NoMemory = Unit {0}
 IsNoDeadline d s NoStage = length s.plan.stages ≤ d.stage
 IsNoDeadline d s Past = ⊥
 
--- Stages whose moment had come are settled, and relays before them. A moment before the last one changes nothing.
+-- stages whose moment had come are settled, and relays before them, until none is left
 pub record Passes (moment : ℕ) (old new : Machine) : Type 0 where
-  pub past : moment < old.moment → new ≡ old
-  pub settles : old.moment ≤ moment → SettlesDue (IsRelayOr old.follows (IsOverdue moment old.deadlines)) old.own old.teller new.teller
-  pub same : old.moment ≤ moment → new ≡ record old { teller = new.teller; moment = moment }
+  pub onward : old.moment ≤ moment
+  pub settles : SettlesDue (IsRelayOr old.follows (IsOverdue moment old.deadlines)) old.own (with_memory (length old.follows + length old.deadlines) old.teller) new.teller
+  pub none : NoneLeft old.follows moment old.deadlines (state_in new).stages
+  pub same : new ≡ record old { teller = new.teller; moment = moment }
 
-abbrev pub IsNoPass : ℕ → Machine → Machine → MachineFault → Type 0
-IsNoPass moment old new NoMemory = (old.moment ≤ moment) × SomeLeft new.follows moment new.deadlines (state_in new).stages
-IsNoPass moment old new NoStage = ⊥
-IsNoPass moment old new Past = moment < old.moment
+-- why time doesn't pass: too little memory was found before, or else the moment is before the last one
+abbrev pub IsNoPass : ℕ → Machine → MachineFault → Type 0
+IsNoPass moment m NoMemory = free_in m < length m.follows + length m.deadlines
+IsNoPass moment m NoStage = ⊥
+IsNoPass moment m Past = moment < m.moment
 
--- ready stages of the lane fail, and relays before them are settled
+-- ---- lanes that nobody runs
+
+-- how many stages are open
+abbrev pub open_in : Machine → ℕ
+open_in m = open_below (state_in m).stages (length (state_in m).plan.stages)
+
+-- ready stages of the lane fail, and relays before them are settled, until none is left
 pub record Refuses (lane code : ℕ) (old new : Machine) : Type 0 where
-  pub settles : SettlesDue (IsRelayOr old.follows (IsRefused old.lanes lane code)) old.own old.teller new.teller
+  pub settles : SettlesDue (IsRelayOr old.follows (IsRefused old.lanes lane code)) old.own (with_memory (open_in old) old.teller) new.teller
+  pub none : NoneToRefuse old.follows old.lanes lane (state_in new)
   pub same : new ≡ record old { teller = new.teller }

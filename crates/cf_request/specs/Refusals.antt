@@ -1,10 +1,12 @@
 -- Lanes that nobody runs any more.
-use Rattle.std.specs.Prelude.{◌≡◌, ℕ, false, List, length}
+use Rattle.std.specs.Prelude.{◌≡◌, ℕ, zero, suc, ◌+◌, false, List, cond, length}
 use Rattle.cf_outcome.specs.declared.outcome.Cause.TheVariants.{Thrown}
 use Rattle.cf_outcome.specs.declared.outcome.Outcome.TheVariants.{Fault}
+use Rattle.cf_model.specs.declared.stage.Stage.{Stage}
 use Rattle.cf_model.specs.States.{State}
 use Rattle.cf_request.specs.Lanes.{IsLowestIn, NoneReadyIn}
 use Rattle.cf_request.specs.Relays.{NoneBehind}
+use Rattle.cf_request.specs.Telling.{is_settled_in}
 use Rattle.cf_request.specs.declared.relays.Follow.{Follow}
 use Rattle.cf_request.specs.declared.settling.Due.{Due}
 
@@ -17,6 +19,7 @@ pub record IsRefused (lanes : List ℕ) (lane code : ℕ) (s : State) (d : Due) 
 abbrev pub NoneToRefuse : List Follow → List ℕ → ℕ → State → Type 0
 NoneToRefuse follows lanes lane s = NoneBehind follows s.stages × NoneReadyIn s lanes lane (length s.plan.stages)
 
--- one is
-abbrev pub SomeToRefuse : List Follow → List ℕ → ℕ → State → Type 0
-SomeToRefuse follows lanes lane s = ¬ NoneToRefuse follows lanes lane s
+-- how many stages below a number are open
+abbrev pub open_below : List Stage → ℕ → ℕ
+open_below stages zero = 0
+open_below stages (suc k) = cond (is_settled_in stages k) 0 1 + open_below stages k

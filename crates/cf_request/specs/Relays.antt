@@ -1,5 +1,6 @@
 -- Stages that follow another stage of the same request.
-use Rattle.std.specs.Prelude.{◌≡◌, ◌⊎◌, ◌<◌, true, Some, List, All, Contains, length}
+use Rattle.std.specs.Prelude.{◌≡◌, ◌⊎◌, ◌<◌, true, Some, List, All, Contains, length, not}
+use Rattle.std.specs.List.{filter}
 use Rattle.cf_model.specs.declared.stage.Stage.{Stage}
 use Rattle.cf_model.specs.States.{State, outcome_in}
 use Rattle.cf_request.specs.Telling.{is_settled_in}
@@ -14,9 +15,9 @@ AreThere s follows = All (λ f. (f.relay < length s.plan.stages) × (f.stage < l
 abbrev pub NoneBehind : List Follow → List Stage → Type 0
 NoneBehind follows stages = All (λ f. is_settled_in stages f.stage ≡ true → is_settled_in stages f.relay ≡ true) follows
 
--- one is
-abbrev pub SomeBehind : List Follow → List Stage → Type 0
-SomeBehind follows stages = ¬ NoneBehind follows stages
+-- those whose relay is open
+abbrev pub waiting_of : List Stage → List Follow → List Follow
+waiting_of stages follows = filter (λ f. not (is_settled_in stages f.relay)) follows
 
 -- a relay, with the outcome of its stage
 pub record IsRelayDue (follows : List Follow) (s : State) (d : Due) : Type 0 where

@@ -1,5 +1,5 @@
 -- Which stages were settled, and told once.
-use Rattle.std.specs.Prelude.{◌≡◌, ◌≢◌, ◌⊎◌, ℕ, ◌+◌, ◌<◌, ◌≤◌, Bool, true, false, List, [], ◌∷◌, ◌++◌, All, Contains, drop, is_some, length, take}
+use Rattle.std.specs.Prelude.{◌≡◌, ◌≢◌, ◌⊎◌, ℕ, ◌+◌, ◌<◌, ◌≤◌, Bool, true, false, List, [], ◌∷◌, ◌++◌, All, Contains, drop, is_some, length, max, take}
 use Rattle.cf_model.specs.declared.events.Event.{Event}
 use Rattle.cf_model.specs.declared.events.Reply.{Reply}
 use Rattle.cf_model.specs.declared.stage.Stage.{Stage}
@@ -39,6 +39,10 @@ pub record Teller : Type 0 where
   pub ledger : Ledger
   pub taken : List ℕ
   pub told : List ℕ
+
+-- the same, with memory for so many words at least
+abbrev pub with_memory : ℕ → Teller → Teller
+with_memory words t = record t { ledger = record t.ledger { free = max t.ledger.free words } }
 
 -- how many stages there may ever be
 abbrev pub most_stages : State → ℕ

@@ -3,17 +3,16 @@ ghost use Rattle.std.specs.Prelude.{◌≡◌, ◌<◌, ◌≤◌, IfErr, IfNone
 ghost use Rattle.cf_event.specs.Words.{word_of};
 ghost use Rattle.cf_forms.specs.Plans.{function_at};
 ghost use Rattle.cf_ledger.specs.Ledgers.{state_of};
-ghost use Rattle.cf_ledger.specs.Steps.{IsNoStep, finished_as};
+ghost use Rattle.cf_ledger.specs.Steps.{IsHeld, IsNoStep, finished_as};
 ghost use Rattle.cf_model.specs.Graphs.{stage_in};
 ghost use Rattle.cf_model.specs.States.{claim_at, is_ready};
-ghost use Rattle.cf_request.specs.Lanes.{FinishesHeld, FinishesStage, HasLanes, IsLowestIn, NoneReadyIn, TakesIn, ready_below};
+ghost use Rattle.cf_request.specs.Lanes.{FinishesHeld, FinishesStage, HasLanes, IsLowestIn, IsNoFinish, NoneReadyIn, TakesIn, ready_below};
 ghost use Rattle.cf_request.specs.Telling.{TellsEvent};
 
 use crate::teller::Teller;
 use cf_event::{LAST_CALLER, encode};
 use cf_ledger::{Event, Finish, Held, Ledger, Reply, Stage, StepFault, Taken};
 use cf_model::{Claimed, Finished};
-use std::alloc::AllocError;
 
 /// The lowest ready stage of a lane. It costs a look at each stage before it.
 pub(crate) fn lowest_in(ledger: &Ledger, lanes: &[u8], lane: u8) -> Option<u16>
@@ -58,36 +57,27 @@ fn is_ready(stage: Stage) -> bool
     }
 }
 
-/// Finishes what a caller holds, if it holds a stage. It is refused for the first of: its caller's number, the stage,
-/// its claim, memory. A refused finish leaves all as it was.
-pub(crate) fn finish_held(
-    teller: &mut Teller,
-    who: u8,
-    held: Option<Held>,
-) -> Result<Option<Finish>, StepFault>
-    ensures done { IfOk result (λ finish. FinishesHeld who held teller.old finish teller.new) }
+/// Whether a caller can finish what it holds, if it holds a stage. It is refused for the first of: its caller's number,
+/// the stage, its claim.
+pub(crate) fn check_held(teller: &Teller, who: u8, held: Option<Held>) -> Result<(), StepFault>
     ensures caller { OnOk result (who ≤ 63) }
-    ensures refused { OnErr result (teller.new ≡ teller.old) }
-    ensures why { IfErr result (λ fault. IsNoStep who held (state_of teller.old.ledger) fault) }
+    ensures held { OnOk result (IsHeld who held (state_of teller.now.ledger)) }
+    ensures why { IfErr result (λ fault. IsNoFinish who held (state_of teller.now.ledger) fault) }
 {
     if who > LAST_CALLER {
         return Err(StepFault::NoCaller);
     }
     match held {
-        None => Ok(None),
-        Some(held) => {
-            let finish = finish(teller, who, held)?;
-            Ok(Some(finish))
-        }
+        None => Ok(()),
+        Some(held) => check_claim(teller, who, held),
     }
 }
 
-/// Finishes a stage, if the caller holds it.
-fn finish(teller: &mut Teller, who: u8, held: Held) -> Result<Finish, StepFault>
+/// Whether a caller can finish a stage.
+fn check_claim(teller: &Teller, who: u8, held: Held) -> Result<(), StepFault>
     requires caller { who ≤ 63 }
-    ensures done { IfOk result (λ f. FinishesStage who held teller.old f teller.new) }
-    ensures refused { OnErr result (teller.new ≡ teller.old) }
-    ensures why { IfErr result (λ fault. IsNoStep who (Some held) (state_of teller.old.ledger) fault) }
+    ensures held { OnOk result (IsHeld who (Some held) (state_of teller.now.ledger)) }
+    ensures why { IfErr result (λ fault. IsNoFinish who (Some held) (state_of teller.now.ledger) fault) }
 {
     if held.stage >= teller.stages() {
         return Err(StepFault::NoStage);
@@ -95,17 +85,29 @@ fn finish(teller: &mut Teller, who: u8, held: Held) -> Result<Finish, StepFault>
     if teller.ledger().claimant(held.stage) != Some(who) {
         return Err(StepFault::NotHeld);
     }
-    let finish = finish_claimed(teller, who, held)?;
-    Ok(finish)
+    Ok(())
 }
 
-/// Finishes a stage that the caller has claimed. It fails only where there is no memory, and then changes nothing.
-fn finish_claimed(teller: &mut Teller, who: u8, held: Held) -> Result<Finish, AllocError>
+/// Finishes what a caller holds, if it holds a stage, where memory was found for a word.
+pub(crate) fn finish_held(teller: &mut Teller, who: u8, held: Option<Held>) -> Option<Finish>
+    requires caller { who ≤ 63 }
+    requires held { IsHeld who held (state_of teller.old.ledger) }
+    requires memory { 0 < teller.old.ledger.free }
+    ensures { FinishesHeld who held teller.old result teller.new }
+{
+    match held {
+        None => None,
+        Some(held) => Some(finish(teller, who, held)),
+    }
+}
+
+/// Finishes a stage that the caller has claimed, where memory was found for a word.
+fn finish(teller: &mut Teller, who: u8, held: Held) -> Finish
     requires caller { who ≤ 63 }
     requires there { held.stage < length (state_of teller.old.ledger).plan.stages }
     requires held { claim_at (state_of teller.old.ledger) held.stage ≡ Some who }
-    ensures done { IfOk result (λ f. FinishesStage who held teller.old f teller.new) }
-    ensures refused { OnErr result (teller.new ≡ teller.old) }
+    requires memory { 0 < teller.old.ledger.free }
+    ensures { FinishesStage who held teller.old result teller.new }
 {
     // No stage's number is above 4,095.
     let _known = teller.stages();
@@ -115,57 +117,49 @@ fn finish_claimed(teller: &mut Teller, who: u8, held: Held) -> Result<Finish, Al
         answer: held.answer,
     };
     let word = encode(&event);
-    match teller.apply_event(&event)? {
-        Reply::Finish(Finished::Won) => Ok(Finish { late: false, word }),
-        Reply::Finish(Finished::Late) => Ok(Finish { late: true, word }),
+    match teller.apply_event(&event) {
+        Reply::Finish(Finished::Won) => Finish { late: false, word },
+        Reply::Finish(Finished::Late) => Finish { late: true, word },
         _ => unreachable!(),
     }
 }
 
-/// Claims the lowest ready stage of a lane, if there is one. It fails only where there is no memory, and then all is
-/// as it was.
-pub(crate) fn take(
-    teller: &mut Teller,
-    lanes: &[u8],
-    who: u8,
-    lane: u8,
-) -> Result<Option<Taken>, AllocError>
+/// Claims the lowest ready stage of a lane, if there is one, where memory was found for a word.
+pub(crate) fn take(teller: &mut Teller, lanes: &[u8], who: u8, lane: u8) -> Option<Taken>
     requires caller { who ≤ 63 }
     requires lanes { HasLanes (state_of teller.old.ledger) lanes.now }
-    ensures done { IfOk result (λ taken. TakesIn who lanes.now lane teller.old taken teller.new) }
-    ensures refused { OnErr result (teller.new ≡ teller.old) }
+    requires memory { 0 < teller.old.ledger.free }
+    ensures { TakesIn who lanes.now lane teller.old result teller.new }
 {
     let Some(stage) = lowest_in(teller.ledger(), lanes, lane) else {
-        return Ok(None);
+        return None;
     };
-    let taken = claim(teller, who, stage)?;
-    Ok(Some(taken))
+    Some(claim(teller, who, stage))
 }
 
-/// Claims a ready stage. It fails only where there is no memory, and then changes nothing.
-fn claim(teller: &mut Teller, who: u8, stage: u16) -> Result<Taken, AllocError>
+/// Claims a ready stage, where memory was found for a word.
+fn claim(teller: &mut Teller, who: u8, stage: u16) -> Taken
     requires caller { who ≤ 63 }
     requires there { stage < length (state_of teller.old.ledger).plan.stages }
     requires ready { is_ready (stage_in (state_of teller.old.ledger).stages stage) ≡ true }
-    ensures stage { IfOk result (λ t. t.stage ≡ stage) }
-    ensures word { IfOk result (λ t. t.word ≡ word_of (Event.Claim who stage)) }
-    ensures function { IfOk result (λ t. t.function ≡ function_at (state_of teller.old.ledger).plan.stages stage) }
-    ensures done { IfOk result (λ t.
-        TellsEvent (Event.Claim who stage) teller.old (Reply.Claim (Claimed.Granted t.args)) teller.new) }
-    ensures refused { OnErr result (teller.new ≡ teller.old) }
+    requires memory { 0 < teller.old.ledger.free }
+    ensures stage { result.stage ≡ stage }
+    ensures word { result.word ≡ word_of (Event.Claim who stage) }
+    ensures function { result.function ≡ function_at (state_of teller.old.ledger).plan.stages stage }
+    ensures done { TellsEvent (Event.Claim who stage) teller.old (Reply.Claim (Claimed.Granted result.args)) teller.new }
 {
     // No stage's number is above 4,095.
     let _known = teller.stages();
     let function = teller.ledger().function(stage);
     let event = Event::Claim { who, stage };
     let word = encode(&event);
-    match teller.apply_event(&event)? {
-        Reply::Claim(Claimed::Granted(args)) => Ok(Taken {
+    match teller.apply_event(&event) {
+        Reply::Claim(Claimed::Granted(args)) => Taken {
             stage,
             function,
             args,
             word,
-        }),
+        },
         _ => unreachable!(),
     }
 }

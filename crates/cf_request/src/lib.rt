@@ -23,11 +23,9 @@ mod refusals;
 mod relays;
 mod settling;
 mod teller;
-#[cfg(test)]
-mod tests;
 
 pub use cf_ledger::{Event, Finish, Held, Ledger, LedgerFault, Reply, StepFault, Taken};
 pub use deadlines::Deadline;
 pub use faults::MachineFault;
-pub use machine::{Done, Machine, Next};
+pub use machine::{Machine, Next};
 pub use relays::Follow;

@@ -1,36 +1,23 @@
 //! The machine.
-ghost use Rattle.std.specs.Prelude.{◌≡◌, ◌+◌, ◌<◌, ◌≤◌, ◌∷◌, ◌++◌, [], IfErr, IfNone, IfOk, IfSome, OnErr, OnOk, drop, length, take, true, vec_capacity};
+ghost use Rattle.std.specs.Prelude.{◌≡◌, ◌+◌, ◌<◌, ◌≤◌, ◌++◌, [], IfErr, IfNone, IfOk, IfSome, OnErr, OnOk, drop, length, take, true, vec_capacity};
 ghost use Rattle.cf_forms.specs.Plans.{has_place, with_room};
-ghost use Rattle.cf_ledger.specs.Ledgers.{LedgerRefuses};
-ghost use Rattle.cf_ledger.specs.Steps.{IsNoStep};
 ghost use Rattle.cf_model.specs.States.{start};
-ghost use Rattle.cf_request.specs.Deadlines.{IsNextOpen, NoneLeft, NoneOpen};
-ghost use Rattle.cf_request.specs.Lanes.{HasLanes, lanes_of, ready_below};
-ghost use Rattle.cf_request.specs.Machines.{AppliesWord, GoesOn, IsNoDeadline, IsNoFollow, IsNoPass, Passes, Refuses, SetsDeadline, SetsFollow, TakesAfter, state_in};
-ghost use Rattle.cf_request.specs.Refusals.{NoneToRefuse, SomeToRefuse};
-ghost use Rattle.cf_request.specs.Relays.{AreThere, IsRelayDue};
-ghost use Rattle.cf_request.specs.Settling.{SettlesDue};
+ghost use Rattle.cf_request.specs.Deadlines.{IsNextOpen, NoneOpen};
+ghost use Rattle.cf_request.specs.Lanes.{lanes_of, ready_below};
+ghost use Rattle.cf_request.specs.Machines.{AppliesWord, GoesOn, IsNoDeadline, IsNoFollow, IsNoNext, IsNoPass, IsNoWord, OnlyFinds, Passes, Refuses, SetsDeadline, SetsFollow, free_in, open_in, state_in};
+ghost use Rattle.cf_request.specs.Relays.{NoneBehind};
 ghost use Rattle.cf_request.specs.Telling.{AreFresh, AreSettled, IsOnce};
-ghost use Rattle.cf_ledger.specs.Ledgers.{state_of};
 
 use crate::deadlines::{Deadline, next_open, pass, retain_open};
 use crate::faults::MachineFault;
-use crate::lanes::{finish_held, ready_in, take};
-use crate::refusals::refuse;
+use crate::lanes::{check_held, finish_held, ready_in, take};
+use crate::refusals::{open_stages, refuse};
 use crate::relays::{Follow, catch_up};
 use crate::teller::Teller;
 use cf_ledger::{Finish, Held, Ledger, LedgerFault, Reply, StepFault, Taken};
 use cf_plan::Plan;
 use std::alloc::{AllocError, Global};
 use std::marker::Model;
-
-/// What a word did.
-#[derive(Clone, Copy, Debug, PartialEq, Eq)]
-pub struct Done {
-    pub reply: Reply,
-    /// Whether no relay is open whose stage is settled. Where it is false there was no memory to settle one.
-    pub all: bool,
-}
 
 /// What a caller is to do next.
 #[derive(Clone, Copy, Debug, PartialEq, Eq)]
@@ -39,8 +26,6 @@ pub struct Next {
     pub finish: Option<Finish>,
     /// What is claimed, if a stage of the lane was ready.
     pub taken: Option<Taken>,
-    /// Whether there was memory for all that follows the finish. Where it is false nothing is claimed.
-    pub all: bool,
 }
 
 /// A request of a service.
@@ -63,7 +48,9 @@ impl Model for Machine {
     ghost Value = { Machine };
 
     ghost use Rattle.std.specs.Prelude.{vec_capacity};
+    ghost use Rattle.cf_ledger.specs.Ledgers.{state_of};
     ghost use Rattle.cf_request.specs.Machines.{IsMachine};
+    ghost use Rattle.cf_request.specs.Relays.{NoneBehind};
 
     ghost view = { λ m. record {
       teller = m.teller;
@@ -75,7 +62,8 @@ impl Model for Machine {
     } };
 
     ghost invariant = { λ m.
-        IsMachine m.teller m.lanes.items (vec_capacity m.lanes) m.follows.items m.deadlines.items m.own };
+        IsMachine m.teller m.lanes.items (vec_capacity m.lanes) m.follows.items m.deadlines.items m.own
+        × NoneBehind m.follows.items (state_of m.teller.ledger).stages };
 }
 
 impl Machine {
@@ -115,47 +103,33 @@ impl Machine {
     }
 
     /// Does a word as a ledger does; a stage that it attaches is this lane's. Then it settles the relays whose stages
-    /// are settled. A refused word leaves all as it was. Where there is no memory for a relay, the answer says so, and
-    /// the next call that settles relays goes on with them.
-    pub fn apply(&mut self, word: u64, lane: u8) -> Result<Done, LedgerFault>
-        ensures done { IfOk result (λ done. AppliesWord word lane self.old done self.new) }
-        ensures refused { OnErr result (self.new ≡ self.old) }
-        ensures why { IfErr result (λ fault. LedgerRefuses (state_in self.old) word fault) }
+    /// are settled. It is refused for the first of: memory for all of that, and a ledger's reasons.
+    pub fn apply(&mut self, word: u64, lane: u8) -> Result<Reply, LedgerFault>
+        ensures done { IfOk result (λ reply. AppliesWord word lane self.old reply self.new) }
+        ensures refused { OnErr result (OnlyFinds self.old self.new) }
+        ensures why { IfErr result (λ fault. IsNoWord word self.old fault) }
     {
+        self.teller.reserve(1 + self.follows.len())?;
         let reply = self.teller.apply(word)?;
         add_lane(&mut self.lanes, self.teller.stages(), lane);
-        let all = catch_up(&mut self.teller, &self.follows, self.own).is_ok();
-        Ok(Done { reply, all })
+        catch_up(&mut self.teller, &self.follows, self.own);
+        Ok(reply)
     }
 
     /// What a caller does next: it finishes what it holds, if it holds a stage. Then the relays whose stages are
     /// settled are settled, and it claims the lowest ready stage of its lane, if there is one. It is refused for the
-    /// first of: its caller's number, the stage that is held, its claim, memory for the finish. Then all is as it was.
+    /// first of: memory for all of that, its caller's number, the stage that is held, its claim.
     pub fn next(&mut self, who: u8, lane: u8, held: Option<Held>) -> Result<Next, StepFault>
         ensures done { IfOk result (λ next. GoesOn who lane held self.old next self.new) }
-        ensures refused { OnErr result (self.new ≡ self.old) }
-        ensures why { IfErr result (λ fault. IsNoStep who held (state_in self.old) fault) }
+        ensures refused { OnErr result (OnlyFinds self.old self.new) }
+        ensures why { IfErr result (λ fault. IsNoNext who held self.old fault) }
     {
-        let finish = finish_held(&mut self.teller, who, held)?;
-        match go_on(
-            &mut self.teller,
-            &self.lanes,
-            &self.follows,
-            self.own,
-            who,
-            lane,
-        ) {
-            Ok(taken) => Ok(Next {
-                finish,
-                taken,
-                all: true,
-            }),
-            Err(_) => Ok(Next {
-                finish,
-                taken: None,
-                all: false,
-            }),
-        }
+        self.teller.reserve(2 + self.follows.len())?;
+        check_held(&self.teller, who, held)?;
+        let finish = finish_held(&mut self.teller, who, held);
+        catch_up(&mut self.teller, &self.follows, self.own);
+        let taken = take(&mut self.teller, &self.lanes, who, lane);
+        Ok(Next { finish, taken })
     }
 
     /// How many stages of a lane are ready. It costs a look at each stage.
@@ -166,50 +140,50 @@ impl Machine {
         ready_in(self.teller.ledger(), &self.lanes, lane)
     }
 
-    /// A stage ends from now on as another does, if it is open when that one settles. The answer says whether no relay
-    /// is open whose stage is settled: where it is false there was no memory to settle one. It is refused for the
-    /// first of: a stage that isn't there, memory. Then all is as it was.
-    pub fn follow(&mut self, relay: u16, stage: u16) -> Result<bool, MachineFault>
-        ensures set { IfOk result (λ all. SetsFollow relay stage self.old all self.new) }
-        ensures refused { OnErr result (self.new ≡ self.old) }
+    /// A stage ends from now on as another does, if it is open when that one settles. It is refused for the first of:
+    /// memory, a stage that isn't there.
+    pub fn follow(&mut self, relay: u16, stage: u16) -> Result<(), MachineFault>
+        ensures set { OnOk result (SetsFollow relay stage self.old self.new) }
+        ensures refused { OnErr result (OnlyFinds self.old self.new) }
         ensures why { IfErr result (λ fault. IsNoFollow relay stage (state_in self.old) fault) }
     {
+        self.teller.reserve(1 + self.follows.len())?;
+        self.follows.reserve(1)?;
         let stages = self.teller.stages();
         if relay >= stages || stage >= stages {
             return Err(MachineFault::NoStage);
         }
-        self.follows.reserve(1)?;
         self.follows.push_reserved(Follow { relay, stage });
-        Ok(catch_up(&mut self.teller, &self.follows, self.own).is_ok())
+        catch_up(&mut self.teller, &self.follows, self.own);
+        Ok(())
     }
 
     /// A stage has to be settled by a moment, or else `pass` settles it. Deadlines of settled stages are forgotten
-    /// then. It is refused for the first of: a stage that isn't there, memory. Then all is as it was.
+    /// then. It is refused for the first of: memory, a stage that isn't there.
     pub fn deadline(&mut self, deadline: Deadline) -> Result<(), MachineFault>
         ensures set { OnOk result (SetsDeadline deadline self.old self.new) }
         ensures refused { OnErr result (self.new ≡ self.old) }
         ensures why { IfErr result (λ fault. IsNoDeadline deadline (state_in self.old) fault) }
     {
+        self.deadlines.reserve(1)?;
         if deadline.stage >= self.teller.stages() {
             return Err(MachineFault::NoStage);
         }
-        self.deadlines.reserve(1)?;
         self.deadlines.push_reserved(deadline);
         retain_open(&self.teller, &mut self.deadlines);
         Ok(())
     }
 
     /// Lets time pass up to a moment. It settles all open stages whose moment has come, in order of moment and then of
-    /// setting, and before each of them, and at last, the relays whose stages are settled. A moment before the last
-    /// one is refused, and nothing changes. Where there is no memory some are left, and the same moment may be passed
-    /// again.
+    /// setting, and before each of them, and at last, the relays whose stages are settled. It is refused for the first
+    /// of: memory for all relays and deadlines, a moment before the last one.
     pub fn pass(&mut self, moment: u64) -> Result<(), MachineFault>
-        ensures none { OnOk result
-            (NoneLeft self.new.follows moment self.new.deadlines (state_in self.new).stages) }
-        ensures passes { Passes moment self.old self.new }
-        ensures why { IfErr result (λ fault. IsNoPass moment self.old self.new fault) }
-        ensures onward { OnOk result (self.old.moment ≤ moment) }
+        ensures passes { OnOk result (Passes moment self.old self.new) }
+        ensures refused { OnErr result (OnlyFinds self.old self.new) }
+        ensures why { IfErr result (λ fault. IsNoPass moment self.old fault) }
     {
+        self.teller
+            .reserve(self.follows.len() + self.deadlines.len())?;
         if moment < self.moment {
             return Err(MachineFault::Past);
         }
@@ -220,7 +194,7 @@ impl Machine {
             &self.deadlines,
             moment,
             self.own,
-        )?;
+        );
         Ok(())
     }
 
@@ -233,13 +207,14 @@ impl Machine {
     }
 
     /// Nobody runs a lane any more: its ready stages fail with a code, from the lowest on, and before each of them,
-    /// and at last, the relays whose stages are settled are settled. It fails only where there is no memory: then some
-    /// are left, and it may be called again.
+    /// and at last, the relays whose stages are settled are settled. It fails only where there is no memory for all
+    /// stages that are open.
     pub fn refuse(&mut self, lane: u8, code: u32) -> Result<(), AllocError>
-        ensures none { OnOk result (NoneToRefuse self.new.follows self.new.lanes lane (state_in self.new)) }
-        ensures refuses { Refuses lane code self.old self.new }
-        ensures some { OnErr result (SomeToRefuse self.new.follows self.new.lanes lane (state_in self.new)) }
+        ensures refuses { OnOk result (Refuses lane code self.old self.new) }
+        ensures refused { OnErr result (OnlyFinds self.old self.new) }
+        ensures why { OnErr result (free_in self.old < open_in self.old) }
     {
+        self.teller.reserve(open_stages(&self.teller) as usize)?;
         refuse(
             &mut self.teller,
             &self.lanes,
@@ -247,7 +222,8 @@ impl Machine {
             lane,
             code,
             self.own,
-        )
+        );
+        Ok(())
     }
 
     /// The stages that were settled and not yet taken, in the order of the events that settled them. With those that
@@ -270,9 +246,10 @@ impl Machine {
         self.teller.took(count);
     }
 
-    /// The ledger, with its words.
+    /// The ledger, with its words. No relay is open whose stage is settled.
     pub fn ledger(&self) -> &Ledger
-        ensures { result.now ≡ self.now.teller.ledger }
+        ensures ledger { result.now ≡ self.now.teller.ledger }
+        ensures relays { NoneBehind self.now.follows (state_in self.now).stages }
     {
         self.teller.ledger()
     }
@@ -299,26 +276,4 @@ fn add_lane(lanes: &mut Vec<u8>, stages: u16, lane: u8)
     if lanes.len() < stages as usize {
         lanes.push_reserved(lane);
     }
-}
-
-/// Settles the relays whose stages are settled, and claims the lowest ready stage of a lane, if there is one. It fails
-/// only where there is no memory, and then nothing is claimed.
-fn go_on(
-    teller: &mut Teller,
-    lanes: &[u8],
-    follows: &[Follow],
-    own: u8,
-    who: u8,
-    lane: u8,
-) -> Result<Option<Taken>, AllocError>
-    requires own { own ≤ 63 }
-    requires caller { who ≤ 63 }
-    requires lanes { HasLanes (state_of teller.old.ledger) lanes.now }
-    requires relays { AreThere (state_of teller.old.ledger) follows.now }
-    ensures done { IfOk result (λ taken. TakesAfter own follows.now who lanes.now lane teller.old taken teller.new) }
-    ensures starved { OnErr result (SettlesDue (IsRelayDue follows.now) own teller.old teller.new) }
-{
-    catch_up(teller, follows, own)?;
-    let taken = take(teller, lanes, who, lane)?;
-    Ok(taken)
 }

@@ -1,8 +1,8 @@
 //! Lanes that nobody runs any more.
-ghost use Rattle.std.specs.Prelude.{◌≡◌, ◌≤◌, IfNone, IfSome, OnErr, OnOk, length};
+ghost use Rattle.std.specs.Prelude.{◌≡◌, ◌≤◌, IfNone, IfSome, length};
 ghost use Rattle.cf_ledger.specs.Ledgers.{state_of};
 ghost use Rattle.cf_request.specs.Lanes.{HasLanes, NoneReadyIn};
-ghost use Rattle.cf_request.specs.Refusals.{IsRefused, NoneToRefuse, SomeToRefuse};
+ghost use Rattle.cf_request.specs.Refusals.{IsRefused, NoneToRefuse, open_below};
 ghost use Rattle.cf_request.specs.Relays.{AreThere, IsRelayOr};
 ghost use Rattle.cf_request.specs.Settling.{IsOpen, SettlesDue};
 
@@ -11,10 +11,9 @@ use crate::relays::{Follow, first_behind};
 use crate::settling::{Due, settle};
 use crate::teller::Teller;
 use cf_outcome::{Cause, Outcome};
-use std::alloc::AllocError;
 
 /// Fails all ready stages of a lane with a code, from the lowest on, and before each of them settles all relays whose
-/// stages are settled. It fails only where there is no memory: then some are left, and it may be called again.
+/// stages are settled. Memory for a word has to be there for each open stage.
 pub(crate) fn refuse(
     teller: &mut Teller,
     lanes: &[u8],
@@ -22,18 +21,32 @@ pub(crate) fn refuse(
     lane: u8,
     code: u32,
     who: u8,
-) -> Result<(), AllocError>
+)
     requires caller { who ≤ 63 }
     requires lanes { HasLanes (state_of teller.old.ledger) lanes.now }
     requires relays { AreThere (state_of teller.old.ledger) follows.now }
-    ensures none { OnOk result (NoneToRefuse follows.now lanes.now lane (state_of teller.new.ledger)) }
-    ensures some { OnErr result (SomeToRefuse follows.now lanes.now lane (state_of teller.new.ledger)) }
+    requires memory { open_below (state_of teller.old.ledger).stages (length (state_of teller.old.ledger).plan.stages)
+        ≤ teller.old.ledger.free }
+    ensures none { NoneToRefuse follows.now lanes.now lane (state_of teller.new.ledger) }
     ensures settles { SettlesDue (IsRelayOr follows.now (IsRefused lanes.now lane code)) who teller.old teller.new }
 {
     while let Some(due) = next_refused(teller, lanes, follows, lane, code) {
-        settle(teller, who, &due)?;
+        settle(teller, who, &due);
     }
-    Ok(())
+}
+
+/// How many stages are open. It costs a look at each stage.
+pub(crate) fn open_stages(teller: &Teller) -> u16
+    ensures { result
+        ≡ open_below (state_of teller.now.ledger).stages (length (state_of teller.now.ledger).plan.stages) }
+{
+    let mut count: u16 = 0;
+    for i in 0..teller.stages() {
+        if teller.outcome(i).is_none() {
+            count += 1;
+        }
+    }
+    count
 }
 
 /// The first relay that is open though its stage is settled, or else the lowest ready stage of the lane.

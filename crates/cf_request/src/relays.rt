@@ -1,14 +1,13 @@
 //! Stages that follow another stage of the same request.
-ghost use Rattle.std.specs.Prelude.{◌≡◌, ◌≤◌, ◌<◌, IfNone, IfSome, OnErr, OnOk, Some, false, length, true};
+ghost use Rattle.std.specs.Prelude.{◌≡◌, ◌+◌, ◌≤◌, ◌<◌, IfNone, IfSome, Some, false, length, true};
 ghost use Rattle.cf_ledger.specs.Ledgers.{state_of};
 ghost use Rattle.cf_model.specs.States.{outcome_in};
-ghost use Rattle.cf_request.specs.Relays.{AreThere, IsRelayDue, NoneBehind, SomeBehind};
+ghost use Rattle.cf_request.specs.Relays.{AreThere, IsRelayDue, NoneBehind, waiting_of};
 ghost use Rattle.cf_request.specs.Settling.{IsOpen, SettlesDue};
 ghost use Rattle.cf_request.specs.Telling.{is_settled_in};
 
 use crate::settling::{Due, settle};
 use crate::teller::Teller;
-use std::alloc::AllocError;
 
 /// A stage that ends as another does.
 #[derive(Clone, Copy, Debug, PartialEq, Eq)]
@@ -17,19 +16,20 @@ pub struct Follow {
     pub stage: u16,
 }
 
-/// Settles all relays whose stages are settled, and those that follow these. It fails only where there is no memory:
-/// then some are left, and it may be called again.
-pub(crate) fn catch_up(teller: &mut Teller, follows: &[Follow], who: u8) -> Result<(), AllocError>
+/// Settles all relays whose stages are settled, and those that follow these. Memory for a word has to be there for each
+/// that is open, and it takes no more.
+pub(crate) fn catch_up(teller: &mut Teller, follows: &[Follow], who: u8)
     requires caller { who ≤ 63 }
     requires there { AreThere (state_of teller.old.ledger) follows.now }
-    ensures none { OnOk result (NoneBehind follows.now (state_of teller.new.ledger).stages) }
-    ensures some { OnErr result (SomeBehind follows.now (state_of teller.new.ledger).stages) }
+    requires memory { length (waiting_of (state_of teller.old.ledger).stages follows.now) ≤ teller.old.ledger.free }
+    ensures none { NoneBehind follows.now (state_of teller.new.ledger).stages }
     ensures settles { SettlesDue (IsRelayDue follows.now) who teller.old teller.new }
+    ensures memory { teller.old.ledger.free
+        ≤ teller.new.ledger.free + length (waiting_of (state_of teller.old.ledger).stages follows.now) }
 {
     while let Some(due) = first_behind(teller, follows) {
-        settle(teller, who, &due)?;
+        settle(teller, who, &due);
     }
-    Ok(())
 }
 
 /// The first relay that is open though its stage is settled.

@@ -1,5 +1,5 @@
 //! Open stages that are settled by the machine itself.
-ghost use Rattle.std.specs.Prelude.{◌≡◌, ◌≤◌, OnErr, OnOk};
+ghost use Rattle.std.specs.Prelude.{◌≡◌, ◌<◌, ◌≤◌};
 ghost use Rattle.cf_event.specs.Words.{IsEvent};
 ghost use Rattle.cf_ledger.specs.Ledgers.{state_of};
 ghost use Rattle.cf_request.specs.Settling.{IsOpen, Settles, fault_event, settle_event};
@@ -8,7 +8,6 @@ use crate::teller::Teller;
 use cf_ledger::Event;
 use cf_model::Failure;
 use cf_outcome::{Cause, Outcome};
-use std::alloc::AllocError;
 
 /// A stage that is to be settled, and with what. A fault is raw on the stage then.
 #[derive(Clone, Copy, Debug, PartialEq, Eq)]
@@ -17,18 +16,17 @@ pub struct Due {
     pub outcome: Outcome,
 }
 
-/// Settles an open stage. It fails only where there is no memory, and then changes nothing.
-pub(crate) fn settle(teller: &mut Teller, who: u8, due: &Due) -> Result<(), AllocError>
+/// Settles an open stage, where memory was found for a word.
+pub(crate) fn settle(teller: &mut Teller, who: u8, due: &Due)
     requires caller { who ≤ 63 }
     requires is_open { IsOpen (state_of teller.old.ledger) due.now.stage }
-    ensures done { OnOk result (Settles who due.now teller.old teller.new) }
-    ensures refused { OnErr result (teller.new ≡ teller.old) }
+    requires memory { 0 < teller.old.ledger.free }
+    ensures { Settles who due.now teller.old teller.new }
 {
     let event = settle_event(who, due.stage, due.outcome);
     // No stage's number is above 4,095.
     let _known = teller.stages();
-    teller.apply_event(&event)?;
-    Ok(())
+    let _ = teller.apply_event(&event);
 }
 
 /// The event by which a caller settles a stage so.

@@ -1,12 +1,12 @@
 //! A ledger that keeps which stages were settled and not yet taken.
-ghost use Rattle.std.specs.Prelude.{◌≡◌, ◌+◌, ◌≤◌, ◌<◌, ◌++◌, [], All, IfErr, IfOk, OnErr, drop, length, take, true, vec_capacity};
+ghost use Rattle.std.specs.Prelude.{◌≡◌, ◌+◌, ◌≤◌, ◌<◌, ◌++◌, [], All, IfErr, IfOk, OnErr, OnOk, drop, length, take, true, vec_capacity};
 ghost use Rattle.std.specs.List.{filter};
 ghost use Rattle.cf_forms.specs.Plans.{has_place, with_room};
 ghost use Rattle.cf_model.specs.States.{outcome_at, outcome_of, start};
 ghost use Rattle.cf_model.specs.Ranges.{EventFits};
 ghost use Rattle.cf_event.specs.Words.{IsEvent};
-ghost use Rattle.cf_ledger.specs.Ledgers.{HasRoomFor, LedgerRefuses, state_of};
-ghost use Rattle.cf_request.specs.Telling.{AreFresh, AreSettled, AreSettledBelow, IsOnce, Tells, TellsEvent, is_settled_in, most_stages};
+ghost use Rattle.cf_ledger.specs.Ledgers.{HasRoomFor, IsShort, LedgerRefuses, state_of};
+ghost use Rattle.cf_request.specs.Telling.{AreFresh, AreSettled, AreSettledBelow, IsOnce, Tells, TellsEvent, is_settled_in, most_stages, with_memory};
 
 use cf_event::encode;
 use cf_ledger::{Event, Ledger, LedgerFault, Reply, Stage};
@@ -63,12 +63,23 @@ impl Teller {
         })
     }
 
+    /// Finds memory for so many words. It fails only where there is no memory, and then changes nothing.
+    pub fn reserve(&mut self, words: usize) -> Result<(), AllocError>
+        ensures enough { OnOk result (words ≤ self.new.ledger.free) }
+        ensures found { OnOk result (self.new ≡ with_memory words self.old) }
+        ensures refused { OnErr result (self.new ≡ self.old) }
+        ensures short { OnErr result (self.old.ledger.free < words) }
+    {
+        self.ledger.reserve(words)
+    }
+
     /// Does a word as the ledger does. Told are then the stages that it settled, behind the others. It is refused as by
     /// the ledger, and leaves all as it was then.
     pub fn apply(&mut self, word: u64) -> Result<Reply, LedgerFault>
         ensures done { IfOk result (λ reply. Tells word self.old reply self.new) }
         ensures refused { OnErr result (self.new ≡ self.old) }
         ensures why { IfErr result (λ fault. LedgerRefuses (state_of self.old.ledger) word fault) }
+        ensures short { IfErr result (λ fault. IsShort self.old.ledger.free fault) }
     {
         let _known_before = self.ledger.stages();
         let reply = self.ledger.apply(word)?;
@@ -78,18 +89,17 @@ impl Teller {
         Ok(reply)
     }
 
-    /// Does an event that fits, by its word. It fails only where there is no memory.
+    /// Does an event that fits, by its word, where memory was found for one.
     #[tactic(auto, using(crate::proofs::Words::event_told))]
-    pub fn apply_event(&mut self, event: &Event) -> Result<Reply, AllocError>
+    pub fn apply_event(&mut self, event: &Event) -> Reply
         requires is { IsEvent event.now }
         requires fits { EventFits (length (state_of self.old.ledger).plan.stages) event.now }
         requires room { HasRoomFor (state_of self.old.ledger) event.now }
-        ensures done { IfOk result (λ reply. TellsEvent event.now self.old reply self.new) }
-        ensures refused { OnErr result (self.new ≡ self.old) }
+        requires memory { 0 < self.old.ledger.free }
+        ensures { TellsEvent event.now self.old result self.new }
     {
         match self.apply(encode(event)) {
-            Ok(reply) => Ok(reply),
-            Err(LedgerFault::NoMemory) => Err(AllocError),
+            Ok(reply) => reply,
             Err(_) => unreachable!(),
         }
     }

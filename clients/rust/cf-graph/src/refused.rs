@@ -9,7 +9,7 @@ use std::sync::atomic::{AtomicBool, Ordering};
 #[derive(Clone, Copy, PartialEq, Eq, Debug)]
 pub struct Refused(u32);
 
-const WORDS: [&str; 32] = [
+const WORDS: [&str; 35] = [
     "the plan has 4,096 stages already",
     "a source isn't below the new stage's number",
     "the number of sources isn't the form's",
@@ -42,6 +42,9 @@ const WORDS: [&str; 32] = [
     "there is no room for the stage",
     "another caller claimed or settled the stage first",
     "the sweep hasn't all stages behind it",
+    "a request has 1 to 16 lanes, and one for each stage of its plan",
+    "there is no such lane",
+    "the moment is before the last one",
 ];
 
 impl Refused {
@@ -73,6 +76,9 @@ impl Refused {
     pub const NO_ROOM: Refused = Refused(30);
     pub const LOST: Refused = Refused(31);
     pub const NOT_OVER: Refused = Refused(32);
+    pub const LANES: Refused = Refused(33);
+    pub const NO_LANE: Refused = Refused(34);
+    pub const PAST_MOMENT: Refused = Refused(35);
     /// No code of the library: what is linked isn't the library that this crate was written for.
     pub const OTHER_LIBRARY: Refused = Refused(256);
 

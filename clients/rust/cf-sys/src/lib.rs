@@ -60,6 +60,9 @@ pub const CF_NOT_HELD: u32 = 29;
 pub const CF_NO_ROOM: u32 = 30;
 pub const CF_LOST: u32 = 31;
 pub const CF_NOT_OVER: u32 = 32;
+pub const CF_LANES: u32 = 33;
+pub const CF_NO_LANE: u32 = 34;
+pub const CF_PAST_MOMENT: u32 = 35;
 pub const CF_NULL: u32 = 255;
 
 pub const CF_SOURCE: u32 = 0;
@@ -148,7 +151,7 @@ pub const CF_IS_SETTLED: u32 = 4;
 pub const CF_NO_FUNCTION: u32 = u32::MAX;
 pub const CF_NOBODY: u32 = u32::MAX;
 pub const CF_VERSION_MAJOR: u32 = 1;
-pub const CF_VERSION_MINOR: u32 = 4;
+pub const CF_VERSION_MINOR: u32 = 5;
 
 #[repr(C)]
 #[derive(Clone, Copy, Debug, Default, PartialEq, Eq)]
@@ -283,6 +286,45 @@ pub struct cf_step {
     pub claim: u64,
 }
 
+#[repr(C)]
+#[derive(Clone, Copy, Debug, Default, PartialEq, Eq)]
+pub struct cf_told {
+    pub stage: u16,
+    pub outcome: cf_outcome,
+}
+
+#[repr(C)]
+#[derive(Clone, Copy, Debug, Default, PartialEq, Eq)]
+pub struct cf_request_sizes {
+    pub room: u16,
+    pub lanes: u8,
+    pub own: u8,
+}
+
+#[repr(C)]
+#[derive(Clone, Copy, Debug, Default, PartialEq, Eq)]
+pub struct cf_applied {
+    pub reply: cf_reply,
+    pub told: usize,
+}
+
+#[repr(C)]
+#[derive(Clone, Copy, Debug, Default, PartialEq, Eq)]
+pub struct cf_request_step {
+    pub who: u8,
+    pub lane: u8,
+    pub told: usize,
+}
+
+#[repr(C)]
+#[derive(Clone, Copy, Debug, Default, PartialEq, Eq)]
+pub struct cf_deadline {
+    pub stage: u16,
+    pub moment: u64,
+    pub kind: u32,
+    pub value: cf_value,
+}
+
 pub type cf_stage_function = unsafe extern "C" fn(context: *mut c_void, task: *const cf_task, answer: *mut cf_answer);
 
 extern "C" {
@@ -365,6 +407,16 @@ extern "C" {
     pub fn cf_ledger_stages(ledger: *mut cf_handle, stages: *mut u16) -> u32;
     pub fn cf_ledger_grow(ledger: *mut cf_handle, more: u16) -> u32;
     pub fn cf_ledger_restart(ledger: *mut cf_handle) -> u32;
+    pub fn cf_request_new(plan: *mut cf_handle, sizes: *const cf_request_sizes, lanes: *const u8, n: usize, request: *mut cf_handle) -> u32;
+    pub fn cf_request_apply(request: *mut cf_handle, word: u64, lane: u8, applied: *mut cf_applied, told: *mut cf_told, room: usize) -> u32;
+    pub fn cf_request_next(request: *mut cf_handle, step: *mut cf_request_step, task: *mut cf_task, told: *mut cf_told, room: usize) -> u32;
+    pub fn cf_request_follow(request: *mut cf_handle, relay: u16, stage: u16, told: *mut cf_told, room: usize, n: *mut usize) -> u32;
+    pub fn cf_request_deadline(request: *mut cf_handle, stage: u16, moment: u64, kind: u32, value: cf_value) -> u32;
+    pub fn cf_request_pass(request: *mut cf_handle, moment: u64, told: *mut cf_told, room: usize, n: *mut usize) -> u32;
+    pub fn cf_request_next_deadline(request: *mut cf_handle, deadline: *mut cf_deadline) -> u32;
+    pub fn cf_request_refuse(request: *mut cf_handle, lane: u8, code: u32, told: *mut cf_told, room: usize, n: *mut usize) -> u32;
+    pub fn cf_request_told(request: *mut cf_handle, told: *mut cf_told, room: usize, n: *mut usize) -> u32;
+    pub fn cf_request_ready(request: *mut cf_handle, lane: u8, ready: *mut u16) -> u32;
     pub fn cf_version() -> *const u8;
     pub fn cf_fits(major: u32, minor: u32) -> bool;
     pub fn cf_code_name(code: u32) -> *const u8;
@@ -404,6 +456,11 @@ pub fn mismatch() -> Option<&'static str> {
         known!(cf_news: stage now),
         known!(cf_given: stage value),
         known!(cf_step: who from place finish claim),
+        known!(cf_told: stage outcome),
+        known!(cf_request_sizes: room lanes own),
+        known!(cf_applied: reply told),
+        known!(cf_request_step: who lane told),
+        known!(cf_deadline: stage moment kind value),
     ];
     structures.iter().find_map(|it| *it)
 }

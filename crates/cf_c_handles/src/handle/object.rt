@@ -7,6 +7,7 @@ use cf_core::{Graph, Sweep};
 use cf_desk::{Closed, Desk, Notice, Pass};
 use cf_ledger::Ledger;
 use cf_plan::{Plan, PlanBuilder};
+use cf_request::Machine;
 use std::alloc::Global;
 use std::mem;
 use std::sync::Arc;
@@ -24,6 +25,8 @@ pub enum Object {
     Sweep(Sweep),
     /// A graph with the words of all that was done to it.
     Ledger(Ledger),
+    /// One request of a service as a machine.
+    Request(Machine),
     /// A caller of a graph that several share.
     Caller(Caller),
     /// What a caller had seen, for another one to heed.

@@ -43,7 +43,7 @@ pub fn step(
 }
 
 /// The code of the fault for which a step isn't done.
-fn step_code(fault: StepFault) -> Code
+pub(crate) fn step_code(fault: StepFault) -> Code
     ensures { result ≡ step_code fault }
 {
     match fault {
@@ -84,7 +84,7 @@ fn claim_word(taken: Option<Taken>) -> u64
 }
 
 /// How a finish went, or 0 where nothing was held.
-fn late_number(finish: Option<Finish>) -> u32
+pub(crate) fn late_number(finish: Option<Finish>) -> u32
     ensures { result ≡ late_number finish }
 {
     match finish {
@@ -95,7 +95,7 @@ fn late_number(finish: Option<Finish>) -> u32
 }
 
 /// Gives the task what was taken.
-fn take(task: &mut CfTask, taken: Option<Taken>) -> Result<(), Code>
+pub(crate) fn take(task: &mut CfTask, taken: Option<Taken>) -> Result<(), Code>
     ensures told { result ≡ taken_code taken }
     ensures task { task.new ≡ task_with task.old taken }
 {

@@ -4,12 +4,13 @@ ghost use Rattle.cf_model.specs.declared.events.Event.TheVariants.{Claim as Clai
 ghost use Rattle.cf_event.specs.Words.{word_of};
 ghost use Rattle.cf_event.specs.Decoding.{event_of};
 ghost use Rattle.cf_ledger.specs.Ledgers.{state_of};
-ghost use Rattle.cf_c_handles.specs.Ledgers.{AreWritten, DoesRow, DoesWord, HaveNews, WritesNews, WritesWords, claimed_news, claimed_stages, news_in, stage_now};
+ghost use Rattle.cf_c_handles.specs.Ledgers.{AreWritten, DoesRow, DoesWord, HaveNews, OfLedgerWriting, WritesNews, WritesWords, claimed_news, claimed_stages, news_in, stage_now};
 ghost use Rattle.cf_c_handles.specs.Texts.{GivesText};
 ghost use Rattle.cf_c_handles.specs.declared.handle.object.Object.TheVariants.{Ledger as HeldLedger};
 
 use crate::code::Code;
 use crate::handle::object::Object;
+use crate::ledger::asking::of_ledger;
 use crate::ledger::word_code;
 use crate::values::stage::{CfNews, CfStage, as_stage, move_on, pending};
 use crate::values::{CfReply, as_reply, put_claim};
@@ -184,11 +185,14 @@ pub fn apply_all(held: &mut Object, words: &[u64], done: &mut usize) -> Result<(
 
 /// Writes the words of a ledger from a place on as far as the buffer reaches, and how many they are.
 pub fn words(held: &mut Object, from: usize, words: &mut [u64], n: &mut usize) -> Result<(), Code>
-    ensures { WritesWords from held.old (words.old, n.old) result held.new (words.new, n.new) }
+    ensures { OfLedgerWriting (WritesWords from) held.old (words.old, n.old) result held.new (words.new, n.new) }
 {
-    let Object::Ledger(ledger) = held else {
-        return Err(Code::WrongKind);
-    };
+    of_ledger!(held, ledger => words_of(ledger, from, words, n))
+}
+
+fn words_of(ledger: &Ledger, from: usize, words: &mut [u64], n: &mut usize) -> Result<(), Code>
+    ensures { WritesWords from ledger.now (words.old, n.old) result (words.new, n.new) }
+{
     let all = ledger.words();
     let from = from.min(all.len());
     give_words(&all[from..], words, n);
@@ -197,11 +201,14 @@ pub fn words(held: &mut Object, from: usize, words: &mut [u64], n: &mut usize) -
 
 /// Writes the stages that the event at a place changed as far as the buffer reaches, and how many they are.
 pub fn news(held: &mut Object, place: usize, stages: &mut [u16], n: &mut usize) -> Result<(), Code>
-    ensures { WritesNews place held.old (stages.old, n.old) result held.new (stages.new, n.new) }
+    ensures { OfLedgerWriting (WritesNews place) held.old (stages.old, n.old) result held.new (stages.new, n.new) }
 {
-    let Object::Ledger(ledger) = held else {
-        return Err(Code::WrongKind);
-    };
+    of_ledger!(held, ledger => news_of(ledger, place, stages, n))
+}
+
+fn news_of(ledger: &Ledger, place: usize, stages: &mut [u16], n: &mut usize) -> Result<(), Code>
+    ensures { WritesNews place ledger.now (stages.old, n.old) result (stages.new, n.new) }
+{
     if place >= ledger.len() {
         return Err(Code::Nothing);
     }

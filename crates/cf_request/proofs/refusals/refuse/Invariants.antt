@@ -1,18 +1,20 @@
+use Rattle.std.proofs.Common.{◌≤◌}
 use Rattle.cf_ledger.specs.Ledgers.{state_of}
 use Rattle.cf_request.specs.Lanes.{HasLanes}
 use Rattle.cf_request.specs.Refusals.{IsRefused}
 use Rattle.cf_request.specs.Relays.{AreThere, IsRelayOr}
 use Rattle.cf_request.specs.Settling.{SettlesDue}
-use Rattle.cf_request.proofs.Turns.{open_in}
+use Rattle.cf_request.proofs.Memory.{open_in_all}
 use Rattle.cf_request.proofs.refusals.refuse.Given as goal
 
--- what was due was settled, and all stages are there
+-- what was due was settled, all stages are there, and there is memory for what may follow
 abbrev pub invariant-loop-due : goal.invariant-loop-due
 invariant-loop-due l = record {
   settles : SettlesDue (IsRelayOr l.follows (IsRefused l.lanes l.lane l.code)) l.who l.initial.teller l.teller;
   relays : AreThere (state_of l.teller.ledger) l.follows;
   lanes : HasLanes (state_of l.teller.ledger) l.lanes;
+  memory : open_in_all (state_of l.teller.ledger) ≤ l.teller.ledger.free;
 }
 
 abbrev pub decreases-loop-due : goal.decreases-loop-due
-decreases-loop-due l = open_in (state_of l.teller.ledger).stages
+decreases-loop-due l = open_in_all (state_of l.teller.ledger)

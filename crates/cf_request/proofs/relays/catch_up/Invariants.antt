@@ -1,15 +1,17 @@
+use Rattle.std.proofs.Common.{◌+◌, ◌≤◌, length}
 use Rattle.cf_ledger.specs.Ledgers.{state_of}
-use Rattle.cf_request.specs.Relays.{AreThere, IsRelayDue}
+use Rattle.cf_request.specs.Relays.{AreThere, IsRelayDue, waiting_of}
 use Rattle.cf_request.specs.Settling.{SettlesDue}
-use Rattle.cf_request.proofs.Turns.{open_in}
 use Rattle.cf_request.proofs.relays.catch_up.Given as goal
 
--- relays were settled, and all stages are there
+-- relays were settled, all stages are there, and each word was one relay's
 abbrev pub invariant-loop-due : goal.invariant-loop-due
 invariant-loop-due l = record {
   settles : SettlesDue (IsRelayDue l.follows) l.who l.initial.teller l.teller;
   there : AreThere (state_of l.teller.ledger) l.follows;
+  memory : l.initial.teller.ledger.free + length (waiting_of (state_of l.teller.ledger).stages l.follows)
+      ≤ l.teller.ledger.free + length (waiting_of (state_of l.initial.teller.ledger).stages l.follows);
 }
 
 abbrev pub decreases-loop-due : goal.decreases-loop-due
-decreases-loop-due l = open_in (state_of l.teller.ledger).stages
+decreases-loop-due l = length (waiting_of (state_of l.teller.ledger).stages l.follows)

@@ -1,54 +1,76 @@
-use Rattle.std.proofs.Common.{List, None, ℕ, false, refl, subst, sym, true, vec_capacity}
+use Rattle.std.proofs.Common.{◌≡◌, ◌+◌, ◌∙◌, ℕ, List, ap, arith, length, refl, subst, sym, vec_capacity}
 use Rattle.cf_ledger.specs.Ledgers.{state_of}
-use Rattle.cf_request.specs.Lanes.{HasLanes}
-use Rattle.cf_request.specs.Machines.{GoesOn, IsMachine, Machine, TakesIf}
-use Rattle.cf_request.specs.Relays.{AreThere, IsRelayDue}
-use Rattle.cf_request.specs.Settling.{SettlesDue}
+use Rattle.cf_request.specs.Lanes.{FinishesHeld, HasLanes, TakesIn}
+use Rattle.cf_request.specs.Machines.{GoesOn, Machine}
+use Rattle.cf_request.specs.Relays.{AreThere, IsRelayDue, NoneBehind}
+use Rattle.cf_request.specs.Telling.{Teller, with_memory}
 use Rattle.cf_request.specs.declared.relays.Follow.{Follow}
-use Rattle.cf_request.proofs.Machines.{keeps_going, keeps_held, kept_by}
-use Rattle.cf_request.proofs.machine.Machine.next.Goals.{in-Ok, in-Err}
+use Rattle.cf_request.proofs.Machines.{caught_up, keeps_takes, kept_by, kept_dues, kept_finish, none_takes}
+use Rattle.cf_request.proofs.Memory.{few_relays, spends_held}
 use Rattle.cf_request.proofs.machine.Machine.next.Goals as goal
 
-kept : (c : goal.After-deref-2) → IsMachine c.finish_held.new.teller c.self.inside.lanes.items (vec_capacity c.self.inside.lanes) c.self.inside.follows.items c.self.inside.deadlines.items c.self.inside.own
-kept c =
+pub catch_up-requires-clause-there : goal.catch_up-requires-clause-there
+catch_up-requires-clause-there c =
     let m = c.self.inside in
-    let b = c.finish_held.new.teller in
-    kept_by m.teller b m.lanes.items (vec_capacity m.lanes) m.follows.items m.deadlines.items m.own (keeps_held c.args.who c.args.held m.teller c.in_ok-finish.finish b c.in_ok-finish.ensures.done) c.self.invariant
+    let b = c.finish_held-finish.new.teller in
+    let kept = kept_finish _ m.teller c.reserve.new.self b c.args.who c.args.held c.finish_held-finish.result m.lanes.items (vec_capacity m.lanes) m.follows.items m.deadlines.items m.own c.self.invariant.0 c.in_ok-reserve.ensures.found c.finish_held-finish.ensures in
+    subst (λ (l : List Follow). AreThere (state_of b.ledger) l) (sym c.deref.ensures.value) kept.relays
 
-pub go_on-requires-clause-lanes : goal.go_on-requires-clause-lanes
-go_on-requires-clause-lanes c = subst (λ (l : List ℕ). HasLanes (state_of c.finish_held.new.teller.ledger) l) (sym c.deref.ensures.value) (kept c).all_lanes
+pub catch_up-requires-clause-memory : goal.catch_up-requires-clause-memory
+catch_up-requires-clause-memory c =
+    let b = c.finish_held-finish.new.teller in
+    let relays = few_relays (state_of b.ledger).stages c.deref.result.now in
+    let size = ap (λ (l : List Follow). length l) c.deref.ensures.value in
+    let one = spends_held c.args.who c.args.held c.reserve.new.self c.finish_held-finish.result b c.finish_held-finish.ensures in
+    let enough = c.in_ok-reserve.ensures.enough in
+    omega (arith, relays, size, one, enough, c.len.ensures, c.self.inside.follows.ok.0)
 
-pub go_on-requires-clause-relays : goal.go_on-requires-clause-relays
-go_on-requires-clause-relays c = subst (λ (l : List Follow). AreThere (state_of c.finish_held.new.teller.ledger) l) (sym c.deref-2.ensures.value) (kept c).relays
+pub take-taken-requires-clause-lanes : goal.take-taken-requires-clause-lanes
+take-taken-requires-clause-lanes c =
+    let m = c.self.inside in
+    let b = c.finish_held-finish.new.teller in
+    let d = c.catch_up.new.teller in
+    let kept = kept_dues (IsRelayDue c.deref.result.now) m.own b d m.lanes.items (vec_capacity m.lanes) m.follows.items m.deadlines.items m.own c.catch_up.ensures.settles
+    (kept_finish _ m.teller c.reserve.new.self b c.args.who c.args.held c.finish_held-finish.result m.lanes.items (vec_capacity m.lanes) m.follows.items m.deadlines.items m.own c.self.invariant.0 c.in_ok-reserve.ensures.found c.finish_held-finish.ensures) in
+    subst (λ (l : List ℕ). HasLanes (state_of d.ledger) l) (sym c.deref-2.ensures.value) kept.all_lanes
+
+pub take-taken-requires-clause-memory : goal.take-taken-requires-clause-memory
+take-taken-requires-clause-memory c =
+    let b = c.finish_held-finish.new.teller in
+    let relays = few_relays (state_of b.ledger).stages c.deref.result.now in
+    let size = ap (λ (l : List Follow). length l) c.deref.ensures.value in
+    let one = spends_held c.args.who c.args.held c.reserve.new.self c.finish_held-finish.result b c.finish_held-finish.ensures in
+    let enough = c.in_ok-reserve.ensures.enough in
+    let left = c.catch_up.ensures.memory in
+    omega (arith, relays, size, one, enough, left, c.len.ensures, c.self.inside.follows.ok.0)
 
 pub invariant_of-self-2 : goal.invariant_of-self-2
 invariant_of-self-2 c =
     let m = c.self.inside in
-    let b = c.finish_held.new.teller in
-    kept_by b c.go_on.new.teller m.lanes.items (vec_capacity m.lanes) m.follows.items m.deadlines.items m.own
-    (keeps_going m.own c.deref-2.result.now c.args.who c.deref.result.now c.args.lane b c.go_on.new.teller c.go_on.result c.go_on.ensures.done c.go_on.ensures.starved)
-    (kept_by m.teller b m.lanes.items (vec_capacity m.lanes) m.follows.items m.deadlines.items m.own (keeps_held c.args.who c.args.held m.teller c.in_ok-finish.finish b c.in_ok-finish.ensures.done) c.self.invariant)
+    let b = c.finish_held-finish.new.teller in
+    let d = c.catch_up.new.teller in
+    let e = c.take-taken.new.teller in
+    let row = c.deref-2.result.now in (
+      kept_by d e m.lanes.items (vec_capacity m.lanes) m.follows.items m.deadlines.items m.own (keeps_takes c.args.who row c.args.lane d c.take-taken.result e c.take-taken.ensures)
+          (kept_dues (IsRelayDue c.deref.result.now) m.own b d m.lanes.items (vec_capacity m.lanes) m.follows.items m.deadlines.items m.own c.catch_up.ensures.settles
+          (kept_finish _ m.teller c.reserve.new.self b c.args.who c.args.held c.finish_held-finish.result m.lanes.items (vec_capacity m.lanes) m.follows.items m.deadlines.items m.own c.self.invariant.0 c.in_ok-reserve.ensures.found c.finish_held-finish.ensures)),
+      none_takes m.follows.items c.args.who row c.args.lane d c.take-taken.result e c.take-taken.ensures (subst (λ (l : List Follow). NoneBehind l (state_of d.ledger).stages) c.deref.ensures.value c.catch_up.ensures.none),
+    )
 
 pub returns-clause-done : goal.returns-clause-done
 returns-clause-done c =
     let m = c.self.inside in
-    let b = c.finish_held.new.teller in
-    let e = c.go_on.new.teller in
+    let b = c.finish_held-finish.new.teller in
+    let d = c.catch_up.new.teller in
+    let e = c.take-taken.new.teller in
+    let long : c.len.result ≡ length m.follows.items = omega (arith, c.len.ensures, m.follows.ok.0) in
     let new : Machine = record { teller = e; lanes = m.lanes.items; follows = m.follows.items; deadlines = m.deadlines.items; moment = m.moment; own = m.own } in
-    elim c.match-go_on.branch [
-      | in-Ok w ↦ rw (w.result-is) (subst (λ (old : Machine). GoesOn c.args.who c.args.lane c.args.held old (record { finish = c.in_ok-finish.finish; taken = w.in-Ok.taken; all = true }) new) c.self.view_is
-          (record {
-            between = b;
-            finishes = c.in_ok-finish.ensures.done;
-            takes = subst (λ (l : List ℕ). TakesIf true m.own m.follows.items c.args.who l c.args.lane b w.in-Ok.taken e) c.deref.ensures.value
-                (subst (λ (l : List Follow). TakesIf true m.own l c.args.who c.deref.result.now c.args.lane b w.in-Ok.taken e) c.deref-2.ensures.value w.in-Ok.ensures.done);
-            same = refl;
-          }))
-      | in-Err w ↦ rw (w.result-is) (subst (λ (old : Machine). GoesOn c.args.who c.args.lane c.args.held old (record { finish = c.in_ok-finish.finish; taken = None; all = false }) new) c.self.view_is
-          (record {
-            between = b;
-            finishes = c.in_ok-finish.ensures.done;
-            takes = (refl, subst (λ (l : List Follow). SettlesDue (IsRelayDue l) m.own b e) c.deref-2.ensures.value w.in-Err.ensures.starved);
-            same = refl;
-          }))
-    ]
+    subst (λ (old : Machine). GoesOn c.args.who c.args.lane c.args.held old (record { finish = c.finish_held-finish.result; taken = c.take-taken.result }) new) c.self.view_is
+    (record {
+      finished = b;
+      finishes = subst (λ (t : Teller). FinishesHeld c.args.who c.args.held t c.finish_held-finish.result b) (c.in_ok-reserve.ensures.found ∙ ap (λ (n : ℕ). with_memory (2 + n) m.teller) long) c.finish_held-finish.ensures;
+      between = d;
+      catches_up = caught_up m.own c.deref.result.now m.follows.items b d c.deref.ensures.value c.catch_up.ensures.settles c.catch_up.ensures.none;
+      takes = subst (λ (l : List ℕ). TakesIn c.args.who l c.args.lane d c.take-taken.result e) c.deref-2.ensures.value c.take-taken.ensures;
+      same = refl;
+    })

@@ -1,0 +1,165 @@
+//! One request of a service as a machine, which tells each settled stage once.
+ghost use Rattle.cf_c_handles.specs.Building.{kind_of};
+ghost use Rattle.cf_c_handles.specs.Handles.{HandleDoes, HandleOpens, HandleTells, HandleWrites};
+ghost use Rattle.cf_c_handles.specs.RequestCalls.{AppliesIn, FollowsIn, GoesOnIn, OfRequest, PassesIn, RefusesIn, SetsDeadlineIn, TellsIn, TellsNextDeadline, TellsReadyOf};
+ghost use Rattle.cf_c_handles.specs.Requests.{RequestOf};
+
+use crate::handle::{ask, tell};
+use cf_c_handles::handle::{CfHandle, fill};
+use cf_c_handles::plan::kind_of;
+use cf_c_handles::request::{asking, doing, request_of};
+use cf_c_handles::values::CfValue;
+use cf_c_handles::values::request::{CfApplied, CfDeadline, CfRequestSizes, CfRequestStep, CfTold};
+use cf_c_handles::values::task::CfTask;
+use cf_request::Deadline;
+use std::alloc::Global;
+
+/// Opens a request of the plan behind one handle, and puts it behind another, which is empty.
+#[unsafe(no_mangle)]
+pub extern "C" fn cf_request_new(
+    alloc: Global,
+    plan: &mut CfHandle,
+    sizes: &CfRequestSizes,
+    lanes: &[u8],
+    request: &mut CfHandle,
+) -> u32
+    ensures { HandleOpens (RequestOf sizes.now lanes.now) plan.old plan.new result request.old request.new }
+{
+    match plan.take(alloc) {
+        None => fill(alloc, request, Err(cf_c_handles::code::Code::Empty)),
+        Some(held) => {
+            let made = request_of(alloc, &held, *sizes, lanes);
+            plan.put(held);
+            fill(alloc, request, made)
+        }
+    }
+}
+
+/// Does a word; a stage that it attaches is this lane's. Then it tells the stages that are settled.
+#[unsafe(no_mangle)]
+pub extern "C" fn cf_request_apply(
+    alloc: Global,
+    h: &mut CfHandle,
+    word: u64,
+    lane: u8,
+    applied: &mut CfApplied,
+    told: &mut [CfTold],
+) -> u32
+    ensures { HandleWrites (AppliesIn word lane) h.old h.new result (applied.old, told.old) (applied.new, told.new) }
+{
+    ask!(alloc, h, held => doing::apply(&mut held, word, lane, applied, told))
+}
+
+/// Finishes what a task holds with the answer in it. Then claims the next ready stage of the lane, gives it to the task, and tells the
+/// stages that are settled.
+#[unsafe(no_mangle)]
+pub extern "C" fn cf_request_next(
+    alloc: Global,
+    h: &mut CfHandle,
+    step: &mut CfRequestStep,
+    task: &mut CfTask,
+    told: &mut [CfTold],
+) -> u32
+    ensures { HandleWrites GoesOnIn h.old h.new result (step.old, task.old, told.old) (step.new, task.new, told.new) }
+{
+    ask!(alloc, h, held => doing::next(&mut held, step, task, told))
+}
+
+/// From now on a stage ends as another does. Tells the stages that are settled.
+#[unsafe(no_mangle)]
+pub extern "C" fn cf_request_follow(
+    alloc: Global,
+    h: &mut CfHandle,
+    relay: u16,
+    stage: u16,
+    told: &mut [CfTold],
+    n: &mut usize,
+) -> u32
+    ensures { HandleWrites (FollowsIn relay stage) h.old h.new result (told.old, n.old) (told.new, n.new) }
+{
+    ask!(alloc, h, held => doing::follow(&mut held, relay, stage, told, n))
+}
+
+/// Sets a moment by which a stage has to be settled.
+#[unsafe(no_mangle)]
+pub extern "C" fn cf_request_deadline(
+    alloc: Global,
+    h: &mut CfHandle,
+    stage: u16,
+    moment: u64,
+    kind: u32,
+    value: CfValue,
+) -> u32
+    ensures { HandleDoes (SetsDeadlineIn (record { stage = stage; moment = moment; kind = kind_of kind value }))
+        h.old h.new result }
+{
+    let kind = kind_of(kind, value);
+    let deadline = Deadline {
+        stage,
+        moment,
+        kind,
+    };
+    ask!(alloc, h, held => doing::set_deadline(&mut held, deadline))
+}
+
+/// Lets time pass up to a moment. Tells the stages that are settled.
+#[unsafe(no_mangle)]
+pub extern "C" fn cf_request_pass(
+    alloc: Global,
+    h: &mut CfHandle,
+    moment: u64,
+    told: &mut [CfTold],
+    n: &mut usize,
+) -> u32
+    ensures { HandleWrites (PassesIn moment) h.old h.new result (told.old, n.old) (told.new, n.new) }
+{
+    ask!(alloc, h, held => doing::pass(&mut held, moment, told, n))
+}
+
+/// The least deadline of a stage that is open.
+#[unsafe(no_mangle)]
+pub extern "C" fn cf_request_next_deadline(
+    alloc: Global,
+    h: &mut CfHandle,
+    deadline: &mut CfDeadline,
+) -> u32
+    ensures { HandleTells (OfRequest TellsNextDeadline) h.old h.new result deadline.old deadline.new }
+{
+    tell!(alloc, h, deadline, held => asking::next_deadline(&mut held))
+}
+
+/// Fails the ready stages of a lane that nobody runs any more. Tells the stages that are settled.
+#[unsafe(no_mangle)]
+pub extern "C" fn cf_request_refuse(
+    alloc: Global,
+    h: &mut CfHandle,
+    lane: u8,
+    code: u32,
+    told: &mut [CfTold],
+    n: &mut usize,
+) -> u32
+    ensures { HandleWrites (RefusesIn lane code) h.old h.new result (told.old, n.old) (told.new, n.new) }
+{
+    ask!(alloc, h, held => doing::refuse(&mut held, lane, code, told, n))
+}
+
+/// Tells the stages that are settled and weren't told yet.
+#[unsafe(no_mangle)]
+pub extern "C" fn cf_request_told(
+    alloc: Global,
+    h: &mut CfHandle,
+    told: &mut [CfTold],
+    n: &mut usize,
+) -> u32
+    ensures { HandleWrites TellsIn h.old h.new result (told.old, n.old) (told.new, n.new) }
+{
+    ask!(alloc, h, held => doing::told(&mut held, told, n))
+}
+
+/// How many stages of a lane are ready.
+#[unsafe(no_mangle)]
+pub extern "C" fn cf_request_ready(alloc: Global, h: &mut CfHandle, lane: u8, ready: &mut u16) -> u32
+    ensures { HandleTells (OfRequest (TellsReadyOf lane)) h.old h.new result ready.old ready.new }
+{
+    tell!(alloc, h, ready, held => asking::ready(&mut held, lane))
+}

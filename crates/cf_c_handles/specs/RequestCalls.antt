@@ -1,0 +1,146 @@
+-- What a request behind a handle is asked.
+use Rattle.std.specs.Prelude.{◌≡◌, ◌⊎◌, ℕ, ◌<◌, Result, Ok, Err, List, length}
+use Rattle.cf_model.specs.declared.events.Reply.{Reply}
+use Rattle.cf_request.specs.Deadlines.{IsNextOpen, NoneOpen}
+use Rattle.cf_request.specs.Lanes.{ready_below}
+use Rattle.cf_request.specs.Machines.{AppliesWord, GoesOn, IsNoDeadline, IsNoFollow, IsNoNext, IsNoPass, IsNoWord, Machine, OnlyFinds, Passes, Refuses, SetsDeadline, SetsFollow, free_in, open_in, state_in}
+use Rattle.cf_request.specs.declared.deadlines.Deadline.{Deadline}
+use Rattle.cf_request.specs.declared.faults.MachineFault.{MachineFault}
+use Rattle.cf_request.specs.declared.faults.MachineFault.TheVariants as faults
+use Rattle.cf_request.specs.declared.machine.Next.{Next}
+use Rattle.cf_c_handles.specs.LedgerSteps.{late_number, step_code, taken_code, task_with}
+use Rattle.cf_c_handles.specs.Ledgers.{word_code}
+use Rattle.cf_c_handles.specs.Replies.{as_reply}
+use Rattle.cf_c_handles.specs.Requests.{TellsInto, as_deadline}
+use Rattle.cf_c_handles.specs.Tasks.{held_by}
+use Rattle.cf_c_handles.specs.declared.code.Code.{Code}
+use Rattle.cf_c_handles.specs.declared.code.Code.TheVariants.{NoMemory, NoStage, Nothing, PastMoment, WrongKind}
+use Rattle.cf_c_handles.specs.declared.handle.object.Object.{Object}
+use Rattle.cf_c_handles.specs.declared.handle.object.Object.TheVariants.{Request}
+use Rattle.cf_c_handles.specs.declared.values.request.CfApplied.{CfApplied}
+use Rattle.cf_c_handles.specs.declared.values.request.CfDeadline.{CfDeadline}
+use Rattle.cf_c_handles.specs.declared.values.request.CfRequestStep.{CfRequestStep}
+use Rattle.cf_c_handles.specs.declared.values.request.CfTold.{CfTold}
+use Rattle.cf_c_handles.specs.declared.values.task.CfTask.{CfTask}
+
+-- ---- why a call does nothing
+
+abbrev pub machine_code : MachineFault → Code
+machine_code faults.NoMemory = NoMemory
+machine_code faults.NoStage = NoStage
+machine_code faults.Past = PastMoment
+
+-- a fault is due, and this is its code
+pub record IsDueAs {F : Type 0} (code_of : F → Code) (IsDue : F → Type 0) (code : Code) : Type 0 where
+  pub why : F
+  pub due : IsDue why
+  pub is : code ≡ code_of why
+
+-- memory may have been found for words to come, and nothing else has changed
+pub record StaysButFinds (old : Machine) (new : Object) : Type 0 where
+  pub now : Machine
+  pub is : new ≡ Request now
+  pub finds : OnlyFinds old now
+
+-- ---- calls that tell stages
+
+-- something is done, and then what is told is written
+pub record DoesAndTells (Does : Machine → Machine → Type 0) (old : Machine) (new : Object) (had has : List CfTold × ℕ) : Type 0 where
+  pub between : Machine
+  pub now : Machine
+  pub does : Does old between
+  pub tells : TellsInto between had.0 has.0 has.1 now
+  pub is : new ≡ Request now
+
+-- it is done, or refused for a fault that is due
+abbrev pub TellsAfter : (Machine → Machine → Type 0) → (Machine → MachineFault → Type 0) → Object → List CfTold × ℕ → Result (Unit {0}) Code → Object → List CfTold × ℕ → Type 0
+TellsAfter Does IsDue (Request m) had (Ok done) new has = DoesAndTells Does m new had has
+TellsAfter Does IsDue (Request m) had (Err code) new has = IsDueAs machine_code (IsDue m) code × StaysButFinds m new × (has ≡ had)
+TellsAfter Does IsDue held had r new has = (r ≡ Err WrongKind) × (new ≡ held) × (has ≡ had)
+
+abbrev pub FollowsIn : ℕ → ℕ → Object → List CfTold × ℕ → Result (Unit {0}) Code → Object → List CfTold × ℕ → Type 0
+FollowsIn relay stage = TellsAfter (SetsFollow relay stage) (λ m. IsNoFollow relay stage (state_in m))
+
+abbrev pub PassesIn : ℕ → Object → List CfTold × ℕ → Result (Unit {0}) Code → Object → List CfTold × ℕ → Type 0
+PassesIn moment = TellsAfter (Passes moment) (IsNoPass moment)
+
+-- why a lane isn't refused: too little memory was found before
+abbrev pub IsNoRefusal : Machine → MachineFault → Type 0
+IsNoRefusal m faults.NoMemory = free_in m < open_in m
+IsNoRefusal m faults.NoStage = ⊥
+IsNoRefusal m faults.Past = ⊥
+
+abbrev pub RefusesIn : ℕ → ℕ → Object → List CfTold × ℕ → Result (Unit {0}) Code → Object → List CfTold × ℕ → Type 0
+RefusesIn lane code = TellsAfter (Refuses lane code) IsNoRefusal
+
+abbrev pub TellsIn : Object → List CfTold × ℕ → Result (Unit {0}) Code → Object → List CfTold × ℕ → Type 0
+TellsIn = TellsAfter (λ old new. new ≡ old) (λ m fault. ⊥)
+
+-- ---- words
+
+-- a word is done, and C has its reply and what is told
+pub record HasApplied (word lane : ℕ) (old : Machine) (new : Object) (had has : CfApplied × List CfTold) : Type 0 where
+  pub reply : Reply
+  pub between : Machine
+  pub now : Machine
+  pub applies : AppliesWord word lane old reply between
+  pub replied : has.0.reply ≡ as_reply reply
+  pub tells : TellsInto between had.1 has.1 has.0.told now
+  pub is : new ≡ Request now
+
+abbrev pub AppliesIn : ℕ → ℕ → Object → CfApplied × List CfTold → Result (Unit {0}) Code → Object → CfApplied × List CfTold → Type 0
+AppliesIn word lane (Request m) had (Ok done) new has = HasApplied word lane m new had has
+AppliesIn word lane (Request m) had (Err code) new has = IsDueAs word_code (IsNoWord word m) code × StaysButFinds m new × (has ≡ had)
+AppliesIn word lane held had r new has = (r ≡ Err WrongKind) × (new ≡ held) × (has ≡ had)
+
+-- ---- a caller's step
+
+-- what was held is finished, the next stage of the lane is claimed, and C has both and what is told
+pub record HasGoneOn (old : Machine) (r : Result (Unit {0}) Code) (new : Object) (had has : CfRequestStep × CfTask × List CfTold) : Type 0 where
+  pub next : Next
+  pub between : Machine
+  pub now : Machine
+  pub goes_on : GoesOn had.0.who had.0.lane (held_by had.1) old next between
+  pub told : r ≡ taken_code next.taken
+  pub task : has.1 ≡ task_with (record had.1 { finished = late_number next.finish }) next.taken
+  pub tells : TellsInto between had.2 has.2 has.0.told now
+  pub step : has.0 ≡ record had.0 { told = has.0.told }
+  pub is : new ≡ Request now
+
+-- nothing is done
+pub record IsNotGone (old : Machine) (r : Result (Unit {0}) Code) (new : Object) (had has : CfRequestStep × CfTask × List CfTold) : Type 0 where
+  pub code : Code
+  pub is : r ≡ Err code
+  pub refused : IsDueAs step_code (IsNoNext had.0.who (held_by had.1) old) code
+  pub stays : StaysButFinds old new
+  pub same : has ≡ had
+
+-- it is done, also if nothing was claimed, or refused for a fault that is due
+abbrev pub GoesOnIn : Object → CfRequestStep × CfTask × List CfTold → Result (Unit {0}) Code → Object → CfRequestStep × CfTask × List CfTold → Type 0
+GoesOnIn (Request m) had r new has = HasGoneOn m r new had has ⊎ IsNotGone m r new had has
+GoesOnIn held had r new has = (r ≡ Err WrongKind) × (new ≡ held) × (has ≡ had)
+
+-- ---- calls that tell no stages
+
+abbrev pub SetsDeadlineIn : Deadline → Object → Result (Unit {0}) Code → Object → Type 0
+SetsDeadlineIn d (Request m) (Ok done) new = (now : Machine) × SetsDeadline d m now × (new ≡ Request now)
+SetsDeadlineIn d (Request m) (Err code) new = IsDueAs machine_code (IsNoDeadline d (state_in m)) code × (new ≡ Request m)
+SetsDeadlineIn d held r new = (r ≡ Err WrongKind) × (new ≡ held)
+
+-- a request is asked this, and stays
+abbrev pub OfRequest : {X : Type 0} → (Machine → Result X Code → Type 0) → Object → Result X Code → Object → Type 0
+OfRequest Tells (Request m) r new = Tells m r × (new ≡ Request m)
+OfRequest Tells held r new = (r ≡ Err WrongKind) × (new ≡ held)
+
+abbrev pub TellsReadyOf : ℕ → Machine → Result ℕ Code → Type 0
+TellsReadyOf lane m r = r ≡ Ok (ready_below (state_in m) m.lanes lane (length (state_in m).plan.stages))
+
+-- the deadline that comes next
+pub record IsNextTo (m : Machine) (d : CfDeadline) : Type 0 where
+  pub deadline : Deadline
+  pub next : IsNextOpen m.deadlines (state_in m).stages deadline
+  pub is : d ≡ as_deadline deadline
+
+abbrev pub TellsNextDeadline : Machine → Result CfDeadline Code → Type 0
+TellsNextDeadline m (Ok d) = IsNextTo m d
+TellsNextDeadline m (Err code) = (code ≡ Nothing) × NoneOpen m.deadlines (state_in m).stages

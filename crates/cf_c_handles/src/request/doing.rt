@@ -1,0 +1,142 @@
+//! What is done to a request behind a handle, and what it tells then.
+ghost use Rattle.cf_c_handles.specs.RequestCalls.{AppliesIn, FollowsIn, GoesOnIn, PassesIn, RefusesIn, SetsDeadlineIn, TellsIn};
+
+use crate::code::Code;
+use crate::handle::object::Object;
+use crate::ledger::stepping::{late_number, step_code, take};
+use crate::ledger::word_code;
+use crate::request::{machine_code, tell_into};
+use crate::values::as_reply;
+use crate::values::request::{CfApplied, CfRequestStep, CfTold};
+use crate::values::task::{CfTask, held_by};
+use cf_request::Deadline;
+
+/// Does a word; a stage that it attaches is this lane's.
+pub fn apply(
+    held: &mut Object,
+    word: u64,
+    lane: u8,
+    applied: &mut CfApplied,
+    row: &mut [CfTold],
+) -> Result<(), Code>
+    ensures { AppliesIn word lane held.old (applied.old, row.old) result held.new (applied.new, row.new) }
+{
+    let Object::Request(machine) = held else {
+        return Err(Code::WrongKind);
+    };
+    match machine.apply(word, lane) {
+        Err(fault) => Err(word_code(fault)),
+        Ok(reply) => {
+            applied.reply = as_reply(reply);
+            applied.told = tell_into(machine, row);
+            Ok(())
+        }
+    }
+}
+
+/// Finishes what a task holds, and gives it the next ready stage of the caller's lane.
+pub fn next(
+    held: &mut Object,
+    step: &mut CfRequestStep,
+    task: &mut CfTask,
+    row: &mut [CfTold],
+) -> Result<(), Code>
+    ensures { GoesOnIn held.old (step.old, task.old, row.old) result held.new (step.new, task.new, row.new) }
+{
+    let Object::Request(machine) = held else {
+        return Err(Code::WrongKind);
+    };
+    match machine.next(step.who, step.lane, held_by(task)) {
+        Err(fault) => Err(step_code(fault)),
+        Ok(next) => {
+            task.finished = late_number(next.finish);
+            let told = take(task, next.taken);
+            step.told = tell_into(machine, row);
+            told
+        }
+    }
+}
+
+/// From now on a stage ends as another does.
+pub fn follow(
+    held: &mut Object,
+    relay: u16,
+    stage: u16,
+    row: &mut [CfTold],
+    n: &mut usize,
+) -> Result<(), Code>
+    ensures { FollowsIn relay stage held.old (row.old, n.old) result held.new (row.new, n.new) }
+{
+    let Object::Request(machine) = held else {
+        return Err(Code::WrongKind);
+    };
+    match machine.follow(relay, stage) {
+        Err(fault) => Err(machine_code(fault)),
+        Ok(()) => {
+            *n = tell_into(machine, row);
+            Ok(())
+        }
+    }
+}
+
+/// Lets time pass up to a moment.
+pub fn pass(held: &mut Object, moment: u64, row: &mut [CfTold], n: &mut usize) -> Result<(), Code>
+    ensures { PassesIn moment held.old (row.old, n.old) result held.new (row.new, n.new) }
+{
+    let Object::Request(machine) = held else {
+        return Err(Code::WrongKind);
+    };
+    match machine.pass(moment) {
+        Err(fault) => Err(machine_code(fault)),
+        Ok(()) => {
+            *n = tell_into(machine, row);
+            Ok(())
+        }
+    }
+}
+
+/// Fails the ready stages of a lane that nobody runs any more.
+pub fn refuse(
+    held: &mut Object,
+    lane: u8,
+    code: u32,
+    row: &mut [CfTold],
+    n: &mut usize,
+) -> Result<(), Code>
+    ensures { RefusesIn lane code held.old (row.old, n.old) result held.new (row.new, n.new) }
+{
+    let Object::Request(machine) = held else {
+        return Err(Code::WrongKind);
+    };
+    match machine.refuse(lane, code) {
+        Err(_) => Err(Code::NoMemory),
+        Ok(()) => {
+            *n = tell_into(machine, row);
+            Ok(())
+        }
+    }
+}
+
+/// Tells what was settled and wasn't told yet.
+pub fn told(held: &mut Object, row: &mut [CfTold], n: &mut usize) -> Result<(), Code>
+    ensures { TellsIn held.old (row.old, n.old) result held.new (row.new, n.new) }
+{
+    let Object::Request(machine) = held else {
+        return Err(Code::WrongKind);
+    };
+    *n = tell_into(machine, row);
+    Ok(())
+}
+
+/// Sets a deadline.
+pub fn set_deadline(held: &mut Object, deadline: Deadline) -> Result<(), Code>
+    ensures { SetsDeadlineIn deadline held.old result held.new }
+{
+    let Object::Request(machine) = held else {
+        return Err(Code::WrongKind);
+    };
+    match machine.deadline(deadline) {
+        Ok(()) => Ok(()),
+        Err(fault) => Err(machine_code(fault)),
+    }
+}

@@ -1,0 +1,78 @@
+//! What a request is given and what it tells, as C has it.
+ghost use Rattle.std.specs.Prelude.{◌≡◌, Some};
+ghost use Rattle.cf_c_handles.specs.Requests.{as_deadline, told_as};
+
+use crate::values::{CfOutcome, CfReply, CfValue, as_outcome, as_value};
+use cf_forms::LimitKind;
+use cf_outcome::{Outcome, Value};
+use cf_request::Deadline;
+
+/// What a request is opened with: how many stages may be attached later, how many lanes there are, and the caller in whose name it
+/// settles stages itself.
+#[repr(C)]
+#[derive(Clone, Copy)]
+pub struct CfRequestSizes {
+    pub room: u16,
+    pub lanes: u8,
+    pub own: u8,
+}
+
+/// A stage that is told as settled, and its outcome.
+#[repr(C)]
+#[derive(Clone, Copy)]
+pub struct CfTold {
+    pub stage: u16,
+    pub outcome: CfOutcome,
+}
+
+/// What a word did: its reply, and how many stages were to be told.
+#[repr(C)]
+#[derive(Clone, Copy)]
+pub struct CfApplied {
+    pub reply: CfReply,
+    pub told: usize,
+}
+
+/// A step of a caller of a request. C says who takes it, and in which lane. It is told how many stages were to be told.
+#[repr(C)]
+#[derive(Clone, Copy)]
+pub struct CfRequestStep {
+    pub who: u8,
+    pub lane: u8,
+    pub told: usize,
+}
+
+/// A moment by which a stage has to be settled, and whether it times out (kind 0) or gets a value then.
+#[repr(C)]
+#[derive(Clone, Copy)]
+pub struct CfDeadline {
+    pub stage: u16,
+    pub moment: u64,
+    pub kind: u32,
+    pub value: CfValue,
+}
+
+/// A deadline for C.
+pub(crate) fn as_deadline(deadline: Deadline) -> CfDeadline
+    ensures { result ≡ as_deadline deadline }
+{
+    let (kind, value) = match deadline.kind {
+        LimitKind::Timeout => (0, Value::Nil),
+        LimitKind::Give(value) => (1, value),
+    };
+    CfDeadline {
+        stage: deadline.stage,
+        moment: deadline.moment,
+        kind,
+        value: as_value(value),
+    }
+}
+
+/// Writes a stage that is told, and its outcome.
+#[inline(always)]
+pub(crate) fn put_told(told: &mut CfTold, stage: u16, outcome: Option<Outcome>)
+    ensures { told.new ≡ told_as stage outcome }
+{
+    told.stage = stage;
+    told.outcome = as_outcome(outcome);
+}
