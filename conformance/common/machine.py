@@ -172,8 +172,8 @@ class Machine:
                          if self.is_settled(i) and (i >= len(before.stages) or model.outcome(before, i) is None)]
         return tuple(reply)
 
-    def settle(self, stage: int, outcome: Outcome) -> None:
-        self.do(settle_event(self.own, stage, outcome))
+    def settle(self, who: int, stage: int, outcome: Outcome) -> None:
+        self.do(settle_event(who, stage, outcome))
 
     def due_relay(self) -> Optional[Tuple[int, Outcome]]:
         """The first relay, as they were set, that is open though its stage is settled, with the outcome of its stage."""
@@ -183,10 +183,10 @@ class Machine:
                 return relay, outcome
         return None
 
-    def settle_relays(self) -> None:
+    def settle_relays(self, who: int) -> None:
         due = self.due_relay()
         while due is not None:
-            self.settle(*due)
+            self.settle(who, *due)
             due = self.due_relay()
 
     # Its calls.
@@ -212,7 +212,7 @@ class Machine:
         reply = self.do(known)
         if known[0] == "attach":
             self.lanes.append(lane)
-        self.settle_relays()
+        self.settle_relays(self.own)
         return reply
 
     def next(self, who: int, lane: int, held: Optional[Tuple[int, Answer]]) -> Next:
@@ -225,7 +225,7 @@ class Machine:
             if self.state.claims[held[0]] != who:
                 raise Refused("NOT_HELD")
             finished = self.do(("finish", who, *held))[1]
-        self.settle_relays()
+        self.settle_relays(self.own)
         return Next(finished, self.take(who, lane))
 
     def take(self, who: int, lane: int) -> Optional[Taken]:
@@ -239,7 +239,7 @@ class Machine:
         """From now on one stage follows another."""
         self.check_stages(relay, stage)
         self.follows.append(Follow(relay, stage))
-        self.settle_relays()
+        self.settle_relays(self.own)
 
     def deadline(self, deadline: Deadline) -> None:
         """A stage has to be settled by a moment. The deadlines of settled stages are forgotten."""
@@ -252,29 +252,29 @@ class Machine:
         if moment < self.moment:
             raise Refused("PAST_MOMENT")
         self.moment = moment
-        self.settle_relays()
+        self.settle_relays(self.own)
         due = self.next_deadline()
         while due is not None and due.moment <= moment:
-            self.settle(due.stage, due.outcome)
-            self.settle_relays()
+            self.settle(self.own, due.stage, due.outcome)
+            self.settle_relays(self.own)
             due = self.next_deadline()
 
     def refuse(self, lane: int, code: int) -> None:
         """Nobody runs this lane any more: its ready stages fail with the code."""
         self.check_lane(lane)
-        self.settle_relays()
+        self.settle_relays(self.own)
         while self.ready_in(lane):
-            self.settle(self.ready_in(lane)[0], ("fault", ("thrown", code), False))
-            self.settle_relays()
+            self.settle(self.own, self.ready_in(lane)[0], ("fault", ("thrown", code), False))
+            self.settle_relays(self.own)
 
     def cancel_all(self, who: int) -> None:
-        """A caller cancels all stages that are open."""
+        """A caller cancels all stages that are open, and settles relays in its own name."""
         self.check_caller(who)
-        self.settle_relays()
+        self.settle_relays(who)
         for stage in range(self.stages()):
             if not self.is_settled(stage):
-                self.do(("cancel", who, stage))
-                self.settle_relays()
+                self.settle(who, stage, model.CANCELLED)
+                self.settle_relays(who)
 
     def tell(self, room: int) -> Told:
         """Tells the first so many stages that were settled, in the order of the events that settled them, and those of one event rising.

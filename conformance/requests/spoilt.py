@@ -1,6 +1,7 @@
 """Plain machines, each with one mistake. The random hosts have to tell each of them from the library's machine."""
 from typing import List, Optional, Tuple, Union
 
+import model
 from machine import Answer, Deadline, Event, Follow, Machine, Next, Outcome, Reply, Taken, Told
 
 
@@ -47,7 +48,7 @@ class RelaysComeAfterDeadlines(Machine):
             super().pass_to(moment)
         finally:
             self.follows = follows
-        self.settle_relays()
+        self.settle_relays(self.own)
 
 
 class TheLastRelayComesFirst(Machine):
@@ -70,16 +71,14 @@ class ARelayFollowsOneStage(Machine):
 
 
 class ACancellationIsAFailure(Machine):
-    def settle(self, stage: int, outcome: Outcome) -> None:
+    def settle(self, who: int, stage: int, outcome: Outcome) -> None:
         is_cancelled = outcome[0] == "fault" and outcome[1] == ("cancelled",)
-        super().settle(stage, ("fault", ("thrown", 0), False) if is_cancelled else outcome)
+        super().settle(who, stage, ("fault", ("thrown", 0), False) if is_cancelled else outcome)
 
 
 class AnotherSettles(Machine):
-    def settle(self, stage: int, outcome: Outcome) -> None:
-        own, self.own = self.own, 1
-        super().settle(stage, outcome)
-        self.own = own
+    def settle(self, who: int, stage: int, outcome: Outcome) -> None:
+        super().settle(1, stage, outcome)
 
 
 class AMomentLate(Machine):
@@ -143,11 +142,11 @@ class AnotherCodeIsThrown(Machine):
 class WhatARefusalMakesReadyStays(Machine):
     def refuse(self, lane: int, code: int) -> None:
         self.check_lane(lane)
-        self.settle_relays()
+        self.settle_relays(self.own)
         for stage in self.ready_in(lane):
             if not self.is_settled(stage):
-                self.settle(stage, ("fault", ("thrown", code), False))
-                self.settle_relays()
+                self.settle(self.own, stage, ("fault", ("thrown", code), False))
+                self.settle_relays(self.own)
 
 
 class RelaysRestBehindARefusal(Machine):
@@ -157,12 +156,21 @@ class RelaysRestBehindARefusal(Machine):
             super().refuse(lane, code)
         finally:
             self.follows = follows
-        self.settle_relays()
+        self.settle_relays(self.own)
 
 
 class TheOwnCallerCancels(Machine):
     def cancel_all(self, who: int) -> None:
         super().cancel_all(self.own if who < 64 else who)
+
+
+class TheHighestIsCancelledFirst(Machine):
+    def cancel_all(self, who: int) -> None:
+        self.check_caller(who)
+        for stage in reversed(range(self.stages())):
+            if not self.is_settled(stage):
+                self.settle(who, stage, model.CANCELLED)
+                self.settle_relays(who)
 
 
 class DeadlinesOutliveAStart(Machine):
