@@ -78,6 +78,18 @@ def rows_of_python(tools: Tools, made: Path) -> List[Row]:
     ]
 
 
+def rows_of_requests(tools: Tools, made: Path) -> List[Row]:
+    """The machine of a request beside a plain one, and the types of this."""
+    folder = "conformance/requests"
+    parts = sorted(str(path.relative_to(TOP)) for path in (TOP / folder).glob("*.py"))
+    typed = [tools["mypy"], "--strict", "--allow-untyped-calls", "--follow-imports=silent", "--cache-dir", str(made / "mypy-requests")]
+    return [
+        Row("random hosts of the machine of a request", ["library", "python3"], [[tools["python3"], folder + "/hosts", "0", "500"]]),
+        Row("the types of the plain machine and its hosts", ["mypy", "python3"],
+            [["env", "MYPYPATH=clients/python", *typed, "conformance/common/machine.py", *parts, folder + "/hosts"]]),
+    ]
+
+
 def rows_of_rust(tools: Tools, made: Path) -> List[Row]:
     """Without the crates of others, so that nothing but the project's own is built, and once over Debian's."""
     python, offline, needs = tools["python3"], "clients/rust/offline", ["library", "cargo", "python3"]
@@ -143,6 +155,7 @@ def rows(tools: Tools, made: Path) -> List[Row]:
         Row("inputs of all sizes in ample memory", ["cf", "cf_look"], [["sweeps/sizes", "short", tools["cf"], tools["cf_look"]]]),
         Row("pages in a browser", ["cf_look", browser], [[tools[browser], "conformance/programs/pages", "short", tools["cf_look"]]]),
         *rows_of_python(tools, made),
+        *rows_of_requests(tools, made),
         *rows_of_rust(tools, made),
         *rows_of_java(tools, made),
     ]

@@ -248,6 +248,121 @@ static uint32_t ledger(long numbers[3]) {
     return code;
 }
 
+/* What a host can ask of a request, as a sum. */
+static uint64_t asked_of(cf_handle *request) {
+    static uint64_t words[1000];
+    size_t n = 0, told = 0;
+    cf_deadline next = {0};
+    uint64_t sum = cf_request_next_deadline(request, &next) + 31 * next.stage + 97 * next.moment;
+    cf_ledger_words(request, 0, words, 1000, &n);
+    for (size_t k = 0; k < n; k++)
+        sum = sum * 1000003 + words[k];
+    for (uint8_t lane = 0; lane < 2; lane++) {
+        uint16_t ready = 0;
+        cf_request_ready(request, lane, &ready);
+        sum = sum * 1000003 + ready;
+    }
+    cf_request_told(request, NULL, 0, &told);
+    return sum * 1000003 + told;
+}
+
+/* A call of a request: what it is, and the stages, the moment or the lane that it names. */
+typedef enum { ATTACH, FOLLOW, DEADLINE, COMPLETE, NEXT, PASS, REFUSE } request_call;
+typedef struct { request_call call; uint16_t first, second; } request_step;
+
+/* Attaches a source, or completes a stage. */
+static uint32_t apply_to(cf_handle *request, const request_step *step, cf_told *told, size_t *n) {
+    cf_event event = {.call = CF_CALL_ATTACH, .who = 1, .form = CF_SOURCE, .function = CF_NO_FUNCTION};
+    if (step->call == COMPLETE)
+        event = (cf_event){.call = CF_CALL_COMPLETE, .who = 1, .stage = step->first, .value = {CF_INT, 3}};
+    cf_applied applied = {.told = *n};
+    uint64_t word = 0;
+    cf_word_of(event, &word);
+    uint32_t code = cf_request_apply(request, word, (uint8_t)step->second, &applied, told, 2);
+    *n = applied.told;
+    return code;
+}
+
+static uint32_t call_request(cf_handle *request, const request_step *step, cf_task *task, cf_told *told, size_t *n) {
+    cf_request_step next = {.who = 2, .lane = (uint8_t)step->first, .told = *n};
+    uint32_t code = CF_OK;
+    switch (step->call) {
+    case FOLLOW: return cf_request_follow(request, step->first, step->second, told, 2, n);
+    case DEADLINE: return cf_request_deadline(request, step->first, step->second, CF_TIMEOUT, (cf_value){CF_NIL, 0});
+    case PASS: return cf_request_pass(request, step->first, told, 2, n);
+    case REFUSE: return cf_request_refuse(request, (uint8_t)step->first, 7, told, 2, n);
+    case NEXT:
+        code = cf_request_next(request, &next, task, told, 2);
+        *n = next.told;
+        task->answer = four();
+        return code == CF_NOTHING ? CF_OK : code;
+    default: return apply_to(request, step, told, n);
+    }
+}
+
+/* Makes a call, and where memory was refused it the same once more. It has to have changed nothing then. */
+static uint32_t step_request(cf_handle *request, const request_step *step, cf_task *task, long *again) {
+    cf_told told = {.stage = 99};
+    cf_told row[2] = {told, told};
+    const cf_task had = *task;
+    const uint64_t before = asked_of(request);
+    size_t n = 99;
+    uint32_t code = call_request(request, step, task, row, &n);
+    if (code != CF_NO_MEMORY)
+        return code;
+    bool same = task->held == had.held && task->stage == had.stage && row[0].stage == 99 && row[1].stage == 99 && n == 99;
+    if (!same || asked_of(request) != before)
+        return CHANGED;
+    ++*again;
+    return call_request(request, step, task, row, &n);
+}
+
+/* A request with these calls: how many words it has then, and what a host can ask of it. */
+static uint32_t request_with(long numbers[3], const request_step *steps, size_t count) {
+    static const uint8_t lanes[] = {0, 0, 1};
+    cf_handle plan = {0}, request = {0};
+    cf_task task = {0};
+    numbers[2] = 0;
+    uint32_t code = make_plan(&plan, &numbers[2]);
+    cf_request_sizes sizes = {.room = 200, .lanes = 2, .own = 63};
+    if (code == CF_OK)
+        code = cf_request_new(&plan, &sizes, lanes, 3, &request);
+    for (size_t k = 0; k < count && code == CF_OK; k++)
+        code = step_request(&request, &steps[k], &task, &numbers[2]);
+    numbers[0] = (long)words_of(&request);
+    numbers[1] = (long)(asked_of(&request) % 1000000);
+    cf_free(&request);
+    cf_free(&plan);
+    return code;
+}
+
+/* One call of each kind: relays, of which one settles by a word, one by a finish and one at once, and deadlines before and behind them. */
+static uint32_t request(long numbers[3]) {
+    static const request_step steps[] = {
+        {ATTACH, 0, 1}, {ATTACH, 0, 0}, {ATTACH, 0, 1}, {FOLLOW, 3, 0}, {FOLLOW, 4, 1}, {DEADLINE, 5, 20}, {DEADLINE, 2, 30},
+        {COMPLETE, 0, 0}, {NEXT, 0, 0}, {NEXT, 0, 0}, {FOLLOW, 5, 4}, {PASS, 10, 0}, {NEXT, 1, 0}, {ATTACH, 0, 1}, {REFUSE, 1, 0},
+        {DEADLINE, 6, 12}, {PASS, 30, 0}, {PASS, 30, 0},
+    };
+    return request_with(numbers, steps, sizeof steps / sizeof *steps);
+}
+
+/* A hundred stages are attached. Each has a deadline, and the last fifty follow the stage below them, so that one call settles many.
+ * Each call of a request that takes memory finds some that it lacks, here or in the request before. */
+static uint32_t long_request(long numbers[3]) {
+    request_step steps[253];
+    size_t count = 0;
+    for (uint16_t k = 0; k < 100; k++) {
+        steps[count++] = (request_step){ATTACH, 0, k % 2};
+        steps[count++] = (request_step){DEADLINE, k + 3, 100 - k};
+        if (k >= 50)
+            steps[count++] = (request_step){FOLLOW, k + 3, k + 2};
+    }
+    steps[count++] = (request_step){REFUSE, 1, 0};
+    steps[count++] = (request_step){PASS, 60, 0};
+    steps[count++] = (request_step){PASS, 200, 0};
+    return request_with(numbers, steps, count);
+}
+
 /* The code of a script's run, and how long what it prints is. */
 static uint32_t script_of(const char *text, uint32_t wanted, long numbers[3]) {
     uint8_t report[100];
@@ -273,7 +388,7 @@ static const struct {
 } OPENINGS[] = {
     {"C builder", small_builder}, {"C builder with room", roomy_builder}, {"C plan", plan}, {"C graph", graph},
     {"C growing graph", growing_graph}, {"C desk", desk}, {"C growing desk", growing_desk}, {"C ledger", ledger},
-    {"C script", script}, {"C wrong script", wrong_script},
+    {"C request", request}, {"C long request", long_request}, {"C script", script}, {"C wrong script", wrong_script},
 };
 
 static void show(const char *name, opening *open) {

@@ -1,0 +1,284 @@
+"""The machine of a request, written plainly after docs/REQUEST.md over the sequential graph of conformance/common/model.py.
+
+Nothing here is taken from the product's code. There are lists, and each call looks through all of them. Memory never runs out. Events,
+outcomes, answers and arguments are written as in model.py, and a stage that is held is (stage, answer).
+"""
+from typing import Any, List, NamedTuple, Optional, Sequence, Tuple, Union
+
+import histories
+import model
+
+Event = Tuple[Any, ...]
+Outcome = Tuple[Any, ...]
+Answer = Tuple[Any, ...]
+Reply = Tuple[Any, ...]
+Stage = Tuple[Tuple[Any, ...], Optional[int]]
+MOST_CALLERS, MOST_LANES, MOST_STAGES, MOST_EDGES = 64, 16, 4096, 16384
+
+
+class Refused(Exception):
+    """Why a call is refused. It has changed nothing."""
+
+
+class Follow(NamedTuple):
+    """A relay ends as its stage does."""
+
+    relay: int
+    stage: int
+
+
+class Deadline(NamedTuple):
+    """What a stage is settled with, if it is open when a moment has passed."""
+
+    stage: int
+    moment: int
+    outcome: Outcome
+
+
+class Taken(NamedTuple):
+    """A stage that was claimed, its function, and what that is to be called with."""
+
+    stage: int
+    function: int
+    args: Tuple[Any, ...]
+
+
+class Told(NamedTuple):
+    """How many stages were told, and the first of them with their outcomes, which the host has taken by that."""
+
+    total: int
+    taken: List[Tuple[int, Optional[Outcome]]]
+
+
+class Next(NamedTuple):
+    """How what was held was finished, if anything was, and what was claimed, if a stage of the lane was ready."""
+
+    finished: Optional[str]
+    taken: Optional[Taken]
+
+
+def settle_event(who: int, stage: int, outcome: Outcome) -> Event:
+    """The event by which a caller settles a stage with this outcome. A fault is raw then."""
+    if outcome[0] == "value":
+        return ("complete", who, stage, outcome[1])
+    cause = outcome[1]
+    if cause[0] == "thrown":
+        return ("fail", who, stage, cause[1])
+    return ("cancel", who, stage) if cause[0] == "cancelled" else ("failAs", who, stage, cause[0])
+
+
+def kept_in(state: Any) -> List[Stage]:
+    """What each stage of a state is, without the arguments of those that are ready, and whose claim of it is open."""
+    return [(stage[:1] if stage[0] == "ready" else stage, claimant) for stage, claimant in zip(state.stages, state.claims)]
+
+
+class Machine:
+    """A request of a plan with room for so many stages more, with the lanes of its stages and the number of lanes. It settles stages in
+    the name of its own caller."""
+
+    def __init__(self, plan: Any, room: int, lanes: Sequence[int], count: int, own: int) -> None:
+        self.plan, self.room, self.planned, self.count, self.own = plan, room, list(lanes), count, own
+        edges = sum(len(stage.sources) for stage in plan.stages)
+        if len(plan.stages) + room > MOST_STAGES or edges + 2 * room > MOST_EDGES:
+            raise Refused("ROOM")
+        if not 1 <= count <= MOST_LANES or len(lanes) != len(plan.stages):
+            raise Refused("LANES")
+        if any(lane >= count for lane in lanes):
+            raise Refused("NO_LANE")
+        self.check_caller(own)
+        self.restart()
+
+    def restart(self) -> None:
+        """As it was opened."""
+        self.state: Any = model.start(self.plan, self.room)
+        self.events: List[Event] = []
+        self.lanes = list(self.planned)
+        self.follows: List[Follow] = []
+        self.deadlines: List[Deadline] = []
+        self.moment = 0
+        self.told = [i for i in range(self.stages()) if self.is_settled(i)]
+
+    def close(self) -> None:
+        """It has nothing to free."""
+
+    # What it tells, and changes nothing.
+
+    def stages(self) -> int:
+        return len(self.state.stages)
+
+    def outcome(self, stage: int) -> Optional[Outcome]:
+        found: Optional[Outcome] = model.outcome(self.state, stage)
+        return found
+
+    def is_settled(self, stage: int) -> bool:
+        return self.outcome(stage) is not None
+
+    def ready_in(self, lane: int) -> List[int]:
+        """The ready stages of a lane, rising."""
+        return [i for i in range(self.stages()) if self.state.stages[i][0] == "ready" and self.lanes[i] == lane]
+
+    def ready(self, lane: int) -> int:
+        """How many stages of the lane are ready."""
+        self.check_lane(lane)
+        return len(self.ready_in(lane))
+
+    def ready_of_lanes(self) -> List[int]:
+        """How many stages of each lane are ready."""
+        ready = [self.lanes[i] for i in range(self.stages()) if self.state.stages[i][0] == "ready"]
+        return [ready.count(lane) for lane in range(self.count)]
+
+    def next_deadline(self) -> Optional[Deadline]:
+        """Of the deadlines of open stages the one with the least moment, and of those the one that was set first."""
+        waiting = [deadline for deadline in self.deadlines if not self.is_settled(deadline.stage)]
+        return min(waiting, key=lambda deadline: deadline.moment) if waiting else None
+
+    def words(self) -> List[int]:
+        """The words of all that was done."""
+        return [histories.word_of(event) for event in self.events]
+
+    def kept(self) -> List[Stage]:
+        """What each stage is, and whose claim of it is open."""
+        return kept_in(self.state)
+
+    def kept_by(self, words: Sequence[int]) -> List[Stage]:
+        """The same, as these words leave it from the start on."""
+        state = model.start(self.plan, self.room)
+        for word in words:
+            state = model.answered(state, histories.event_of(word))[1]
+        return kept_in(state)
+
+    # Why a call is refused.
+
+    def check_caller(self, who: int) -> None:
+        if who >= MOST_CALLERS:
+            raise Refused("NO_WORD")
+
+    def check_lane(self, lane: int) -> None:
+        if lane >= self.count:
+            raise Refused("NO_LANE")
+
+    def check_stages(self, *stages: int) -> None:
+        if any(stage >= self.stages() for stage in stages):
+            raise Refused("NO_STAGE")
+
+    # What it does by itself.
+
+    def do(self, event: Event) -> Reply:
+        """Does an event, writes it behind the others, and tells the stages that it settled, rising."""
+        before = self.state
+        reply, self.state = model.answered(before, event)
+        self.events.append(event)
+        self.told += [i for i in range(self.stages())
+                         if self.is_settled(i) and (i >= len(before.stages) or model.outcome(before, i) is None)]
+        return tuple(reply)
+
+    def settle(self, who: int, stage: int, outcome: Outcome) -> None:
+        self.do(settle_event(who, stage, outcome))
+
+    def due_relay(self) -> Optional[Tuple[int, Outcome]]:
+        """The first relay, as they were set, that is open though its stage is settled, with the outcome of its stage."""
+        for relay, stage in self.follows:
+            outcome = self.outcome(stage)
+            if outcome is not None and not self.is_settled(relay):
+                return relay, outcome
+        return None
+
+    def settle_relays(self, who: int) -> None:
+        due = self.due_relay()
+        while due is not None:
+            self.settle(who, *due)
+            due = self.due_relay()
+
+    # Its calls.
+
+    def call(self, name: str, given: Tuple[Any, ...], room: int) -> Tuple[Any, Told]:
+        """What a call answers, and what is told then."""
+        answer = getattr(self, name)(*given)
+        return answer, self.tell(room)
+
+    def rest(self) -> None:
+        """Does nothing, so that the host only takes what is told."""
+
+    def apply(self, event: Union[int, Event], lane: int) -> Reply:
+        """Does an event, or that of a word. A stage that it attaches has this lane."""
+        self.check_lane(lane)
+        word = event if isinstance(event, int) else histories.word_of(event)
+        known: Optional[Event] = histories.event_of(word)
+        if known is None:
+            raise Refused("NO_WORD")
+        self.check_stages(*(known[3] if known[0] == "attach" else [] if known[0] == "tick" else [known[2]]))
+        if known[0] == "attach" and self.state.room == 0:
+            raise Refused("NO_ROOM")
+        reply = self.do(known)
+        if known[0] == "attach":
+            self.lanes.append(lane)
+        self.settle_relays(self.own)
+        return reply
+
+    def next(self, who: int, lane: int, held: Optional[Tuple[int, Answer]]) -> Next:
+        """Finishes what the caller holds, settles relays, and claims the lowest ready stage of the lane."""
+        self.check_lane(lane)
+        self.check_caller(who)
+        finished = None
+        if held is not None:
+            self.check_stages(held[0])
+            if self.state.claims[held[0]] != who:
+                raise Refused("NOT_HELD")
+            finished = self.do(("finish", who, *held))[1]
+        self.settle_relays(self.own)
+        return Next(finished, self.take(who, lane))
+
+    def take(self, who: int, lane: int) -> Optional[Taken]:
+        ready = self.ready_in(lane)
+        if not ready:
+            return None
+        granted = self.do(("claim", who, ready[0]))[1]
+        return Taken(ready[0], self.state.plan.stages[ready[0]].function, granted[1])
+
+    def follow(self, relay: int, stage: int) -> None:
+        """From now on one stage follows another."""
+        self.check_stages(relay, stage)
+        self.follows.append(Follow(relay, stage))
+        self.settle_relays(self.own)
+
+    def deadline(self, deadline: Deadline) -> None:
+        """A stage has to be settled by a moment. The deadlines of settled stages are forgotten."""
+        self.check_stages(deadline.stage)
+        self.deadlines.append(deadline)
+        self.deadlines = [it for it in self.deadlines if not self.is_settled(it.stage)]
+
+    def pass_to(self, moment: int) -> None:
+        """Lets time pass up to a moment: settles relays, then one stage after another whose deadline has come, and relays after each."""
+        if moment < self.moment:
+            raise Refused("PAST_MOMENT")
+        self.moment = moment
+        self.settle_relays(self.own)
+        due = self.next_deadline()
+        while due is not None and due.moment <= moment:
+            self.settle(self.own, due.stage, due.outcome)
+            self.settle_relays(self.own)
+            due = self.next_deadline()
+
+    def refuse(self, lane: int, code: int) -> None:
+        """Nobody runs this lane any more: its ready stages fail with the code."""
+        self.check_lane(lane)
+        self.settle_relays(self.own)
+        while self.ready_in(lane):
+            self.settle(self.own, self.ready_in(lane)[0], ("fault", ("thrown", code), False))
+            self.settle_relays(self.own)
+
+    def cancel_all(self, who: int) -> None:
+        """A caller cancels all stages that are open, and settles relays in its own name."""
+        self.check_caller(who)
+        self.settle_relays(who)
+        for stage in range(self.stages()):
+            if not self.is_settled(stage):
+                self.settle(who, stage, model.CANCELLED)
+                self.settle_relays(who)
+
+    def tell(self, room: int) -> Told:
+        """Tells the first so many stages that were settled, in the order of the events that settled them, and those of one event rising.
+        The host has taken them then."""
+        told = Told(len(self.told), [(stage, self.outcome(stage)) for stage in self.told[:room]])
+        del self.told[:room]
+        return told

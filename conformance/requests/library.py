@@ -1,0 +1,352 @@
+"""The machine of a request, through the library for C, with the methods of `machine.Machine`.
+
+A call that is refused has to leave what it is given as it was. So has each call what lies behind the stages that it tells.
+"""
+import ctypes as c
+import os
+import re
+import sys
+from pathlib import Path
+from typing import Any, Dict, List, Optional, Sequence, Tuple, Union
+
+import histories
+import machine
+from calls import Difference, Opening
+
+sys.path.insert(1, str(Path(__file__).resolve().parents[2] / "clients/python"))
+from cf._library import (CAnswer, CArgs, CHandle, COutcome, CReply, CStage, CTask, CValue, GOT, INT, NIL, NO_FUNCTION,  # noqa: E402
+                         PENDING, STRUCTURES, THROWN, VALUE)
+
+TELLING = ["apply", "next", "follow", "pass_to", "refuse", "cancel_all"]  # calls with a row for told stages
+LONGEST = 64  # row of told stages
+MARK = 0xA5  # what a row is filled with before a call
+CAUSES = {3: "cancelled", 4: "timeout", 5: "badanswer"}
+ANSWERS = ["give", "throw", "link"]
+CLAIMS, FINISHES, TICKS = ["granted", "settled", "taken", "notready"], ["won", "late", "notyours"], ["fired", "past"]
+STAGES = ["pending", "ready", "claimed", "linked", "settled"]
+NOBODY = 2**32 - 1
+
+
+class CSizes(c.Structure):
+    _fields_ = [("room", c.c_uint16), ("lanes", c.c_uint8), ("own", c.c_uint8)]
+
+
+class CTold(c.Structure):
+    _fields_ = [("stage", c.c_uint16), ("outcome", COutcome)]
+
+
+class CApplied(c.Structure):
+    _fields_ = [("reply", CReply), ("told", c.c_size_t)]
+
+
+class CRequestStep(c.Structure):
+    _fields_ = [("who", c.c_uint8), ("lane", c.c_uint8), ("told", c.c_size_t)]
+
+
+class CDeadline(c.Structure):
+    _fields_ = [("stage", c.c_uint16), ("moment", c.c_uint64), ("kind", c.c_uint32), ("value", CValue)]
+
+
+OWN = {"cf_request_sizes": CSizes, "cf_told": CTold, "cf_applied": CApplied, "cf_request_step": CRequestStep, "cf_deadline": CDeadline}
+H, P, U8, U16, U32, U64, SIZE = c.POINTER(CHandle), c.POINTER, c.c_uint8, c.c_uint16, c.c_uint32, c.c_uint64, c.c_size_t
+TOLD = [P(CTold), SIZE]
+CALLS: Dict[str, List[Any]] = {
+    "cf_builder_new": [H, U16, U16],
+    "cf_builder_stage": [H, U32, P(U16), SIZE, U32, P(U16)],
+    "cf_builder_limit": [H, U16, U32, U32, CValue],
+    "cf_build": [H],
+    "cf_ledger_of": [H, U16, P(U64), SIZE, H, P(SIZE)],
+    "cf_ledger_stage": [H, U16, P(CStage)],
+    "cf_ledger_stages": [H, P(U16)],
+    "cf_ledger_words": [H, SIZE, P(U64), SIZE, P(SIZE)],
+    "cf_request_new": [H, P(CSizes), P(U8), SIZE, H],
+    "cf_request_apply": [H, U64, U8, P(CApplied), *TOLD],
+    "cf_request_next": [H, P(CRequestStep), P(CTask), *TOLD],
+    "cf_request_follow": [H, U16, U16, *TOLD, P(SIZE)],
+    "cf_request_deadline": [H, U16, U64, U32, CValue],
+    "cf_request_pass": [H, U64, *TOLD, P(SIZE)],
+    "cf_request_next_deadline": [H, P(CDeadline)],
+    "cf_request_refuse": [H, U8, U32, *TOLD, P(SIZE)],
+    "cf_request_told": [H, *TOLD, P(SIZE)],
+    "cf_request_ready": [H, U8, P(U16)],
+    "cf_request_cancel_all": [H, U8, *TOLD, P(SIZE)],
+}
+LATER = {"cancel_all": "cf_request_cancel_all"}  # calls of a machine that the library may not have yet
+
+
+def load() -> c.CDLL:
+    loaded = c.CDLL(os.environ["CF_LIBRARY"])
+    loaded.cf_layout.restype, loaded.cf_layout.argtypes = SIZE, [c.c_char_p]
+    loaded.cf_code_name.restype, loaded.cf_code_name.argtypes = c.c_char_p, [U32]
+    loaded.cf_free.restype, loaded.cf_free.argtypes = None, [H]
+    for name in [name for name in CALLS if name in LATER.values() and not hasattr(loaded, name)]:
+        del CALLS[name]
+    for name, kinds in CALLS.items():
+        getattr(loaded, name).restype, getattr(loaded, name).argtypes = U32, kinds
+    for name, structure in {**STRUCTURES, **OWN}.items():
+        if loaded.cf_layout(name.encode()) != c.sizeof(structure):
+            raise ImportError(f"{name} has another size than here")
+    return loaded
+
+
+C = load()
+LACKING = [kind for kind, name in LATER.items() if name not in CALLS]
+
+
+def name_of(code: int) -> str:
+    """The name of a code as cf.h has it, without its first part."""
+    said: bytes = C.cf_code_name(code)
+    return re.sub("(?<=[a-z])([A-Z])", r"_\1", said.decode()).upper()
+
+
+NAMES = {code: name_of(code) for code in [*range(1, 256)] if C.cf_code_name(code)}
+NOTHING = next(code for code, name in NAMES.items() if name == "NOTHING")
+
+
+def check(code: int) -> None:
+    if code:
+        raise machine.Refused(NAMES[code])
+
+
+def value_in(value: Optional[int]) -> CValue:
+    return CValue(NIL, 0) if value is None else CValue(INT, value)
+
+
+def value_of(value: CValue) -> Optional[int]:
+    return value.number if value.kind else None
+
+
+def answer_in(answer: machine.Answer) -> CAnswer:
+    kind, content = answer
+    made = CAnswer(kind=ANSWERS.index(kind))
+    if kind == "give":
+        made.value = value_in(content)
+    elif kind == "throw":
+        made.code = content
+    else:
+        made.stage = content
+    return made
+
+
+def outcome_of(outcome: COutcome) -> Optional[machine.Outcome]:
+    if outcome.kind == PENDING:
+        return None
+    if outcome.kind == VALUE:
+        return ("value", value_of(outcome.value))
+    cause = ("thrown", outcome.code) if outcome.kind == THROWN else (CAUSES[outcome.kind],)
+    return ("fault", cause, bool(outcome.wrapped))
+
+
+def args_of(args: CArgs) -> Tuple[Any, ...]:
+    if args.kind == GOT:
+        return ("got", outcome_of(args.outcome))
+    return (["none", "one", "two"][args.kind], value_of(args.first), value_of(args.second))[:args.kind + 1]
+
+
+def reply_of(kind: str, reply: CReply) -> machine.Reply:
+    """The reply to a call of this kind, as model.py has it."""
+    if kind == "claim":
+        return (kind, (CLAIMS[reply.answer], args_of(reply.args)) if reply.answer == 0 else (CLAIMS[reply.answer],))
+    if kind == "finish":
+        return (kind, FINISHES[reply.answer])
+    if kind == "tick":
+        return (kind, (TICKS[reply.answer], reply.number) if reply.answer == 0 else (TICKS[reply.answer],))
+    return (kind, reply.number if reply.answer == 0 else None) if kind == "attach" else ("flag", bool(reply.answer))
+
+
+def stage_of(stage: CStage) -> machine.Stage:
+    kind = STAGES[stage.kind]
+    more = {"linked": (stage.target,), "settled": (outcome_of(stage.outcome),)}.get(kind, ())
+    return (kind, *more), None if stage.who == NOBODY else stage.who
+
+
+def kept_in(ledger: CHandle) -> List[machine.Stage]:
+    """What each stage of a ledger or a request is, and whose claim of it is open."""
+    count, stage, kept = U16(), CStage(), []
+    check(C.cf_ledger_stages(ledger, count))
+    for number in range(count.value):
+        check(C.cf_ledger_stage(ledger, number, stage))
+        kept.append(stage_of(stage))
+    return kept
+
+
+class Library:
+    """A request of the library, and its plan."""
+
+    def __init__(self, opening: Opening) -> None:
+        self.opening, self.plan, self.request = opening, CHandle(), CHandle()
+        self.row, self.total = (CTold * (LONGEST + 1))(), SIZE()
+        self.marked = bytes([MARK]) * c.sizeof(self.row)
+        self.lanes = list(range(opening.of_lanes))
+        try:
+            self.build()
+            self.open()
+        except machine.Refused:
+            self.close()
+            raise
+
+    def build(self) -> None:
+        check(C.cf_builder_new(self.plan, 0, 0))
+        for form, sources, function in self.opening.plan.stages:
+            of = (U16 * len(sources))(*sources)
+            number = NO_FUNCTION if function is None else function
+            check(C.cf_builder_stage(self.plan, histories.FORMS.index(form), of, len(of), number, U16()))
+        for stage, at, outcome in self.opening.plan.limits:
+            check(C.cf_builder_limit(self.plan, stage, at, *limit_in(outcome)))
+        check(C.cf_build(self.plan))
+
+    def open(self) -> None:
+        lanes = (U8 * len(self.opening.lanes))(*self.opening.lanes)
+        sizes = CSizes(self.opening.room, self.opening.of_lanes, self.opening.own)
+        check(C.cf_request_new(self.plan, sizes, lanes, len(lanes), self.request))
+
+    def close(self) -> None:
+        C.cf_free(self.request)
+        C.cf_free(self.plan)
+
+    # What it tells.
+
+    def mark(self, room: int) -> Tuple[Any, int]:
+        """A row for so many told stages, filled with marks. One for none may be null."""
+        c.memset(self.row, MARK, c.sizeof(self.row))
+        c.memset(c.byref(self.total), MARK, c.sizeof(self.total))
+        return self.row if room else None, room
+
+    def told(self, total: int, room: int) -> machine.Told:
+        """What a call has told by the row. Behind that there are marks."""
+        count = min(total, room)
+        end = count * c.sizeof(CTold)
+        if bytes(self.row)[end:] != self.marked[end:]:
+            raise Difference("the row is written behind the stages that are told")
+        return machine.Told(total, [(self.row[k].stage, outcome_of(self.row[k].outcome)) for k in range(count)])
+
+    def checked(self, code: int, *given: Tuple[Any, bytes]) -> None:
+        """Raises why a call is refused, and sees that it has left the row and what else it was given as it was."""
+        if code:
+            left = bytes(self.row) == self.marked and bytes(self.total) == self.marked[:c.sizeof(self.total)]
+            if not left or any(bytes(it) != before for it, before in given):
+                raise Difference(f"a call that is refused for {NAMES[code]} has written something")
+            check(code)
+
+    def tell(self, room: int) -> machine.Told:
+        self.checked(C.cf_request_told(self.request, *self.mark(room), self.total))
+        return self.told(self.total.value, room)
+
+    def words(self) -> List[int]:
+        count = SIZE()
+        check(C.cf_ledger_words(self.request, 0, None, 0, count))
+        words = (U64 * count.value)()
+        check(C.cf_ledger_words(self.request, 0, words, len(words), count))
+        return list(words)
+
+    def kept(self) -> List[machine.Stage]:
+        return kept_in(self.request)
+
+    def kept_by(self, words: Sequence[int]) -> List[machine.Stage]:
+        """What these words leave of a new ledger's stages."""
+        ledger, place = CHandle(), SIZE()
+        check(C.cf_ledger_of(self.plan, self.opening.room, (U64 * len(words))(*words), len(words), ledger, place))
+        kept = kept_in(ledger)
+        C.cf_free(ledger)
+        return kept
+
+    def ready_of_lanes(self) -> List[int]:
+        return [self.ready(lane) for lane in self.lanes]
+
+    def next_deadline(self) -> Optional[machine.Deadline]:
+        told = CDeadline()
+        code = C.cf_request_next_deadline(self.request, told)
+        if code == NOTHING:
+            return None
+        check(code)
+        outcome = ("value", value_of(told.value)) if told.kind else ("fault", ("timeout",), False)
+        return machine.Deadline(told.stage, told.moment, outcome)
+
+    def ready(self, lane: int) -> int:
+        count = U16()
+        check(C.cf_request_ready(self.request, lane, count))
+        return count.value
+
+    # Its calls.
+
+    def call(self, name: str, given: Tuple[Any, ...], room: int) -> Tuple[Any, machine.Told]:
+        """What a call answers, and what is told by it, or else by the call for that."""
+        if name in TELLING:
+            answer, told = getattr(self, name)(room, *given)
+            return answer, told
+        answer = getattr(self, name)(*given)
+        return answer, self.tell(room)
+
+    def apply(self, room: int, event: Union[int, machine.Event], lane: int) -> Tuple[Any, machine.Told]:
+        word, applied = event if isinstance(event, int) else histories.word_of(event), CApplied()
+        before = bytes(applied)
+        self.checked(C.cf_request_apply(self.request, word, lane, applied, *self.mark(room)), (applied, before))
+        return reply_of(histories.event_of(word)[0], applied.reply), self.told(applied.told, room)
+
+    def next(self, room: int, who: int, lane: int, held: Optional[Tuple[int, machine.Answer]]) -> Tuple[Any, machine.Told]:
+        step, task = CRequestStep(who=who, lane=lane), CTask()
+        if held is not None:
+            task = CTask(held=1, stage=held[0], answer=answer_in(held[1]))
+        before = (step, bytes(step)), (task, bytes(task))
+        code = C.cf_request_next(self.request, step, task, *self.mark(room))
+        self.checked(0 if code == NOTHING else code, *before)
+        if bool(task.held) != (code == 0) or (held is None and task.finished):
+            raise Difference("a task doesn't say what its step has done")
+        taken = machine.Taken(task.stage, task.function, args_of(task.args)) if code == 0 else None
+        finished = None if held is None else FINISHES[task.finished]
+        return machine.Next(finished, taken), self.told(step.told, room)
+
+    def follow(self, room: int, relay: int, stage: int) -> Tuple[Any, machine.Told]:
+        self.checked(C.cf_request_follow(self.request, relay, stage, *self.mark(room), self.total))
+        return None, self.told(self.total.value, room)
+
+    def pass_to(self, room: int, moment: int) -> Tuple[Any, machine.Told]:
+        self.checked(C.cf_request_pass(self.request, moment, *self.mark(room), self.total))
+        return None, self.told(self.total.value, room)
+
+    def refuse(self, room: int, lane: int, code: int) -> Tuple[Any, machine.Told]:
+        self.checked(C.cf_request_refuse(self.request, lane, code, *self.mark(room), self.total))
+        return None, self.told(self.total.value, room)
+
+    def deadline(self, deadline: machine.Deadline) -> None:
+        check(C.cf_request_deadline(self.request, deadline.stage, deadline.moment, *limit_in(deadline.outcome)))
+
+    def cancel_all(self, room: int, who: int) -> Tuple[Any, machine.Told]:
+        self.checked(C.cf_request_cancel_all(self.request, who, *self.mark(room), self.total))
+        return None, self.told(self.total.value, room)
+
+    def restart(self) -> None:
+        """The library has no call for this. So it is a new one."""
+        C.cf_free(self.request)
+        self.open()
+
+    def rest(self) -> None:
+        """Does nothing."""
+
+
+def is_pointer(kind: Any) -> bool:
+    return issubclass(kind, c._Pointer)
+
+
+def check_handles() -> int:
+    """Each call of a request refuses a handle of another kind, an empty one, and a null pointer. It answers how many it refused."""
+    plan, count = CHandle(), 0
+    check(C.cf_builder_new(plan, 0, 0))
+    check(C.cf_build(plan))
+    for name, kinds in [(name, kinds) for name, kinds in CALLS.items() if name.startswith("cf_request_") and name != "cf_request_new"]:
+        given = [kind._type_() if is_pointer(kind) else kind() for kind in kinds]
+        wanted: List[Tuple[int, Any, str]] = [(0, plan, "WRONG_KIND"), (0, CHandle(), "EMPTY")]
+        # a row for no stages may be null
+        wanted += [(place, None, "NULL") for place, kind in enumerate(kinds) if is_pointer(kind) and kind is not TOLD[0]]
+        for place, pointer, why in wanted:
+            told = NAMES[getattr(C, name)(*given[:place], pointer, *given[place + 1:])]
+            if told != why:
+                raise Difference(f"{name} without what it needs at {place}: it answers {told}, and not {why}")
+        count += len(wanted)
+    C.cf_free(plan)
+    return count
+
+
+def limit_in(outcome: machine.Outcome) -> Tuple[int, CValue]:
+    """What a limit or a deadline does."""
+    return (1, value_in(outcome[1])) if outcome[0] == "value" else (0, value_in(None))

@@ -1,0 +1,204 @@
+"""Plain machines, each with one mistake. The random hosts have to tell each of them from the library's machine."""
+from typing import List, Optional, Tuple, Union
+
+import model
+from machine import Answer, Deadline, Event, Follow, Machine, Next, Outcome, Reply, Taken, Told
+
+
+class TheHighestIsTaken(Machine):
+    def ready_in(self, lane: int) -> List[int]:
+        return super().ready_in(lane)[::-1]
+
+
+class AnyLaneIsTaken(Machine):
+    def take(self, who: int, lane: int) -> Optional[Taken]:
+        return super().take(who, lane) or super().take(who, 0)
+
+
+class TheLaneIsLost(Machine):
+    def apply(self, event: Union[int, Event], lane: int) -> Reply:
+        reply = super().apply(event, lane)
+        if reply[0] == "attach":
+            self.lanes[-1] = 0
+        return reply
+
+
+class RelaysRestBehindAnEvent(Machine):
+    def apply(self, event: Union[int, Event], lane: int) -> Reply:
+        follows, self.follows = self.follows, []
+        try:
+            return super().apply(event, lane)
+        finally:
+            self.follows = follows
+
+
+class RelaysRestBeforeAClaim(Machine):
+    def next(self, who: int, lane: int, held: Optional[Tuple[int, Answer]]) -> Next:
+        follows, self.follows = self.follows, []
+        try:
+            return super().next(who, lane, held)
+        finally:
+            self.follows = follows
+
+
+class RelaysComeAfterDeadlines(Machine):
+    def pass_to(self, moment: int) -> None:
+        follows, self.follows = self.follows, []
+        try:
+            super().pass_to(moment)
+        finally:
+            self.follows = follows
+        self.settle_relays(self.own)
+
+
+class TheLastRelayComesFirst(Machine):
+    def follow(self, relay: int, stage: int) -> None:
+        super().follow(relay, stage)
+        self.follows.insert(0, self.follows.pop())
+
+
+class RelaysRestWhenTheyAreSet(Machine):
+    def follow(self, relay: int, stage: int) -> None:
+        self.check_stages(relay, stage)
+        self.follows.append(Follow(relay, stage))
+
+
+class ARelayFollowsOneStage(Machine):
+    def follow(self, relay: int, stage: int) -> None:
+        self.check_stages(relay, stage)
+        self.follows = [it for it in self.follows if it.relay != relay]
+        super().follow(relay, stage)
+
+
+class ACancellationIsAFailure(Machine):
+    def settle(self, who: int, stage: int, outcome: Outcome) -> None:
+        is_cancelled = outcome[0] == "fault" and outcome[1] == ("cancelled",)
+        super().settle(who, stage, ("fault", ("thrown", 0), False) if is_cancelled else outcome)
+
+
+class AnotherSettles(Machine):
+    def settle(self, who: int, stage: int, outcome: Outcome) -> None:
+        super().settle(1, stage, outcome)
+
+
+class AMomentLate(Machine):
+    def pass_to(self, moment: int) -> None:
+        deadlines = self.deadlines
+        self.deadlines = [it for it in deadlines if it.moment != moment]
+        try:
+            super().pass_to(moment)
+        finally:
+            self.deadlines = deadlines
+
+
+class TimeGoesBack(Machine):
+    def pass_to(self, moment: int) -> None:
+        self.moment = min(self.moment, moment)
+        super().pass_to(moment)
+
+
+class TheLastOfEqualMoments(Machine):
+    def next_deadline(self) -> Optional[Deadline]:
+        self.deadlines.reverse()
+        try:
+            return super().next_deadline()
+        finally:
+            self.deadlines.reverse()
+
+
+class AStageHasOneDeadline(Machine):
+    def deadline(self, deadline: Deadline) -> None:
+        self.check_stages(deadline.stage)
+        self.deadlines = [it for it in self.deadlines if it.stage != deadline.stage]
+        super().deadline(deadline)
+
+
+class ToldTwice(Machine):
+    def tell(self, room: int) -> Told:
+        told = super().tell(room)
+        self.told = [stage for stage, _ in told.taken[-1:]] + self.told
+        return told
+
+
+class ToldRising(Machine):
+    def tell(self, room: int) -> Told:
+        self.told.sort()
+        return super().tell(room)
+
+
+class AnotherFinishes(Machine):
+    def next(self, who: int, lane: int, held: Optional[Tuple[int, Answer]]) -> Next:
+        self.check_caller(who)
+        if held is not None and held[0] < self.stages():
+            who = self.state.claims[held[0]] if self.state.claims[held[0]] is not None else who
+        return super().next(who, lane, held)
+
+
+class AnotherCodeIsThrown(Machine):
+    def refuse(self, lane: int, code: int) -> None:
+        super().refuse(lane, code // 2)
+
+
+class WhatARefusalMakesReadyStays(Machine):
+    def refuse(self, lane: int, code: int) -> None:
+        self.check_lane(lane)
+        self.settle_relays(self.own)
+        for stage in self.ready_in(lane):
+            if not self.is_settled(stage):
+                self.settle(self.own, stage, ("fault", ("thrown", code), False))
+                self.settle_relays(self.own)
+
+
+class RelaysRestBehindARefusal(Machine):
+    def refuse(self, lane: int, code: int) -> None:
+        follows, self.follows = self.follows, []
+        try:
+            super().refuse(lane, code)
+        finally:
+            self.follows = follows
+        self.settle_relays(self.own)
+
+
+class TheOwnCallerCancels(Machine):
+    def cancel_all(self, who: int) -> None:
+        super().cancel_all(self.own if who < 64 else who)
+
+
+class TheHighestIsCancelledFirst(Machine):
+    def cancel_all(self, who: int) -> None:
+        self.check_caller(who)
+        for stage in reversed(range(self.stages())):
+            if not self.is_settled(stage):
+                self.settle(who, stage, model.CANCELLED)
+                self.settle_relays(who)
+
+
+class DeadlinesOutliveAStart(Machine):
+    def restart(self) -> None:
+        kept = getattr(self, "deadlines", [])
+        super().restart()
+        self.deadlines = [it for it in kept if it.stage < self.stages()]
+
+
+class RelaysOutliveAStart(Machine):
+    def restart(self) -> None:
+        kept = getattr(self, "follows", [])
+        super().restart()
+        self.follows = [it for it in kept if max(it) < self.stages()]
+
+
+class TheMomentOutlivesAStart(Machine):
+    def restart(self) -> None:
+        kept = getattr(self, "moment", 0)
+        super().restart()
+        self.moment = kept
+
+
+class LanesOutliveAStart(Machine):
+    def restart(self) -> None:
+        kept = getattr(self, "lanes", self.planned)
+        super().restart()
+        self.lanes = kept
+
+
+MISTAKES = [it for it in list(globals().values()) if isinstance(it, type) and issubclass(it, Machine) and it is not Machine]
