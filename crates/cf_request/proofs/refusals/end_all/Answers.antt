@@ -1,10 +1,10 @@
 use Rattle.std.proofs.Common.{arith}
 use Rattle.cf_ledger.specs.Ledgers.{state_of}
-use Rattle.cf_request.specs.Refusals.{IsRefused}
+use Rattle.cf_request.specs.Refusals.{IsEnded}
 use Rattle.cf_request.specs.Relays.{IsRelayOr}
 use Rattle.cf_request.proofs.Memory.{spends_settle, stage_waits, stages_fewer}
 use Rattle.cf_request.proofs.Turns.{dues_more, follows_kept, keeps_settle, lanes_kept}
-use Rattle.cf_request.proofs.refusals.refuse.Goals as goal
+use Rattle.cf_request.proofs.refusals.end_all.Goals as goal
 
 pub settle-requires-clause-memory : goal.settle-requires-clause-memory
 settle-requires-clause-memory c =
@@ -25,7 +25,7 @@ loop-due-preserved c =
     let one = spends_settle c.args.who d b e c.settle.ensures in
     let enough = c.loop-due.invariant.memory in
     record {
-      settles = dues_more (IsRelayOr c.args.follows.now (IsRefused c.args.lanes.now c.args.lane c.args.code)) c.args.who c.args.teller.now b e d c.loop-due.invariant.settles c.in-Some.ensures.is_open c.in-Some.ensures.due c.settle.ensures;
+      settles = dues_more (IsRelayOr c.args.follows.now (IsEnded c.args.lanes.now c.args.ending)) c.args.who c.args.teller.now b e d c.loop-due.invariant.settles c.in-Some.ensures.is_open c.in-Some.ensures.due c.settle.ensures;
       relays = follows_kept b e c.args.follows.now keeps c.loop-due.invariant.relays;
       lanes = lanes_kept b e c.args.lanes.now keeps c.loop-due.invariant.lanes;
       memory = omega (arith, fewer, one, enough);
