@@ -1,5 +1,5 @@
 -- The ready stages of each lane, as sets.
-use Rattle.std.proofs.Common.{◌≡◌, ◌≢◌, ℕ, zero, suc, ◌+◌, ◌<◌, ◌≤◌, Bool, true, false, cond, Option, Some, None, List, [], ◌∷◌, ◌++◌, All, Contains, length, length-append, get_or, drop, take, ◌-◌, set, nat_lt, refl, ap, sym, ◌∙◌, arith, subst, inl, inr, ◌⊎◌}
+use Rattle.std.proofs.Common.{◌≡◌, ◌≢◌, ℕ, zero, suc, ◌+◌, ◌<◌, ◌≤◌, Bool, true, false, cond, Option, Some, None, List, [], ◌∷◌, ◌++◌, Contains, length, length-append, get_or, drop, take, ◌-◌, set, nat_lt, refl, ap, sym, ◌∙◌, arith, subst, inl, inr, ◌⊎◌}
 use Rattle.std.specs.Prelude.{◌==◌, ◌&&◌, IfNone, IfSome, not, replicate, slice_get}
 use Rattle.std.specs.Bool.{beq}
 use Rattle.std.specs.List.{position, position_or_len, sum_by}

@@ -17,7 +17,6 @@ use Rattle.cf_model.specs.States.{State, after, is_ready, outcome_at, outcome_in
 use Rattle.cf_model.proofs.Closed.{reached_length}
 use Rattle.cf_model.proofs.Moves.{new_states-settled}
 use Rattle.cf_model.proofs.StateLemmas.{after-unsettled}
-use Rattle.cf_event.specs.Words.{word_of}
 use Rattle.cf_ledger.specs.Ledgers.{Ledger, state_of}
 use Rattle.cf_request.specs.Deadlines.{AreSet}
 use Rattle.cf_request.specs.Ready.{Lanes}

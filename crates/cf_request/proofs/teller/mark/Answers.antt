@@ -1,8 +1,6 @@
-use Rattle.std.proofs.Common.{◌≡◌, ◌+◌, ◌∙◌, Contains, ap, arith, drop, get_or, length}
-use Rattle.cf_model.specs.Graphs.{stage_in}
+use Rattle.std.proofs.Common.{◌+◌, ◌∙◌, Contains, ap, arith, drop, get_or}
 use Rattle.cf_model.specs.States.{is_ready}
 use Rattle.cf_ledger.specs.Ledgers.{state_of}
-use Rattle.cf_request.specs.Ready.{AreFitBut, ReadySets}
 use Rattle.cf_request.proofs.Sets.{Marks, left_next, marks_more}
 use Rattle.cf_request.proofs.teller.mark.Goals as goal
 

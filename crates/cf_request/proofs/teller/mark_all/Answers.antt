@@ -1,4 +1,4 @@
-use Rattle.std.proofs.Common.{◌≡◌, ◌+◌, ◌<◌, ◌≤◌, ◌∙◌, ap, arith}
+use Rattle.std.proofs.Common.{◌+◌, ◌<◌, ◌≤◌, ◌∙◌, ap, arith}
 use Rattle.cf_model.specs.States.{is_ready}
 use Rattle.cf_ledger.specs.Ledgers.{state_of}
 use Rattle.cf_request.proofs.Sets.{Marks, marks_more}
