@@ -4,11 +4,13 @@
 //! it and attaches a stage to it. Both look at what came of it, and the desk is closed. `take_turns` promises that there
 //! was one history. The promise is `ToldOneHistory` of `cf_desk`: the product's own statement, `IsOneHistory`, of a closed
 //! desk. It follows from the contracts of the calls that are made, and from nothing else. `headline` promises what closing
-//! any desk gives, `running` what a run of plain work ends as, and `racing` what a race leaves.
+//! any desk gives, `running` what a run of plain work ends as, and `racing` what a race leaves. `hosting` runs a request
+//! over a machine, for threads, clocks and waiters of any kind.
 #![tactic(auto)]
 
 mod fault;
 pub mod headline;
+pub mod hosting;
 pub mod racing;
 pub mod running;
 

@@ -5,5 +5,6 @@ pub mod Sets
 pub mod Turns
 pub mod Moments
 pub mod Memory
-pub mod Takings
+pub mod Later
+pub mod Rows
 pub mod Machines

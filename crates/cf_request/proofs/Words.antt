@@ -35,7 +35,7 @@ event_told e old new reply is isnt all h lanes =
     let same : h.does.event ≡ e = (let read = h.does.read in cc) in
     let now = ap (λ (s : State). length s.plan.stages) (next_is old.ledger new.ledger (word_of e) reply h.does) in
     let count = ap (λ (d : Event). length ((answered (state_of old.ledger) d).1.plan.stages)) same ∙ same_count e (state_of old.ledger) isnt in
-    record { tells = h; answered = h.does.told ∙ ap (answered (state_of old.ledger)) same; lanes = lanes ∙ same_lanes (length (state_of new.ledger).plan.stages) 0 old.lanes (omega (arith, all, now, count)) }
+    record { read = is; tells = h; answered = h.does.told ∙ ap (answered (state_of old.ledger)) same; lanes = lanes ∙ same_lanes (length (state_of new.ledger).plan.stages) 0 old.lanes (omega (arith, all, now, count)) }
 
 one_more : (room : ℕ) (s : State) (new : PlannedStage) → length ((attached_by room s new).1.plan.stages) ≤ length s.plan.stages + 1
 one_more zero s new = omega arith

@@ -6,3 +6,4 @@ pub mod Deadlines
 pub mod Lanes
 pub mod Refusals
 pub mod Machines
+pub mod Rows

@@ -1,11 +1,12 @@
 -- Which stages were settled, and told once.
-use Rattle.std.specs.Prelude.{◌≡◌, ◌≢◌, ◌⊎◌, ℕ, ◌+◌, ◌<◌, ◌≤◌, Bool, true, false, List, [], ◌∷◌, ◌++◌, All, Contains, drop, is_some, length, max, take}
+use Rattle.std.specs.Prelude.{◌≡◌, ◌≢◌, ℕ, ◌+◌, ◌<◌, ◌≤◌, Bool, true, false, Some, List, [], ◌∷◌, ◌++◌, All, Contains, is_some, length, max}
 use Rattle.cf_model.specs.declared.events.Event.{Event}
 use Rattle.cf_model.specs.declared.events.Reply.{Reply}
 use Rattle.cf_model.specs.declared.stage.Stage.{Stage}
 use Rattle.cf_model.specs.Events.{answered}
 use Rattle.cf_model.specs.Graphs.{IsClimbing}
 use Rattle.cf_model.specs.States.{State, outcome_in, start}
+use Rattle.cf_event.specs.Decoding.{event_of}
 use Rattle.cf_event.specs.Words.{word_of}
 use Rattle.cf_ledger.specs.Ledgers.{Does, Ledger, state_of}
 use Rattle.cf_request.specs.Ready.{Lanes}
@@ -65,8 +66,9 @@ pub record Tells (word : ℕ) (old : Teller) (reply : Reply) (new : Teller) : Ty
   pub told : new.told ≡ old.told ++ fresh
   pub taken : new.taken ≡ old.taken
 
--- an event that attaches nothing is done by its word
+-- an event that attaches nothing is done by its word, which is read as this event
 pub record TellsEvent (event : Event) (old : Teller) (reply : Reply) (new : Teller) : Type 0 where
+  pub read : event_of (word_of event) ≡ Some event
   pub tells : Tells (word_of event) old reply new
   pub answered : (reply, state_of new.ledger) ≡ answered (state_of old.ledger) event
   pub lanes : new.lanes ≡ old.lanes
@@ -88,34 +90,3 @@ pub record AreSettledBelow (k : ℕ) (stages : List Stage) (xs : List ℕ) : Typ
   pub below : All (λ i. i < k) xs
   pub settled : All (λ i. is_settled_in stages i ≡ true) xs
   pub all : (i : ℕ) → i < k → is_settled_in stages i ≡ true → Contains xs i
-
--- ---- rows of calls
-
--- one call and what it gave: a word, which gives nothing, or the first so many of what is told are taken
-abbrev pub IsCall : Teller → List ℕ → Teller → Type 0
-IsCall old out new =
-    ((word : ℕ) × (reply : Reply) × (out ≡ []) × Tells word old reply new) ⊎
-    ((k : ℕ) × (out ≡ take k old.told) × (new.ledger ≡ old.ledger) × (new.taken ≡ old.taken ++ out) × (new.told ≡ drop k old.told))
-
-abbrev pub AreCalls : Teller → List (List ℕ) → Teller → Type 0
-AreCalls old [] new = new ≡ old
-AreCalls old (out ∷ outs) new = (between : Teller) × IsCall old out between × AreCalls between outs new
-
-abbrev pub joined : List (List ℕ) → List ℕ
-joined [] = []
-joined (out ∷ outs) = out ++ joined outs
-
--- as a request is opened
-pub record IsOpened (t : Teller) : Type 0 where
-  pub events : t.ledger.events ≡ []
-  pub taken : t.taken ≡ []
-  pub told : AreFresh [] (start t.ledger.plan).stages t.told
-
--- all takings one behind the other, and what is told and not yet taken, are each settled stage once, in the order of the events
-pub record IsToldOnce (t : Teller) (outs : List (List ℕ)) : Type 0 where
-  pub once : IsOnce (state_of t.ledger) (joined outs ++ t.told)
-  pub order : AreSettled t.ledger (joined outs ++ t.told)
-
--- whatever is called
-abbrev pub TellsOnce : Type 0
-TellsOnce = (old new : Teller) (outs : List (List ℕ)) → IsOpened old → AreCalls old outs new → IsToldOnce new outs

@@ -1,8 +1,33 @@
-//! Laws of machines: the contract of each function is the statement, and its body is empty.
-ghost use Rattle.cf_request.specs.Telling.{TellsOnce};
+//! Laws of machines: the contract of each function is the statement, and its body is empty. Each says what holds after
+//! any row of calls, by any callers, in any order.
+ghost use Rattle.cf_request.specs.Rows.{AddsBehind, ComesToAnEnd, RunsOnce, TellsOnce, WordsTellAll};
 
-/// Whatever is called, all that was taken, one taking behind the other, and then what is told and not yet taken, are
-/// each settled stage once, in the order of the events.
+/// All that was taken, one taking behind the other, and then what is told and not yet taken, are each settled stage
+/// once, in the order of the events.
 pub fn each_settled_stage_is_told_once()
     ensures { TellsOnce }
+{}
+
+/// The stages that `next` told are all different. The claim of each stands among the words, and was granted there to
+/// the caller that was told it, with the arguments that it was told.
+pub fn each_stage_is_run_once()
+    ensures { RunsOnce }
+{}
+
+/// Each stage that `next` tells leaves fewer that may be claimed, now or later, and no call makes them more. So a host
+/// that goes on asking comes to an end.
+pub fn running_comes_to_an_end()
+    ensures { ComesToAnEnd }
+{}
+
+/// There are more events behind those of before, each of which is taken as those before it leave the graph; and what
+/// was taken stands behind what was taken before.
+pub fn calls_add_behind()
+    ensures { AddsBehind }
+{}
+
+/// From its opening on, a machine's words give its events, and a ledger of the same plan does them all again, unless
+/// memory is wanting. So that ledger is in the machine's states.
+pub fn words_tell_all()
+    ensures { WordsTellAll }
 {}

@@ -3,10 +3,11 @@ ghost use Rattle.std.specs.Prelude.{◌≡◌, ◌<◌, ◌≤◌, ◌++◌, [],
 ghost use Rattle.cf_forms.specs.Plans.{has_place, with_room};
 ghost use Rattle.cf_model.specs.States.{start};
 ghost use Rattle.cf_request.specs.Deadlines.{AreInOrder, Forgets, IsNextOpen, NoneOpen};
-ghost use Rattle.cf_request.specs.Lanes.{ready_below};
+ghost use Rattle.cf_request.specs.Lanes.{NoneReadyIn, ready_below};
 ghost use Rattle.cf_request.specs.Ready.{IsLaneCount};
 ghost use Rattle.cf_request.specs.Machines.{AppliesWord, CancelsAll, GoesOn, IsNoCancel, IsNoDeadline, IsNoFollow, IsNoNext, IsNoPass, IsNoWord, OnlyFinds, Passes, Refuses, SetsDeadline, SetsFollow, free_in, open_in, state_in};
 ghost use Rattle.cf_request.specs.Relays.{NoneBehind};
+ghost use Rattle.cf_request.specs.Rows.{unclaimed};
 ghost use Rattle.cf_request.specs.Telling.{AreFresh, AreSettled, IsOnce};
 
 use crate::deadlines::{Deadline, next_open, pass, set};
@@ -120,11 +121,16 @@ impl Machine {
     }
 
     /// What a caller does next: it finishes what it holds, if it holds a stage. Then the relays whose stages are
-    /// settled are settled, and it claims the lowest ready stage of its lane, if there is one. It is refused for the
-    /// first of: memory for all of that, its caller's number, the stage that is held, its claim.
+    /// settled are settled, and it claims the lowest ready stage of its lane, if there is one. If it claims none, none
+    /// is ready; if it claims one, fewer stages may be claimed, now or later. It is refused for the first of: memory
+    /// for all of that, its caller's number, the stage that is held, its claim.
     pub fn next(&mut self, who: u8, lane: u8, held: Option<Held>) -> Result<Next, StepFault>
         requires { lane < self.old.teller.lanes.count }
         ensures done { IfOk result (λ next. GoesOn who lane held self.old next self.new) }
+        ensures none { IfOk result (λ next. IfNone next.taken
+            (NoneReadyIn (state_in self.new) self.new.teller.lanes.of lane (length (state_in self.new).plan.stages))) }
+        ensures fewer { IfOk result (λ next. IfSome next.taken (λ t.
+            unclaimed (state_in self.new) < unclaimed (state_in self.old))) }
         ensures refused { OnErr result (OnlyFinds self.old self.new) }
         ensures why { IfErr result (λ fault. IsNoNext who held self.old fault) }
     {

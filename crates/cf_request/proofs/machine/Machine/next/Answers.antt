@@ -7,6 +7,7 @@ use Rattle.cf_request.specs.Telling.{Teller, with_memory}
 use Rattle.cf_request.specs.declared.relays.Follow.{Follow}
 use Rattle.cf_request.proofs.Machines.{caught_up, keeps_held, keeps_takes, kept_by, kept_dues, kept_finish, none_takes}
 use Rattle.cf_request.proofs.Memory.{few_relays, spends_held}
+use Rattle.cf_request.proofs.Rows.{fewer_left}
 use Rattle.cf_request.proofs.Turns.{keeps_dues, keeps_memory, lane_kept}
 use Rattle.cf_request.proofs.machine.Machine.next.Goals as goal
 
@@ -75,3 +76,6 @@ returns-clause-done c =
       takes = c.take-taken.ensures;
       same = refl;
     })
+
+pub returns-clause-fewer : goal.returns-clause-fewer
+returns-clause-fewer c = fewer_left _ _ _ _ _ _ (returns-clause-done c)
