@@ -1,5 +1,5 @@
 -- What a machine keeps.
-use Rattle.std.proofs.Common.{◌≡◌, ℕ, zero, suc, ◌<◌, true, Option, Some, None, List, [], ◌∷◌, ◌++◌, length, refl, ap, set, sym, ◌∙◌, subst}
+use Rattle.std.proofs.Common.{◌≡◌, ℕ, zero, suc, ◌<◌, ◌≤◌, true, Option, Some, None, List, [], ◌∷◌, ◌++◌, length, refl, ap, set, sym, ◌∙◌, subst}
 use Rattle.std.specs.Prelude.{is_some, slice_get, unwrap_or}
 use Rattle.std.proofs.lemmas.List.Elements.{All-push, All-weaker}
 use Rattle.cf_forms.specs.declared.forms.Args.{Args}
@@ -17,9 +17,11 @@ use Rattle.cf_ledger.specs.declared.step.Finish.{Finish}
 use Rattle.cf_ledger.specs.declared.step.Held.{Held}
 use Rattle.cf_ledger.specs.declared.step.Taken.{Taken}
 use Rattle.cf_request.specs.Deadlines.{Forgets, Sets}
-use Rattle.cf_request.specs.Lanes.{FinishesHeld, TakesIn}
-use Rattle.cf_request.specs.Machines.{CatchesUp, IsMachine}
-use Rattle.cf_request.specs.Relays.{IsRelayDue, NoneBehind}
+use Rattle.cf_request.specs.Lanes.{FinishesHeld, NoneReadyIn, TakesIn}
+use Rattle.cf_request.specs.Machines.{CancelsAll, CatchesUp, IsMachine, Machine, Refuses, open_in}
+use Rattle.cf_request.specs.Ready.{Lanes}
+use Rattle.cf_request.specs.Refusals.{AllSettled, IsCancelled, IsRefused}
+use Rattle.cf_request.specs.Relays.{IsRelayDue, IsRelayOr, NoneBehind}
 use Rattle.cf_request.specs.Settling.{SettlesDue}
 use Rattle.cf_request.specs.Telling.{Teller, Tells, TellsEvent, is_settled_in, with_memory}
 use Rattle.cf_request.specs.declared.deadlines.Deadline.{Deadline}
@@ -143,4 +145,28 @@ kept_left t follows old new own h forgets = record {
   relays = h.relays;
   limits = set_left (state_of t.ledger) (state_of t.ledger).stages old new forgets h.limits;
   caller = h.caller;
+}
+
+-- ---- stages that end at once
+
+pub refuses_is : (m : Machine) (b e : Teller) (follows : List Follow) (lane code words : ℕ) → follows ≡ m.follows → words ≡ open_in m → b ≡ with_memory words m.teller → NoneBehind follows (state_of e.ledger).stages →
+    NoneReadyIn (state_of e.ledger) e.lanes.of lane (length (state_of e.ledger).plan.stages) → SettlesDue (IsRelayOr follows (IsRefused b.lanes.of lane code)) m.own b e → Refuses lane code m (record m { teller = e })
+refuses_is m b e follows lane code words rows enough found behind none settles =
+    let there = found ∙ ap (λ (n : ℕ). with_memory n m.teller) enough in
+    let lanes = settles.lanes ∙ ap (λ (t : Teller). t.lanes) there in
+    record {
+      settles = subst (λ (t : Teller). SettlesDue (IsRelayOr m.follows (IsRefused t.lanes.of lane code)) m.own t e) there
+          (subst (λ (l : List Follow). SettlesDue (IsRelayOr l (IsRefused b.lanes.of lane code)) m.own b e) rows settles);
+      none = (subst (λ (l : List Follow). NoneBehind l (state_of e.ledger).stages) rows behind, subst (λ (l : Lanes). NoneReadyIn (state_of e.ledger) l.of lane (length (state_of e.ledger).plan.stages)) lanes none);
+      same = refl;
+    }
+
+pub cancels_is : (m : Machine) (b e : Teller) (follows : List Follow) (who words : ℕ) → follows ≡ m.follows → words ≡ open_in m → b ≡ with_memory words m.teller → who ≤ 63 → AllSettled (state_of e.ledger) →
+    SettlesDue (IsRelayOr follows IsCancelled) who b e → CancelsAll who m (record m { teller = e })
+cancels_is m b e follows who words rows enough found caller none settles = record {
+  caller = caller;
+  settles = subst (λ (t : Teller). SettlesDue (IsRelayOr m.follows IsCancelled) who t e) (found ∙ ap (λ (n : ℕ). with_memory n m.teller) enough)
+      (subst (λ (l : List Follow). SettlesDue (IsRelayOr l IsCancelled) who b e) rows settles);
+  none = none;
+  same = refl;
 }

@@ -21,10 +21,10 @@ use Rattle.cf_request.specs.Deadlines.{IsOverdue}
 use Rattle.cf_request.specs.Lanes.{FinishesHeld, TakesIn}
 use Rattle.cf_request.specs.Machines.{GoesOn, Machine, open_in, state_in}
 use Rattle.cf_request.specs.Ready.{Lanes}
-use Rattle.cf_request.specs.Refusals.{IsRefused}
+use Rattle.cf_request.specs.Refusals.{IsCancelled, IsRefused}
 use Rattle.cf_request.specs.Relays.{IsRelayDue, IsRelayOr}
 use Rattle.cf_request.specs.Rows.{AddsBehind, AreCalls, ComesToAnEnd, IsCall, IsLater, IsOpened, Job, Out, RunsOnce, TellsOnce, Took, WasGranted, WordsTellAll, all_jobs, all_told, job_of, nothing, stage_of, unclaimed}
-use Rattle.cf_request.specs.Rows.IsCall.{applies, goes_on, sets_follow, sets_deadline, forgets, passes, refuses, took, is_refused}
+use Rattle.cf_request.specs.Rows.IsCall.{applies, goes_on, sets_follow, sets_deadline, forgets, passes, refuses, cancels_all, took, is_refused}
 use Rattle.cf_request.specs.Settling.{AreSettledInTurn, SettlesDue, settle_event}
 use Rattle.cf_request.specs.Telling.{AreFresh, AreSettled, AreSettledBy, IsApart, Teller, Tells, TellsEvent, with_memory}
 use Rattle.cf_request.specs.declared.machine.Next.{Next}
@@ -204,6 +204,9 @@ effect old new out (passes moment none h) =
 effect old new out (refuses lane code none h) =
     let found = with_memory (open_in old) old.teller in
     quiet old.teller new.teller out none (settles (IsRelayOr old.follows (IsRefused old.teller.lanes.of lane code)) old.own found.ledger.free old.teller new.teller h.settles)
+effect old new out (cancels_all who none h) =
+    let found = with_memory (open_in old) old.teller in
+    quiet old.teller new.teller out none (settles (IsRelayOr old.follows IsCancelled) who found.ledger.free old.teller new.teller h.settles)
 effect old new out (took count is h) = subst (λ (o : Out). Effect old.teller o new.teller) (sym is) (takes_told count old new h)
 effect old new out (is_refused none h) =
     quiet old.teller new.teller out none (subst (λ (m : Machine). Onward old.teller m.teller) (sym h.same) (onward_free old.teller new.teller.ledger.free))

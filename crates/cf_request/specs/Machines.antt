@@ -7,12 +7,12 @@ use Rattle.cf_ledger.specs.Steps.{IsNoStep}
 use Rattle.cf_ledger.specs.declared.faults.LedgerFault.{LedgerFault}
 use Rattle.cf_ledger.specs.declared.faults.LedgerFault.TheVariants.{NoMemory as NoMemoryForIt}
 use Rattle.cf_ledger.specs.declared.faults.StepFault.{StepFault}
-use Rattle.cf_ledger.specs.declared.faults.StepFault.TheVariants.{NoMemory as NoMemoryForStep}
+use Rattle.cf_ledger.specs.declared.faults.StepFault.TheVariants.{NoMemory as NoMemoryForStep, NoCaller, NoStage as NoStageForStep, NotHeld}
 use Rattle.cf_ledger.specs.declared.step.Held.{Held}
 use Rattle.cf_request.specs.Deadlines.{AreSet, Forgets, IsOverdue, NoneLeft, Sets}
 use Rattle.cf_request.specs.Lanes.{FinishesHeld, TakesIn}
 use Rattle.cf_request.specs.Ready.{with_lane}
-use Rattle.cf_request.specs.Refusals.{IsRefused, NoneToRefuse, open_below}
+use Rattle.cf_request.specs.Refusals.{AllSettled, IsCancelled, IsRefused, NoneToRefuse, open_below}
 use Rattle.cf_request.specs.Relays.{AreThere, IsRelayDue, IsRelayOr, NoneBehind}
 use Rattle.cf_request.specs.Settling.{SettlesDue}
 use Rattle.cf_request.specs.Telling.{Teller, Tells, with_memory}
@@ -128,7 +128,7 @@ IsNoPass moment m NoMemory = free_in m < length m.follows + length m.deadlines
 IsNoPass moment m NoStage = ⊥
 IsNoPass moment m Past = moment < m.moment
 
--- ---- lanes that nobody runs
+-- ---- stages that end at once
 
 -- how many stages are open
 abbrev pub open_in : Machine → ℕ
@@ -139,3 +139,17 @@ pub record Refuses (lane code : ℕ) (old new : Machine) : Type 0 where
   pub settles : SettlesDue (IsRelayOr old.follows (IsRefused old.teller.lanes.of lane code)) old.own (with_memory (open_in old) old.teller) new.teller
   pub none : NoneToRefuse old.follows old.teller.lanes.of lane (state_in new)
   pub same : new ≡ record old { teller = new.teller }
+
+-- all open stages are cancelled by a caller, and relays before them are settled in its name
+pub record CancelsAll (who : ℕ) (old new : Machine) : Type 0 where
+  pub caller : who ≤ 63
+  pub settles : SettlesDue (IsRelayOr old.follows IsCancelled) who (with_memory (open_in old) old.teller) new.teller
+  pub none : AllSettled (state_in new)
+  pub same : new ≡ record old { teller = new.teller }
+
+-- why nothing is cancelled: too little memory was found before, or else there is no such caller
+abbrev pub IsNoCancel : ℕ → Machine → StepFault → Type 0
+IsNoCancel who m NoMemoryForStep = free_in m < open_in m
+IsNoCancel who m NoCaller = 63 < who
+IsNoCancel who m NoStageForStep = ⊥
+IsNoCancel who m NotHeld = ⊥

@@ -16,7 +16,7 @@ use Rattle.cf_ledger.specs.declared.faults.LedgerFault.{LedgerFault}
 use Rattle.cf_ledger.specs.declared.faults.LedgerFault.TheVariants.{NoMemory}
 use Rattle.cf_ledger.specs.declared.step.Held.{Held}
 use Rattle.cf_ledger.specs.declared.step.Taken.{Taken}
-use Rattle.cf_request.specs.Machines.{AppliesWord, GoesOn, Machine, OnlyFinds, Passes, Refuses, SetsDeadline, SetsFollow, state_in}
+use Rattle.cf_request.specs.Machines.{AppliesWord, CancelsAll, GoesOn, Machine, OnlyFinds, Passes, Refuses, SetsDeadline, SetsFollow, state_in}
 use Rattle.cf_request.specs.Telling.{AreFresh, AreSettled, IsApart, IsOnce}
 use Rattle.cf_request.specs.declared.deadlines.Deadline.{Deadline}
 use Rattle.cf_request.specs.declared.machine.Next.{Next}
@@ -56,6 +56,7 @@ pub data IsCall (old : Machine) (out : Out) (new : Machine) : Type 0 where
   forgets : out ≡ nothing → new ≡ record old { deadlines = new.deadlines } → IsCall old out new
   passes : (moment : ℕ) → out ≡ nothing → Passes moment old new → IsCall old out new
   refuses : (lane code : ℕ) → out ≡ nothing → Refuses lane code old new → IsCall old out new
+  cancels_all : (who : ℕ) → out ≡ nothing → CancelsAll who old new → IsCall old out new
   took : (count : ℕ) → out ≡ (record { jobs = []; told = take count old.teller.told }) → Took count old new → IsCall old out new
   is_refused : out ≡ nothing → OnlyFinds old new → IsCall old out new
 

@@ -10,8 +10,9 @@
 //! It is made of layers. A `Teller` is a ledger that also keeps a row of all settled stages, in the order of the
 //! events that settled them: the host has taken the front of it, and what stands behind is told. It also keeps for each
 //! lane the set of its ready stages, into which it writes the news of each word. Three loops settle open stages one at
-//! a time, each by a word of the machine's own caller: relays whose stage is settled, stages whose moment has come, and
-//! ready stages of a lane that is refused. A machine does what it is asked, and then settles the relays.
+//! a time, each by a word: relays whose stage is settled, stages whose moment has come, and stages that end at once,
+//! which are the ready ones of a lane that is refused, or all that are open. A machine does what it is asked, and then
+//! settles the relays.
 #![tactic(auto)]
 
 mod deadlines;

@@ -5,7 +5,7 @@ ghost use Rattle.cf_model.specs.States.{start};
 ghost use Rattle.cf_request.specs.Deadlines.{AreInOrder, Forgets, IsNextOpen, NoneOpen};
 ghost use Rattle.cf_request.specs.Lanes.{NoneReadyIn, ready_below};
 ghost use Rattle.cf_request.specs.Ready.{IsLaneCount};
-ghost use Rattle.cf_request.specs.Machines.{AppliesWord, GoesOn, IsNoDeadline, IsNoFollow, IsNoNext, IsNoPass, IsNoWord, OnlyFinds, Passes, Refuses, SetsDeadline, SetsFollow, free_in, open_in, state_in};
+ghost use Rattle.cf_request.specs.Machines.{AppliesWord, CancelsAll, GoesOn, IsNoCancel, IsNoDeadline, IsNoFollow, IsNoNext, IsNoPass, IsNoWord, OnlyFinds, Passes, Refuses, SetsDeadline, SetsFollow, free_in, open_in, state_in};
 ghost use Rattle.cf_request.specs.Relays.{NoneBehind};
 ghost use Rattle.cf_request.specs.Rows.{unclaimed};
 ghost use Rattle.cf_request.specs.Telling.{AreFresh, AreSettled, IsOnce};
@@ -13,9 +13,10 @@ ghost use Rattle.cf_request.specs.Telling.{AreFresh, AreSettled, IsOnce};
 use crate::deadlines::{Deadline, next_open, pass, set};
 use crate::faults::MachineFault;
 use crate::lanes::{check_held, finish_held, take};
-use crate::refusals::{open_stages, refuse};
+use crate::refusals::{Ending, end_all, open_stages};
 use crate::relays::{Follow, catch_up};
 use crate::teller::Teller;
+use cf_event::LAST_CALLER;
 use cf_ledger::{Finish, Held, Ledger, LedgerFault, Reply, StepFault, Taken};
 use cf_plan::Plan;
 use std::alloc::{AllocError, Global};
@@ -237,7 +238,28 @@ impl Machine {
         ensures why { OnErr result (free_in self.old < open_in self.old) }
     {
         self.teller.reserve(open_stages(&self.teller) as usize)?;
-        refuse(&mut self.teller, &self.follows, lane, code, self.own);
+        end_all(
+            &mut self.teller,
+            &self.follows,
+            Ending::OfLane { lane, code },
+            self.own,
+        );
+        Ok(())
+    }
+
+    /// Cancels all open stages by words of a caller, from the lowest on, and before each of them, and at last, settles
+    /// the relays whose stages are settled in its name. It is refused for the first of: memory for all stages that are
+    /// open, its caller's number.
+    pub fn cancel_all(&mut self, who: u8) -> Result<(), StepFault>
+        ensures cancels { OnOk result (CancelsAll who self.old self.new) }
+        ensures refused { OnErr result (OnlyFinds self.old self.new) }
+        ensures why { IfErr result (λ fault. IsNoCancel who self.old fault) }
+    {
+        self.teller.reserve(open_stages(&self.teller) as usize)?;
+        if who > LAST_CALLER {
+            return Err(StepFault::NoCaller);
+        }
+        end_all(&mut self.teller, &self.follows, Ending::OfAll, who);
         Ok(())
     }
 

@@ -1,29 +1,39 @@
-//! Lanes that nobody runs any more.
-ghost use Rattle.std.specs.Prelude.{◌≡◌, ◌<◌, ◌≤◌, IfNone, IfSome, length};
+//! Stages that end at once: those of a lane that nobody runs any more, or all.
+ghost use Rattle.std.specs.Prelude.{◌≡◌, ◌<◌, ◌≤◌, ℕ, IfNone, IfSome, length, true};
 ghost use Rattle.cf_ledger.specs.Ledgers.{state_of};
 ghost use Rattle.cf_request.specs.Lanes.{NoneReadyIn};
-ghost use Rattle.cf_request.specs.Refusals.{IsRefused, NoneToRefuse, open_below};
-ghost use Rattle.cf_request.specs.Relays.{AreThere, IsRelayOr};
+ghost use Rattle.cf_request.specs.Refusals.{AllSettled, HasLane, IsCancelled, IsEnded, IsRefused, NoneToEnd, open_below};
+ghost use Rattle.cf_request.specs.Relays.{AreThere, IsRelayOr, NoneBehind};
 ghost use Rattle.cf_request.specs.Settling.{IsOpen, SettlesDue};
+ghost use Rattle.cf_request.specs.Telling.{is_settled_in};
 
 use crate::relays::{Follow, first_behind};
 use crate::settling::{Due, settle};
 use crate::teller::Teller;
 use cf_outcome::{Cause, Outcome};
 
-/// Fails all ready stages of a lane with a code, from the lowest on, and before each of them settles all relays whose
-/// stages are settled. Memory for a word has to be there for each open stage.
-pub(crate) fn refuse(teller: &mut Teller, follows: &[Follow], lane: u8, code: u32, who: u8)
+/// Which stages end, and how.
+#[derive(Clone, Copy, Debug)]
+pub(crate) enum Ending {
+    /// The ready stages of a lane fail with a code.
+    OfLane { lane: u8, code: u32 },
+    /// All open stages are cancelled.
+    OfAll,
+}
+
+/// Ends these stages, from the lowest on, and before each of them settles all relays whose stages are settled. Memory
+/// for a word has to be there for each open stage.
+pub(crate) fn end_all(teller: &mut Teller, follows: &[Follow], ending: Ending, who: u8)
     requires caller { who ≤ 63 }
-    requires lane { lane < teller.old.lanes.count }
+    requires lane { HasLane teller.old.lanes.count ending }
     requires relays { AreThere (state_of teller.old.ledger) follows.now }
     requires memory { open_below (state_of teller.old.ledger).stages (length (state_of teller.old.ledger).plan.stages)
         ≤ teller.old.ledger.free }
-    ensures none { NoneToRefuse follows.now teller.new.lanes.of lane (state_of teller.new.ledger) }
-    ensures settles { SettlesDue (IsRelayOr follows.now (IsRefused teller.old.lanes.of lane code))
-        who teller.old teller.new }
+    ensures behind { NoneBehind follows.now (state_of teller.new.ledger).stages }
+    ensures none { NoneToEnd teller.new.lanes.of ending (state_of teller.new.ledger) }
+    ensures settles { SettlesDue (IsRelayOr follows.now (IsEnded teller.old.lanes.of ending)) who teller.old teller.new }
 {
-    while let Some(due) = next_refused(teller, follows, lane, code) {
+    while let Some(due) = next_ended(teller, follows, ending) {
         settle(teller, who, &due);
     }
 }
@@ -42,19 +52,53 @@ pub(crate) fn open_stages(teller: &Teller) -> u16
     count
 }
 
-/// The first relay that is open though its stage is settled, or else the lowest ready stage of the lane.
-fn next_refused(teller: &Teller, follows: &[Follow], lane: u8, code: u32) -> Option<Due>
-    requires lane { lane < teller.now.lanes.count }
+/// The first relay that is open though its stage is settled, or else the lowest stage that ends.
+fn next_ended(teller: &Teller, follows: &[Follow], ending: Ending) -> Option<Due>
+    requires lane { HasLane teller.now.lanes.count ending }
     requires relays { AreThere (state_of teller.now.ledger) follows.now }
     ensures is_open { IfSome result (λ d. IsOpen (state_of teller.now.ledger) d.stage) }
     ensures due { IfSome result (λ d.
-        IsRelayOr follows.now (IsRefused teller.now.lanes.of lane code) (state_of teller.now.ledger) d) }
-    ensures none { IfNone result (NoneToRefuse follows.now teller.now.lanes.of lane (state_of teller.now.ledger)) }
+        IsRelayOr follows.now (IsEnded teller.now.lanes.of ending) (state_of teller.now.ledger) d) }
+    ensures behind { IfNone result (NoneBehind follows.now (state_of teller.now.ledger).stages) }
+    ensures none { IfNone result (NoneToEnd teller.now.lanes.of ending (state_of teller.now.ledger)) }
 {
     if let Some(due) = first_behind(teller, follows) {
         return Some(due);
     }
-    lowest_refused(teller, lane, code)
+    lowest_ended(teller, ending)
+}
+
+/// The lowest stage that ends, with what it is settled with.
+fn lowest_ended(teller: &Teller, ending: Ending) -> Option<Due>
+    requires { HasLane teller.now.lanes.count ending }
+    ensures is_open { IfSome result (λ d. IsOpen (state_of teller.now.ledger) d.stage) }
+    ensures due { IfSome result (λ d. IsEnded teller.now.lanes.of ending (state_of teller.now.ledger) d) }
+    ensures none { IfNone result (NoneToEnd teller.now.lanes.of ending (state_of teller.now.ledger)) }
+{
+    match ending {
+        Ending::OfLane { lane, code } => lowest_refused(teller, lane, code),
+        Ending::OfAll => lowest_open(teller),
+    }
+}
+
+/// The lowest open stage, with what it is settled with. It costs a look at each stage before it.
+fn lowest_open(teller: &Teller) -> Option<Due>
+    ensures is_open { IfSome result (λ d. IsOpen (state_of teller.now.ledger) d.stage) }
+    ensures due { IfSome result (λ d. IsCancelled (state_of teller.now.ledger) d) }
+    ensures none { IfNone result (AllSettled (state_of teller.now.ledger)) }
+{
+    for stage in 0..teller.stages() {
+        if teller.outcome(stage).is_none() {
+            return Some(Due {
+                stage,
+                outcome: Outcome::Fault {
+                    cause: Cause::Cancelled,
+                    wrapped: false,
+                },
+            });
+        }
+    }
+    None
 }
 
 /// The lowest ready stage of the lane, with what it is settled with.

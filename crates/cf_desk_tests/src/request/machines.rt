@@ -265,3 +265,23 @@ fn a_refused_lane_fails(rt: HostRuntime) {
     take(&rt, &mut machine, &REFUSES);
     drop(machine);
 }
+
+/// Source 1 follows source 3. All that is open then is cancelled, and the applies with their sources.
+const CANCELS: [Step; 9] = [
+    Step::Follow(1, 3, Ok(())),
+    Step::Apply(COMPLETE_0, 0, SETTLED),
+    Step::CancelAll(64, Err(StepFault::NoCaller)),
+    Step::Told(&[0]),
+    Step::CancelAll(7, Ok(())),
+    Step::Told(&[0, 1, 5, 2, 3, 4, 6]),
+    Step::Ends(1, CANCELLED),
+    Step::Ends(4, CANCELLED),
+    Step::CancelAll(7, Ok(())),
+];
+
+#[test]
+fn all_is_cancelled(rt: HostRuntime) {
+    let mut machine = opened(&rt, rt.alloc());
+    take(&rt, &mut machine, &CANCELS);
+    drop(machine);
+}

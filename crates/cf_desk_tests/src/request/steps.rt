@@ -23,6 +23,7 @@ pub(crate) enum Step {
     NextDeadline(Option<Deadline>),
     /// A lane and a code.
     Refuse(u8, u32),
+    CancelAll(u8, Result<(), StepFault>),
     Told(&'static [u16]),
     Took(usize),
     /// A stage that is settled, with its outcome.
@@ -45,6 +46,7 @@ fn is_answered(machine: &mut Machine, step: Step) -> bool {
         Step::Pass(moment, answer) => machine.pass(moment) == answer,
         Step::NextDeadline(answer) => machine.next_deadline() == answer,
         Step::Refuse(lane, code) => { lane < machine.lanes() && machine.refuse(lane, code).is_ok() }
+        Step::CancelAll(who, answer) => machine.cancel_all(who) == answer,
         Step::Told(answer) => machine.told() == answer,
         Step::Took(count) => {
             machine.took(count);

@@ -1,11 +1,21 @@
+use Rattle.std.proofs.Common.{subst}
+use Rattle.cf_request.specs.Machines.{Machine, Refuses}
 use Rattle.cf_request.specs.Refusals.{IsRefused}
 use Rattle.cf_request.specs.Relays.{IsRelayOr}
-use Rattle.cf_request.proofs.Machines.{kept_memory, kept_none}
+use Rattle.cf_request.proofs.Machines.{kept_memory, kept_none, refuses_is}
 use Rattle.cf_request.proofs.machine.Machine.refuse.Goals as goal
 
 pub invariant_of-self-2 : goal.invariant_of-self-2
 invariant_of-self-2 c =
     let m = c.self.inside in
     let r = c.reserve.new.self in
-    kept_none (IsRelayOr c.deref.result.now (IsRefused r.lanes.of c.args.lane c.args.code)) m.own r c.refuse.new.teller c.deref.result.now m.follows.items m.deadlines.items m.own c.refuse.ensures.settles
-    (kept_memory _ m.teller r m.follows.items m.deadlines.items m.own c.in_ok-reserve.ensures.found c.self.invariant.0) c.deref.ensures.value c.refuse.ensures.none.0
+    kept_none (IsRelayOr c.deref.result.now (IsRefused r.lanes.of c.args.lane c.args.code)) m.own r c.end_all.new.teller c.deref.result.now m.follows.items m.deadlines.items m.own c.end_all.ensures.settles
+    (kept_memory _ m.teller r m.follows.items m.deadlines.items m.own c.in_ok-reserve.ensures.found c.self.invariant.0) c.deref.ensures.value c.end_all.ensures.behind
+
+pub returns-clause-refuses : goal.returns-clause-refuses
+returns-clause-refuses c =
+    let m = c.self.inside in
+    let old : Machine = record { teller = m.teller; follows = m.follows.items; deadlines = m.deadlines.items; moment = m.moment; own = m.own } in
+    subst (λ (x : Machine). Refuses c.args.lane c.args.code x (record old { teller = c.end_all.new.teller })) c.self.view_is
+    (refuses_is old c.reserve.new.self c.end_all.new.teller c.deref.result.now c.args.lane c.args.code c.open_stages.result c.deref.ensures.value c.open_stages.ensures c.in_ok-reserve.ensures.found
+    c.end_all.ensures.behind c.end_all.ensures.none c.end_all.ensures.settles)

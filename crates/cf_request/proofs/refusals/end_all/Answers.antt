@@ -1,11 +1,11 @@
-use Rattle.std.proofs.Common.{arith, subst}
+use Rattle.std.proofs.Common.{arith, subst, sym}
 use Rattle.cf_ledger.specs.Ledgers.{state_of}
 use Rattle.cf_request.specs.Ready.{Lanes}
-use Rattle.cf_request.specs.Refusals.{IsRefused}
+use Rattle.cf_request.specs.Refusals.{HasLane, IsEnded}
 use Rattle.cf_request.specs.Relays.{IsRelayOr}
 use Rattle.cf_request.proofs.Memory.{spends_settle, stage_waits, stages_fewer}
-use Rattle.cf_request.proofs.Turns.{dues_more, follows_kept, keeps_settle, lane_kept}
-use Rattle.cf_request.proofs.refusals.refuse.Goals as goal
+use Rattle.cf_request.proofs.Turns.{dues_more, follows_kept, keeps_settle}
+use Rattle.cf_request.proofs.refusals.end_all.Goals as goal
 
 pub settle-requires-clause-memory : goal.settle-requires-clause-memory
 settle-requires-clause-memory c =
@@ -22,14 +22,14 @@ loop-due-preserved c =
     let b = c.loop-due.teller in
     let e = c.settle.new.teller in
     let d = c.in-Some.due in
-    let due = subst (λ (l : Lanes). IsRelayOr c.args.follows.now (IsRefused l.of c.args.lane c.args.code) (state_of b.ledger) d) c.loop-due.invariant.settles.lanes c.in-Some.ensures.due in
+    let due = subst (λ (l : Lanes). IsRelayOr c.args.follows.now (IsEnded l.of c.args.ending) (state_of b.ledger) d) c.loop-due.invariant.settles.lanes c.in-Some.ensures.due in
     let keeps = keeps_settle c.args.who d b e c.settle.ensures in
     let fewer = stages_fewer c.args.who d b e c.in-Some.ensures.is_open c.settle.ensures in
     let one = spends_settle c.args.who d b e c.settle.ensures in
     let enough = c.loop-due.invariant.memory in
     record {
-      settles = dues_more (IsRelayOr c.args.follows.now (IsRefused a.lanes.of c.args.lane c.args.code)) c.args.who a b e d c.loop-due.invariant.settles c.in-Some.ensures.is_open due c.settle.ensures;
+      settles = dues_more (IsRelayOr c.args.follows.now (IsEnded a.lanes.of c.args.ending)) c.args.who a b e d c.loop-due.invariant.settles c.in-Some.ensures.is_open due c.settle.ensures;
       relays = follows_kept b e c.args.follows.now keeps c.loop-due.invariant.relays;
-      lane = lane_kept b e c.args.lane keeps c.loop-due.invariant.lane;
+      lane = subst (λ (l : Lanes). HasLane l.count c.args.ending) (sym keeps.lanes) c.loop-due.invariant.lane;
       memory = omega (arith, fewer, one, enough);
     }
