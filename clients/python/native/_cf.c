@@ -94,6 +94,7 @@ typedef struct {
   Row *rows;
   Event *done;
   PyObject *works, *title, *keeps, *values, *errors, *weak;
+  PyTypeObject *stage_type;  /* the class of its futures, if that isn't the one in use */
   Plan *plan;
 } Request;
 
@@ -280,8 +281,9 @@ static PyObject *name_of(State *state, PyObject *call) {
 
 static Stage *new_stage(Request *request, uint16_t number) {
   State *state = request->state;
-  if (!state->stage_type) return (Stage *)PyErr_Format(PyExc_RuntimeError, "no class of stages is in use");
-  Stage *stage = (Stage *)PyType_GenericAlloc(state->stage_type, 0);
+  PyTypeObject *type = request->stage_type ? request->stage_type : state->stage_type;
+  if (!type) return (Stage *)PyErr_Format(PyExc_RuntimeError, "no class of stages is in use");
+  Stage *stage = (Stage *)PyType_GenericAlloc(type, 0);
   if (!stage) return NULL;
   Py_INCREF(state->module);
   stage->state = state;
@@ -472,10 +474,18 @@ static PyObject *Request_new(PyTypeObject *type, PyObject *Py_UNUSED(args), PyOb
 }
 
 static int Request_init(Request *self, PyObject *args, PyObject *kwargs) {
-  PyObject *works, *title, *keeps = Py_None, *plan = Py_None;
+  PyObject *works, *title, *keeps = Py_None, *plan = Py_None, *stage_class = Py_None;
   unsigned int room;
-  if (!PyArg_ParseTuple(args, "OOI|OO", &works, &title, &room, &keeps, &plan)) return -1;
+  if (!PyArg_ParseTuple(args, "OOI|OOO", &works, &title, &room, &keeps, &plan, &stage_class)) return -1;
   if (self->rows) { PyErr_SetString(PyExc_TypeError, "a request is opened once"); return -1; }
+  if (stage_class != Py_None) {
+    if (!PyType_Check(stage_class) || !PyType_IsSubtype((PyTypeObject *)stage_class, self->state->stage_core)) {
+      PyErr_SetString(PyExc_TypeError, "no class of stages");
+      return -1;
+    }
+    Py_INCREF(stage_class);
+    Py_XSETREF(self->stage_type, (PyTypeObject *)stage_class);
+  }
   if (plan != Py_None) {
     if (!PyObject_TypeCheck(plan, self->state->plan_core)) { PyErr_SetString(PyExc_TypeError, "no plan"); return -1; }
     Py_INCREF(plan);
@@ -507,6 +517,7 @@ static int Request_traverse(Request *self, visitproc visit, void *arg) {
   Py_VISIT(self->state->module);
   for (uint32_t i = 0; i < self->stages; i++) Py_VISIT(self->rows[i].stage);
   Py_VISIT(self->works); Py_VISIT(self->keeps); Py_VISIT(self->values); Py_VISIT(self->errors); Py_VISIT(self->plan);
+  Py_VISIT(self->stage_type);
   return 0;
 }
 
@@ -524,7 +535,7 @@ static void Request_dealloc(Request *self) {
   if (self->weak) PyObject_ClearWeakRefs((PyObject *)self);
   Request_clear(self);
   for (uint32_t i = 0; i < self->stages; i++) Py_CLEAR(self->rows[i].name);
-  Py_CLEAR(self->values); Py_CLEAR(self->errors); Py_CLEAR(self->title);
+  Py_CLEAR(self->values); Py_CLEAR(self->errors); Py_CLEAR(self->title); Py_CLEAR(self->stage_type);
   cf_free(&self->ledger);
   PyMem_Free(self->rows); PyMem_Free(self->done);
   type->tp_free((PyObject *)self);
