@@ -220,6 +220,17 @@ class Faults(unittest.TestCase):
             orders(test)
         self.assertIn("begin.0.0", str(caught.exception))
 
+    def test_a_test_that_does_otherwise_later_is_told(self):
+        numbers = itertools.count()
+
+        def test(world):
+            request = world.service.request()
+            return [request.supply(lambda: None) for _ in range(3 if next(numbers) == 2 else 2)]
+
+        with self.assertRaises(NotDeterministic) as caught:
+            orders(test)
+        self.assertIn("begin.0.0 begin.0.1\nbefore, and now\n    begin.0.0 begin.0.1 begin.0.2", str(caught.exception))
+
     def test_what_outlives_a_run_is_told(self):
         numbers = itertools.count()
         with self.assertRaises(NotDeterministic):
@@ -269,7 +280,7 @@ class LeftOut(unittest.TestCase):
             one, two = request.promise("one"), request.promise("two")
             world.calls(one.cancel)
             world.calls(two.cancel)
-            world.check(lambda: not (one.done() and not two.done()), "two before one")
+            world.check(lambda: not (two.done() and not one.done()), "one before two")
 
         self.assertTrue(orders(test).failed)
 
