@@ -9,7 +9,7 @@ so one thread at a time may be within a service that is watched.
 """
 import functools
 from array import array
-from typing import TYPE_CHECKING, Any, Callable, Dict, List, Optional, Sequence, Tuple, TypeVar, cast
+from typing import Any, Callable, Dict, List, Optional, Protocol, Sequence, Tuple, TypeVar, cast
 
 from ._core import be
 from .history import Describe, History
@@ -17,11 +17,6 @@ from .relays import is_release, is_relay
 from .request import Request
 from .stage import Stage
 from .words import CANCEL, COMPOSE_FORMS, GIVES, LINKS, THROWS
-
-if TYPE_CHECKING:
-    from typing import Protocol
-else:
-    Protocol = object
 
 T = TypeVar("T")
 
@@ -62,6 +57,9 @@ class Watch(Protocol):
 
     def read(self, stage: "Stage[Any]") -> None:
         """Somebody looks at a stage."""
+
+    def looked(self, request: Request) -> None:
+        """Somebody looks at all that happened to a request."""
 
     def limit(self, stage: "Stage[Any]", seconds: float, act: Callable[[], object]) -> None:
         """A stage gets a time limit, after which something is to be done."""
@@ -169,8 +167,7 @@ class WatchedRequest(Request):
         return not isinstance(self._works, WatchedWorks)
 
     def history(self) -> History:
-        for number in range(self._stages):
-            self.watch.read(self._stage(number))
+        self.watch.looked(self)
         return super().history()
 
     def _facts(self) -> Any:

@@ -1,4 +1,5 @@
 """What a run is told by its service: each event and each read is touched, and what follows from it may be a move."""
+import asyncio
 import threading
 from typing import Any, Callable, List, Optional, Sequence
 
@@ -93,6 +94,15 @@ class Listening(State):
         if self._in_user and self._footprint is not None:
             self.touch(self._place(stage), READS)
 
+    def looked(self, request: Request) -> None:
+        """As `Watch.looked`."""
+        if self._in_user and self._footprint is not None:
+            index = self._indices[id(request)]
+            self.touch(("attach", index), READS)
+            for place in self._stages:
+                if place[0] == index:
+                    self.touch(place, READS)
+
     def limit(self, stage: "Stage[Any]", seconds: float, act: Callable[[], object]) -> None:
         """As `Watch.limit`."""
         self._add_timer(self._place(stage), seconds, act, lambda: is_settled(stage), f"the limit of {stage.name} passes")
@@ -118,7 +128,7 @@ class Listening(State):
         if self._calls:
             self.tails.append(Tail(self._calls))
             self._calls = []
-        if self.settings.is_fine and self._in_user:
+        if self.settings.is_fine and self._in_user and getattr(self._carried, "flight", None) is not None:
             self.point()
 
     def _place(self, stage: "Stage[Any]") -> Place:
@@ -152,6 +162,8 @@ class Listening(State):
         """Lets others go on until something is so."""
         if self._is_over:
             self.fail(f"{name} is never settled")
+        if self.loop is not None and asyncio._get_running_loop() is self.loop:
+            self.fail(f"a coroutine waits for {name} by a call that holds up its loop: await it")
         if not self.settings.has_threads:
             raise NeedsThreads
         flight: Optional[Flight] = getattr(self._carried, "flight", None)

@@ -32,6 +32,8 @@ from .marks import names_of
 from .state import LEAVES, Failed, Flight, Settings, Timer
 
 MAIN: Thing = ("main", 0)
+OF_STAGE = ("complete", "fail", "cancel", "abandon", "set_result", "set_exception", "or_timeout", "complete_on_timeout",
+            "done", "cancelled", "running")
 FREE_NUMBERS = 60  # of workers, that histories tell apart
 
 
@@ -180,7 +182,7 @@ class Run(Listening):
         call = calls[place]
         self.called[number] += 1
         if _is_of_stage(call):
-            call()
+            self._raised_by(call, name)
         elif not self.settings.has_threads:
             self.user(call, name)
         else:
@@ -336,5 +338,6 @@ class Run(Listening):
 
 
 def _is_of_stage(call: Any) -> bool:
-    """Whether a call is one of a stage's methods, so that no function is called by it."""
-    return isinstance(getattr(getattr(call, "func", call), "__self__", None), Stage)
+    """Whether a call is one of a stage's methods by which no function is called and nothing is waited for."""
+    method = getattr(call, "func", call)
+    return isinstance(getattr(method, "__self__", None), Stage) and method.__name__ in OF_STAGE

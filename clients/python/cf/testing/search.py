@@ -124,9 +124,7 @@ class Tree:
             firsts = self._firsts(place, last)
             node = stack[place]
             if not any(key in node.todo or key in node.sleep for key in firsts):
-                key = next((key for key in firsts if key in node.keys), None)
-                if key is not None:
-                    node.todo.add(key)
+                node.todo.update([key for key in firsts if key in node.keys][:1] or node.keys)
 
     def _firsts(self, place: int, last: int) -> List[Move]:
         """What can come first of the moves behind a place that needn't come after it, and lead to the last one."""

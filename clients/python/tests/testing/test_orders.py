@@ -274,6 +274,14 @@ class LeftOut(unittest.TestCase):
 
         self.assertEqual(self.counts(test)[0], 2)
 
+    def test_a_history_is_read_whole(self):
+        def test(world):
+            request = world.service.request()
+            world.calls(request.promise().cancel)
+            return request.supply(touches("own")(lambda: request.history().words))
+
+        self.assertEqual(self.counts(test)[0], 2)
+
     def test_what_a_check_reads(self):
         def test(world):
             request = world.service.request()
@@ -337,6 +345,16 @@ class Points(unittest.TestCase):
         self.assertFalse(orders(test).failed)
         self.assertTrue(orders(test, fine=True).failed)
 
+    def test_fine_with_callbacks_and_callers(self):
+        def test(world):
+            request = world.service.request()
+            first, second = request.promise("first"), request.promise("second")
+            first.add_done_callback(lambda _: second.complete(1))
+            world.calls(lambda: first.complete(0), name="somebody")
+            return second.then(lambda it: it + 1)
+
+        self.assertEqual((orders(test, fine=True).whole, list(map(str, orders(test, fine=True).failed))), (True, []))
+
     def test_flows_are_begun_in_a_world(self):
         flow = Flow("order")
         paid = flow.promise("cents").then(lambda cents: cents + 1)
@@ -372,6 +390,12 @@ class Loops(unittest.TestCase):
             assert await request.supply(lambda: 3).then(lambda it: it + 1) == 4
 
         self.assertEqual((orders(test).whole, list(map(str, orders(test).failed))), (True, []))
+
+    def test_a_coroutine_that_holds_up_its_loop_is_told(self):
+        async def test(world):
+            world.service.submit(int).result()
+
+        self.assertIn("holds up its loop", orders(test).failed[0].why)
 
     def test_what_a_coroutine_raises(self):
         async def test(world):
