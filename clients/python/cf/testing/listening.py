@@ -157,9 +157,9 @@ class Listening(State):
         name = " or ".join(stage.name for stage in stages) or "the functions that go on"
         self.wait_for(name, [self._place(stage) for stage in stages], is_over, timeout)
 
-    def wait_for(self, name: str, things: Sequence[Thing], is_over: Callable[[], bool],
-                 timeout: Optional[float]) -> None:
-        """Lets others go on until something is so."""
+    def wait_for(self, name: str, things: Sequence[Thing], is_over: Callable[[], bool], timeout: Optional[float],
+                 ways: Sequence[Any] = ()) -> Any:
+        """Lets others go on until something is so, or one of several ways is chosen, which is given then."""
         if self._is_over:
             self.fail(f"{name} is never settled")
         if self.loop is not None and asyncio._get_running_loop() is self.loop:
@@ -169,10 +169,11 @@ class Listening(State):
         flight: Optional[Flight] = getattr(self._carried, "flight", None)
         if flight is None or flight.carrier is None:
             self.fail(f"a callback waits for {name}, in the thread that settled its stage")
-        flight.wait, flight.is_late = Wait(name, tuple(things), is_over), False
+        flight.wait, flight.is_late = Wait(name, tuple(things), is_over, tuple(ways)), False
         if timeout is not None:
             self._limit_wait(flight, flight.wait, timeout)
         flight.carrier.pause()
+        return flight.chosen
 
     def point(self) -> None:
         """Lets others go on."""

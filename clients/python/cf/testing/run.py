@@ -8,6 +8,7 @@ A move is a tuple of a word and numbers:
     begin r s     a ready function is claimed: stage s of request r
     call r s      it is called. With all that it does, up to where it waits, this is one move
     go r s        a function that waited goes on
+    choose r s k  a function that waits for a choice goes on with its kth way
     end r s       a function that was called is finished with what it returned or raised
     tell r s k    callback k of a stage is called
     come n k      arrival n comes, in its way k
@@ -54,9 +55,7 @@ class Run(Listening):
 
     def moves(self) -> List[Move]:
         """The moves that are possible, in an order that the same row always has."""
-        keys: List[Move] = [(flight.word if flight.wait is None else "go", *thing)
-                            for thing, flight in self.flights.items()
-                            if flight.wait is None or flight.is_late or flight.wait.is_over()]
+        keys: List[Move] = [key for thing, flight in self.flights.items() for key in _next_of(thing, flight)]
         keys += [tail.calls[0][0] for tail in self.tails]
         for place in [place for place, task in self.ready_tasks.items() if is_settled(task.stage)]:
             del self.ready_tasks[place]
@@ -106,6 +105,8 @@ class Run(Listening):
         self._footprint, self.told = {}, []
         if key[0] in ("begin", "call", "end", "go"):
             self.touch(("flight", *key[1:]), CHANGES)
+        elif key[0] == "choose":
+            self.touch(("flight", *key[1:3]), CHANGES)
         elif key[0] in ("come", "by"):
             self.touch((key[0], key[1]), CHANGES)
         getattr(self, "_do_" + key[0])(*key[1:])
@@ -140,6 +141,12 @@ class Run(Listening):
         self._on(flight, lambda carrier: carrier.resume())
         if flight.word == "end" and flight.task is None:
             del self.flights[thing]
+
+    def _do_choose(self, *key: Any) -> None:
+        flight = self.flights[key[:2]]
+        assert flight.wait is not None
+        flight.chosen = flight.wait.ways[key[2]]
+        self._do_go(*key[:2])
 
     def _do_end(self, *thing: Any) -> None:
         task = self.flights.pop(thing).task
@@ -324,6 +331,9 @@ class Run(Listening):
             return next(timer.text for timer in self.timers if (*timer.place, timer.number) == key[1:])
         if word == "go":
             return f"{self.flights[key[1:]].name} goes on"
+        if word == "choose":
+            flight = self.flights[key[1:3]]
+            return f"{flight.name} gets {describe_all(flight.wait.ways[key[3]] if flight.wait is not None else None)}"
         if word == "loop" and self.loop is not None:
             return f"the loop goes on with {self.loop.next_name()}"
         if word in ("wake", "stop"):
@@ -335,6 +345,16 @@ class Run(Listening):
         task = self.flights[key[1:]].task if word == "end" else None
         return {"begin": f"{name} is claimed", "call": f"{name} is called",
                 "end": f"{name} returns" if task is None or task.error is None else f"{name} raises"}[word]
+
+
+def _next_of(thing: Thing, flight: Flight) -> List[Move]:
+    """What a function may do next."""
+    wait = flight.wait
+    if wait is None:
+        return [(flight.word, *thing)]
+    if wait.ways:
+        return [("choose", *thing, k) for k in range(len(wait.ways))]
+    return [("go", *thing)] if flight.is_late or wait.is_over() else []
 
 
 def _is_of_stage(call: Any) -> bool:

@@ -42,6 +42,7 @@ class Wait(NamedTuple):
     name: str
     things: Tuple[Thing, ...]
     is_over: Callable[[], bool]
+    ways: Tuple[Any, ...] = ()  # of which one is chosen, where it waits for that
 
 
 class Flight:
@@ -52,6 +53,7 @@ class Flight:
         self.word = "call"  # of its next move
         self.wait: Optional[Wait] = None
         self.is_late = False  # the time for which it waits is over
+        self.chosen: Any = None
         self.carrier: Optional[Carrier] = None
 
 

@@ -88,6 +88,12 @@ class World:
         """Within a function: others may go on here. Without it a function is one move up to where it waits."""
         self._run.point()
 
+    def choice(self, *values: T) -> T:
+        """Within a function: one of these values. Each is tried, so a function can stand for what answers in several
+        ways."""
+        chosen: T = self._run.wait_for("a choice", (), lambda: True, None, values)
+        return chosen
+
     def outcomes(self) -> List[str]:
         """What each stage of each request ended in, as texts of `cf run`, for comparing the ends of orders."""
         return [line for request in self._run.requests for line in request.history().report().splitlines()

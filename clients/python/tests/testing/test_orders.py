@@ -160,6 +160,23 @@ class Waiting(unittest.TestCase):
             report = orders(test)
             self.assertEqual((report.whole, list(map(str, report.failed))), (True, []))
 
+    def test_each_way_of_a_choice_is_tried(self):
+        def test(world):
+            request = world.service.request()
+
+            def ask():
+                if world.choice(True, False):
+                    raise OSError("away")
+                return world.choice("yes", "no")
+
+            asked = request.supply(ask)
+            world.at_end(lambda: seen.add("away" if asked.exception() else asked.result()) or True, "seen")
+            return asked
+
+        seen = set()
+        self.assertEqual((orders(test).whole, list(map(str, orders(test).failed))), (True, []))
+        self.assertEqual(seen, {"away", "yes", "no"})
+
     def test_a_deadlock_names_who_waits_for_what(self):
         def test(world):
             request = world.service.request()
