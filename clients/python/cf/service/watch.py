@@ -85,7 +85,8 @@ class Task:
         self.stage: "Stage[Any]" = stage
         self.fn: Optional[Callable[..., Any]] = None  # once it is claimed
         self.error: Optional[BaseException] = None  # what the function raised
-        self._who, self._kind, self._given = 0, GIVES, None
+        self._who, self._kind = 0, GIVES
+        self._given: Any = None
         self._args: Tuple[Tuple[Any, ...], Dict[str, Any]] = ((), {})
 
     def claim(self, who: int) -> bool:
@@ -271,7 +272,7 @@ class WatchedStage(Stage[T]):
     # What `concurrent.futures.wait` and `as_completed` wait by.
 
     @property
-    def _waiters(self) -> "_Waiters":
+    def _waiters(self) -> Any:
         waiting: _Waiters = self.__dict__.setdefault("_waiting", _Waiters(self))
         return waiting
 
@@ -343,7 +344,7 @@ def _meet(stage: "Stage[Any]") -> None:
             super(WatchedStage, cast("WatchedStage[Any]", stage)).add_done_callback(_tell)
 
 
-def _tell(stage: "Stage[Any]") -> None:
+def _tell(stage: Any) -> None:
     watch = _watch_of(stage)
     watch.settled(stage)
     calls, stage.__dict__["_calls"] = stage.__dict__["_calls"], []

@@ -183,6 +183,6 @@ class Listening(State):
         def act() -> None:
             flight.is_late = True
 
-        place = next((thing for thing in wait.things if isinstance(thing[0], int)), (-1, 0))
+        place: Place = next(((thing[0], thing[1]) for thing in wait.things if isinstance(thing[0], int)), (-1, 0))
         self._add_timer(place, seconds, act, lambda: flight.wait is not wait or wait.is_over(),
                         f"{flight.name} has waited {seconds} s for {wait.name}")

@@ -26,20 +26,20 @@ class WorldLoop(asyncio.AbstractEventLoop):
     def time(self) -> float:
         return self._now
 
-    def call_soon(self, callback: Callable[..., object], *args: Any,  # type: ignore[override]
+    def call_soon(self, callback: Callable[..., object], *args: Any,
                   context: Optional[contextvars.Context] = None) -> asyncio.Handle:
         handle = asyncio.Handle(callback, args, self, context)
         self._run.touch(("loop",), CHANGES)
         self._ready.append(handle)
         return handle
 
-    call_soon_threadsafe = call_soon  # type: ignore[assignment]
+    call_soon_threadsafe = call_soon
 
-    def call_later(self, delay: float, callback: Callable[..., object], *args: Any,  # type: ignore[override]
+    def call_later(self, delay: float, callback: Callable[..., object], *args: Any,
                    context: Optional[contextvars.Context] = None) -> asyncio.TimerHandle:
         return self.call_at(self._now + delay, callback, *args, context=context)
 
-    def call_at(self, when: float, callback: Callable[..., object], *args: Any,  # type: ignore[override]
+    def call_at(self, when: float, callback: Callable[..., object], *args: Any,
                 context: Optional[contextvars.Context] = None) -> asyncio.TimerHandle:
         handle = asyncio.TimerHandle(when, callback, args, self, context)
         self._run.touch(("loop",), CHANGES)
@@ -52,7 +52,7 @@ class WorldLoop(asyncio.AbstractEventLoop):
     def create_future(self) -> "asyncio.Future[Any]":
         return asyncio.Future(loop=self)
 
-    def create_task(self, coro: Any, *, name: Optional[str] = None,  # type: ignore[override]
+    def create_task(self, coro: Any, *, name: Optional[str] = None,
                     context: Optional[contextvars.Context] = None) -> "asyncio.Task[Any]":
         given: Dict[str, Any] = {} if context is None else {"context": context}
         return asyncio.Task(coro, loop=self, name=name or f"task {next(self._numbers)}", **given)

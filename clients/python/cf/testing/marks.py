@@ -10,7 +10,8 @@ def pure(fn: F) -> F:
 
     Returns:
         The function, or where it takes no mark, such as one that is built in, one that calls it."""
-    return _marked(fn, ())
+    made: F = _marked(fn, ())
+    return made
 
 
 def touches(*names: str) -> Callable[[F], F]:
@@ -18,7 +19,11 @@ def touches(*names: str) -> Callable[[F], F]:
 
     Functions without a mark are taken to share everything among one another, and nothing with what has a mark. So all
     functions that share a thing have to name it, or none may have a mark."""
-    return lambda fn: _marked(fn, names)
+    def marks(fn: F) -> F:
+        made: F = _marked(fn, names)
+        return made
+
+    return marks
 
 
 def _marked(fn: Any, names: Tuple[str, ...]) -> Any:

@@ -101,14 +101,15 @@ def every_order(test: Optional[Callable[..., Any]] = None, **options: Any) -> An
         options: As of `orders`. With `whole=True` it fails, too, where not all orders could be tried."""
     if test is None:
         return functools.partial(every_order, **options)
-    signature = inspect.signature(test)
+    tested: Callable[..., Any] = test
+    signature = inspect.signature(tested)
     *others, world = signature.parameters.values()
     wants_whole = options.pop("whole", False)
 
     @functools.wraps(test)
     def runs(*given: Any, **named: Any) -> None:
         __tracebackhide__ = True  # pytest shows the story alone
-        report = orders(lambda made: test(*given, **named, **{world.name: made}), **options)
+        report = orders(lambda made: tested(*given, **named, **{world.name: made}), **options)
         if report.failed or wants_whole and not report.whole:
             raise AssertionError(str(report))
 

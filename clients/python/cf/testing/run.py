@@ -338,7 +338,7 @@ class Run(Listening):
             return f"the loop goes on with {self.loop.next_name()}"
         if word in ("wake", "stop"):
             return "a timer of the loop is due" if word == "wake" else "no limit passes any more"
-        name = self._stages[key[1:3]].name
+        name = self._stages[key[1], key[2]].name
         if word == "tell":
             call = next(call for tail in self.tails for move, call in tail.calls if move == key)
             return f"{name} calls back {'its relays' if call.is_relay else name_of(call.fn)}"

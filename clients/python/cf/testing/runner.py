@@ -37,7 +37,9 @@ class Runner:
 
     def go(self, chooses: Chooses, did: Optional[Did] = None, tells: bool = False) -> Ran:
         """One run."""
-        run, row, told = Run(self.settings, self.watched), [], []
+        run = Run(self.settings, self.watched)
+        row: List[Move] = []
+        told: List[Told] = []
         how, why = END, ""
         try:
             run.start(self.test)

@@ -1,6 +1,6 @@
 """What a run consists of, what its moves touch, and what has to hold between them."""
 import threading
-from typing import TYPE_CHECKING, Any, Callable, Dict, List, NamedTuple, Optional, Set, Tuple, Type
+from typing import TYPE_CHECKING, Any, Callable, Dict, List, NamedTuple, NoReturn, Optional, Set, Tuple, Type
 
 from ..service.history import describe_all
 from ..service.request import Request
@@ -115,7 +115,7 @@ class State:
         if self._footprint is not None:
             touch(self._footprint, thing, how)
 
-    def fail(self, why: str) -> Any:
+    def fail(self, why: str) -> NoReturn:
         """Ends this order, which fails."""
         self.why = self.why or why
         raise Failed(self.why)
@@ -146,7 +146,8 @@ class State:
             raise Failed(self.why)
         if not self.checks:
             return
-        self._footprint = seen = {}
+        seen: Footprint = {}
+        self._footprint = seen
         saved, self._in_user = self._in_user, True
         try:
             for holds, text in self.checks:
@@ -164,6 +165,6 @@ class State:
         except LEAVES:
             raise
         except AssertionError as error:
-            return self.fail(f"{text}: {error}" if str(error) else text)
+            self.fail(f"{text}: {error}" if str(error) else text)
         except BaseException as error:
-            return self.fail(f"{text}: it raised {describe_all(error)}")
+            self.fail(f"{text}: it raised {describe_all(error)}")

@@ -31,7 +31,7 @@ class World:
         """An event loop whose steps are moves, and whose time is the world's. A test may be a coroutine function, which
         runs on it."""
         if self._run.loop is None:
-            self._run.loop = WorldLoop(self._run)
+            self._run.loop = WorldLoop(self._run)  # type: ignore[abstract]
         return self._run.loop
 
     @property
