@@ -214,7 +214,7 @@ def compare(explore, said, name, most, told):
     wanted = explore(said)
     count = sum(wanted.values())
 
-    options = {"free_clock": True, "failures": 10**9, "smaller": False, "seconds": 600, "most": 10**9,
+    options = {"free_clock": True, "failures": 10**9, "smaller": False, "seconds": 60, "most": 50_000,
                "ends": lambda world: world.test.end()}
     told.asked += 1
     told.orders += count

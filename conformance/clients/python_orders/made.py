@@ -118,7 +118,7 @@ class Made:
 def compare(seed, most, told):
     """Tries a program both ways."""
     program = Program(seed)
-    options = {"failures": 10**9, "smaller": False, "seconds": 600, "ends": lambda world: world.test.end()}
+    options = {"failures": 10**9, "smaller": False, "seconds": 60, "ends": lambda world: world.test.end()}
 
     def test(world):
         Made(program, world)
@@ -127,7 +127,7 @@ def compare(seed, most, told):
     if not plain.whole:
         told.too_large += 1
         return
-    reduced = orders(test, most=10**9, **options)
+    reduced = orders(test, most=2 * most, **options)
     told.programs += 1
     told.program_orders += plain.orders
     told.program_tried += reduced.orders + reduced.cut

@@ -7,13 +7,14 @@ told of each event and of each read, and whatever would wait asks it to. `cf.tes
 All methods of a watch are called on the thread that makes the change, reads or waits. Nothing here has a lock of its own,
 so one thread at a time may be within a service that is watched.
 """
+import concurrent.futures
 import functools
 from array import array
 from typing import Any, Callable, Dict, List, Optional, Protocol, Sequence, Tuple, TypeVar, cast
 
 from ._core import be
 from .history import Describe, History
-from .relays import is_release, is_relay
+from .relays import Hold, is_relay, is_release
 from .request import Request
 from .stage import Stage
 from .words import CANCEL, COMPOSE_FORMS, GIVES, LINKS, THROWS
@@ -57,6 +58,9 @@ class Watch(Protocol):
 
     def read(self, stage: "Stage[Any]") -> None:
         """Somebody looks at a stage."""
+
+    def linked(self, relay: "Stage[Any]", future: "concurrent.futures.Future[Any]") -> None:
+        """A stage is to end as a future does that stands elsewhere."""
 
     def looked(self, request: Request) -> None:
         """Somebody looks at all that happened to a request."""
@@ -220,6 +224,16 @@ class WatchedRequest(Request):
         self._stamp(1)
         self.watch.finished(stage, given if kind == LINKS else None)
         return following
+
+    def _relay_of(self, future: "concurrent.futures.Future[T]", holds: List[Hold]) -> "Stage[T]":
+        relay = super()._relay_of(future, holds)
+        if relay is not future:
+            self.watch.linked(relay, future)
+        return relay
+
+    def _follow(self, stage: "Stage[Any]", relay: "Stage[Any]", to: "concurrent.futures.Future[Any]") -> None:
+        super()._follow(stage, relay, to)
+        self.watch.linked(relay, to)
 
     def _later(self, stage: "Stage[T]", seconds: float, act: Callable[[], object]) -> "Stage[T]":
         if self._is_on_loop or seconds != seconds:

@@ -1,5 +1,6 @@
 """What a run is told by its service: each event and each read is touched, and what follows from it may be a move."""
 import asyncio
+import concurrent.futures
 import threading
 from typing import Any, Callable, List, Optional, Sequence
 
@@ -7,8 +8,9 @@ from ..service.history import describe_all
 from ..service.relays import is_relay
 from ..service.request import Request
 from ..service.stage import Stage
-from ..service.watch import Callback, Task, is_settled
+from ..service.watch import Callback, Task, WatchedStage, is_settled
 from ..service.words import name_of
+from .arrivals import Arrival
 from .carriers import CARRIERS, Carrier, CarrierThread
 from .footprints import CHANGES, READS, Place, Thing
 from .state import Failed, Flight, NeedsThreads, State, Tail, Timer, Wait
@@ -77,10 +79,19 @@ class Listening(State):
             self._calls += [(("tell", *place, k), call) for k, call in enumerate(calls)]
             return
         for call in calls:
-            if call.is_relay:
-                call()
-            else:
-                self.user(call, name_of(call.fn))
+            self._call_back(call)
+
+    def _call_back(self, call: Callback) -> None:
+        """Calls a callback. One for relays looks at all that there ever were: it would settle those that were let go."""
+        if not call.is_relay:
+            self.user(call, name_of(call.fn))
+            return
+        self._touch_relays(self._place(call.stage))
+        call()
+
+    def _touch_relays(self, of: Thing) -> None:
+        for relay in self._relays.get(of, ()):
+            self.touch(relay, READS)
 
     def ready(self, task: Task) -> None:
         """As `Watch.ready`."""
@@ -93,6 +104,12 @@ class Listening(State):
         """As `Watch.read`."""
         if self._in_user and self._footprint is not None:
             self.touch(self._place(stage), READS)
+
+    def linked(self, relay: "Stage[Any]", future: "concurrent.futures.Future[Any]") -> None:
+        """As `Watch.linked`."""
+        thing: Thing = ("outside", future.number) if isinstance(future, Arrival) else (
+            self._place(future) if isinstance(future, WatchedStage) else ("elsewhere",))
+        self._relays.setdefault(thing, []).append(self._place(relay))
 
     def looked(self, request: Request) -> None:
         """As `Watch.looked`."""
@@ -146,6 +163,7 @@ class Listening(State):
     def told_outside(self, call: Callable[[Any], object], future: Any) -> None:
         """A callback of an arrival is to be called."""
         if is_relay(call):
+            self._touch_relays(("outside", future.number))
             call(future)
         else:
             self.user(lambda: call(future), name_of(call))

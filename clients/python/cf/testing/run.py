@@ -171,10 +171,7 @@ class Run(Listening):
         self.touch(tail.thing, CHANGES)
         if tail.clock is not None:
             self.touch(("clock", tail.clock), CHANGES)
-        if call.is_relay:
-            call()
-        else:
-            self.user(call, name_of(call.fn))
+        self._call_back(call)
         if not tail.calls:
             self.tails.remove(tail)
             if tail.following is not None:

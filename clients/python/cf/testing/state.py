@@ -103,6 +103,7 @@ class State:
         self._nows: Dict[int, float] = {}
         self._timers_made: Dict[int, int] = {}
         self._behind = Behind()
+        self._relays: Dict[Thing, List[Place]] = {}  # of arrivals and stages, also those that were let go
         self._stages: Dict[Place, Stage[Any]] = {}
         self._indices: Dict[int, int] = {}
         self._news: List[Place] = []

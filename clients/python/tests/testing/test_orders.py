@@ -291,6 +291,18 @@ class LeftOut(unittest.TestCase):
 
         self.assertEqual(self.counts(test)[0], 2)
 
+    def test_a_relay_that_was_let_go(self):
+        """What arrives behind a change touches nothing of it, and would have come to something else before it."""
+        def test(world):
+            request = world.service.request()
+            price = request.adopt(world.arrives(3, "price"))
+            world.at_end(lambda: seen.add(price.result()) or True, "seen")
+            return request.supply(lambda: price.complete(1))
+
+        seen = set()
+        self.assertTrue(orders(test).whole)
+        self.assertEqual(seen, {1, 3})
+
     def test_a_history_is_read_whole(self):
         def test(world):
             request = world.service.request()
