@@ -124,7 +124,8 @@ class Tree:
             firsts = self._firsts(place, last)
             node = stack[place]
             if not any(key in node.todo or key in node.sleep for key in firsts):
-                node.todo.update([key for key in firsts if key in node.keys][:1] or node.keys)
+                # (Where none is possible there, the later move waits for the earlier one, and there is no other order.)
+                node.todo.update([key for key in firsts if key in node.keys][:1])
 
     def _firsts(self, place: int, last: int) -> List[Move]:
         """What can come first of the moves behind a place that needn't come after it, and lead to the last one."""
