@@ -4,7 +4,6 @@ import concurrent.futures
 import threading
 from typing import Any, Callable, List, Optional, Sequence
 
-from ..service.history import describe_all
 from ..service.relays import is_relay
 from ..service.request import Request
 from ..service.stage import Stage
@@ -67,10 +66,7 @@ class Listening(State):
     def settled(self, stage: "Stage[Any]") -> None:
         """As `Watch.settled`."""
         self._news.append(self._place(stage))
-        if not stage.name.startswith("relay"):
-            error = None if stage.cancelled() else stage.exception(0)
-            self.told.append(f"{stage.name} " + ("is cancelled" if stage.cancelled() else "ends: " + describe_all(
-                stage.result(0) if error is None else error)))
+        self._settled.append(stage)
 
     def calls_back(self, stage: "Stage[Any]", calls: "List[Callback]", at_once: bool) -> None:
         """As `Watch.calls_back`. Within a function its own thread calls them, before it goes on."""

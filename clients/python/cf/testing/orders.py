@@ -108,7 +108,6 @@ def every_order(test: Optional[Callable[..., Any]] = None, **options: Any) -> An
 
     @functools.wraps(test)
     def runs(*given: Any, **named: Any) -> None:
-        __tracebackhide__ = True  # pytest shows the story alone
         report = orders(lambda made: tested(*given, **named, **{world.name: made}), **options)
         if report.failed or wants_whole and not report.whole:
             raise AssertionError(str(report))

@@ -80,11 +80,14 @@ class Run(Listening):
 
     def workers_free(self) -> int:
         """How many more functions may be claimed."""
-        busy = sum(flight.task is not None for flight in self.flights.values())
-        return self.settings.workers - busy if self.settings.workers else 1
+        if not self.settings.workers:
+            return 1
+        return self.settings.workers - sum(flight.task is not None for flight in self.flights.values())
 
     def _limits(self) -> List[Move]:
         """The next limit of each request, whose clock calls what one settles back before it looks at the next."""
+        if not self.timers:
+            return []
         if not self.settings.is_clock_free:
             self._passed += [timer for timer in self.timers if timer.is_lost()]
             self.timers = [timer for timer in self.timers if not timer.is_lost()]
@@ -102,7 +105,7 @@ class Run(Listening):
 
     def do(self, key: Move) -> Footprint:
         """Does a move, and answers what it touched."""
-        self._footprint, self.told = {}, []
+        self._footprint, self._settled = {}, []
         if key[0] in ("begin", "call", "end", "go"):
             self.touch(("flight", *key[1:]), CHANGES)
         elif key[0] == "choose":
@@ -311,6 +314,10 @@ class Run(Listening):
 
     # In words.
 
+    def told(self) -> List[str]:
+        """What the last move settled, but relays, whose futures are told."""
+        return [f"{stage.name} {_end_of(stage)}" for stage in self._settled if not stage.name.startswith("relay of ")]
+
     def text(self, key: Move) -> str:
         """What a move is called. It is asked before the move is done."""
         word = key[0]
@@ -342,6 +349,14 @@ class Run(Listening):
         task = self.flights[key[1:]].task if word == "end" else None
         return {"begin": f"{name} is claimed", "call": f"{name} is called",
                 "end": f"{name} returns" if task is None or task.error is None else f"{name} raises"}[word]
+
+
+def _end_of(stage: "Stage[Any]") -> str:
+    """What a settled stage came to."""
+    if stage.cancelled():
+        return "is cancelled"
+    error = stage.exception(0)
+    return f"ends: {describe_all(stage.result(0) if error is None else error)}"
 
 
 def _next_of(thing: Thing, flight: Flight) -> List[Move]:

@@ -57,14 +57,14 @@ class Runner:
                     told.append(Told(run.text(key), []))
                 footprint = run.do(key)
                 if tells:
-                    told[-1] = Told(told[-1].text, run.told)
+                    told[-1] = Told(told[-1].text, run.told())
                 self.moves += 1
                 if did is not None:
                     did(key, footprint)
         except Failed:
             how, why = FAILED, run.why
             if tells and told:
-                told[-1] = Told(told[-1].text, run.told)
+                told[-1] = Told(told[-1].text, run.told())
         finally:
             run.close()
         return Ran(how, run, row, why, told)

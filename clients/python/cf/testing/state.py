@@ -97,7 +97,6 @@ class State:
         self.loop: "Optional[WorldLoop]" = None
         self.weight = 1  # in how many ways workers could have been chosen
         self.why = ""  # it fails
-        self.told: List[str] = []  # what the last move settled
         self._footprint: Optional[Footprint] = None
         self._in_user = self._is_over = False
         self._nows: Dict[int, float] = {}
@@ -107,6 +106,7 @@ class State:
         self._stages: Dict[Place, Stage[Any]] = {}
         self._indices: Dict[int, int] = {}
         self._news: List[Place] = []
+        self._settled: List[Stage[Any]] = []  # by the last move
         self._calls: "List[Tuple[Move, Callback]]" = []
         self._home = threading.get_ident()
         self._carried = threading.local()
