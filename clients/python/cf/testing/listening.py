@@ -91,10 +91,13 @@ class Listening(State):
 
     def ready(self, task: Task) -> None:
         """As `Watch.ready`."""
+        self._news.append(self._put(task))
+
+    def _put(self, task: Task) -> Place:
         place = self._place(task.stage)
         self.ready_tasks[place] = task
         self.touch(place, CHANGES)
-        self._news.append(place)
+        return place
 
     def read(self, stage: "Stage[Any]") -> None:
         """As `Watch.read`."""

@@ -165,7 +165,7 @@ class Run(Listening):
         if len(self.tails) > tails:
             self.tails[tails].following = following
         else:
-            self.ready(following)
+            self._put(following)
 
     def _do_tell(self, request: int, stage: int, number: int) -> None:
         tail = next(tail for tail in self.tails if tail.calls[0][0][1:] == (request, stage, number))
@@ -178,7 +178,7 @@ class Run(Listening):
         if not tail.calls:
             self.tails.remove(tail)
             if tail.following is not None:
-                self.ready(tail.following)
+                self._put(tail.following)
 
     def _do_come(self, number: int, way: int) -> None:
         self.touch_outside(number, True)
