@@ -28,7 +28,7 @@ def orders(test: Test, *, most: int = 100_000, seconds: float = 10.0, row: Optio
     Args:
         test: Called with a `World`, once for each order, and each time to do the same. What it returns, a future or a
             list of futures, has to be settled in the end.
-        most: How many orders are tried at most.
+        most: How many orders are tried at most, those that are cut short among them.
         seconds: How long that may take. The order that is tried then ends first.
         row: An order that was told, which is tried alone.
         chance: How many orders are drawn, in place of all in turn.
