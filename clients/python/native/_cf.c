@@ -108,10 +108,11 @@ typedef struct {
   PyObject *call, *args, *kwargs, *callbacks, *condition, *waiters, *error;
 } Stage;
 
-/* The stages that an event settled and made ready, as lists through their rows. `error` is the one that stages time
- * out with by the next event, or have a bad answer with, as in their rows. */
-typedef struct { uint16_t settled, last_settled, ready, last_ready; uint32_t error; } News;
-static const News NO_NEWS = {NONE, NONE, NONE, NONE, 0};
+/* The stages that an event settled and made ready, as lists through their rows. `error` is the one that the stage
+ * `own` times out with by the next event, or has a bad answer with, as in its row. Those behind it take that of their
+ * first source that has one. */
+typedef struct { uint16_t settled, last_settled, ready, last_ready, own; uint32_t error; } News;
+static const News NO_NEWS = {NONE, NONE, NONE, NONE, NONE, 0};
 
 static PyObject *refused(uint32_t code) {
   if (code == CF_NO_MEMORY) return PyErr_NoMemory();
@@ -162,7 +163,9 @@ static void note(Request *self, size_t n, News *news) {
       row->told = changed[k].now.outcome;
       row->place = self->events;
       bool is_failed_as = row->told.kind == CF_TIMED_OUT || row->told.kind == CF_BAD_ANSWER;
-      if (is_failed_as) row->error = news->error ? news->error : error_of_sources(self, i, row->told.kind);
+      bool is_own = i == news->own && news->error;
+      uint32_t behind = is_failed_as && !is_own ? error_of_sources(self, i, row->told.kind) : 0;
+      if (is_failed_as) row->error = behind ? behind : news->error;
       row->next_settled = NONE;
       if (news->last_settled == NONE) news->settled = i; else self->rows[news->last_settled].next_settled = i;
       news->last_settled = i;
@@ -661,6 +664,7 @@ static PyObject *Request_change(Request *self, PyObject *const *args, Py_ssize_t
     else {
       low = PyErr_GivenExceptionMatches(args[3], self->state->bad_answer) ? BAD_ANSWER : 0;
       news.error = number + 1;
+      news.own = stage;
     }
   }
   bool runs = self->rows[stage].running && !self->rows[stage].told.kind;
@@ -729,6 +733,7 @@ static PyObject *call(Called *it, uint8_t form) {
 static int end(Request *self, uint16_t i, int who, uint64_t low, uint16_t *following) {
   News news = NO_NEWS;
   if (low >= LINKS) news.error = self->rows[low & 0xFFFF].error;  /* what it links to may have ended */
+  news.own = i;
   cf_reply reply;
   uint32_t code = apply(self, KIND(FINISH) | WHO(who) | OF(i) | low, &reply, &news);
   if (code) { refused(code); return -1; }

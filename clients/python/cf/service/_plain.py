@@ -331,7 +331,8 @@ class RequestCore:
 
     def _apply(self, word: int, news: _News, error: Optional[int] = None) -> "c.Array[c.c_uint32]":
         """Does the event of a word, shows what came of it, and adds that to the news. `error` is the number of the
-        exception that stages time out with by it, or have a bad answer with."""
+        exception that its stage times out with by it, or has a bad answer with. Those behind take that of their first
+        source that has one."""
         ledger, rows = self._ledger, self._rows
         ledger.apply(word)
         self._times.append(monotonic_ns())
@@ -341,7 +342,9 @@ class RequestCore:
             if kind == IS_SETTLED:
                 row.told, row.place = _told(changed.now), len(self._times)
                 if row.told.kind in FAILURES:
-                    row.error = self._error_of_sources(row, row.told.kind) if error is None else error
+                    is_own = error is not None and changed.stage == word >> 36 & 4095
+                    behind = None if is_own else self._error_of_sources(row, row.told.kind)
+                    row.error = error if behind is None else behind
                 stage, row.stage = row.stage, None
                 if stage is not None:
                     stage._publish(row.told)
