@@ -27,11 +27,11 @@ class Told:
 
     def __init__(self):
         self.wrong, self.counted, self.asked, self.orders, self.tried, self.programs, self.too_large = [], 0, 0, 0, 0, 0, 0
-        self.program_orders = self.program_tried = 0
+        self.program_orders = self.program_tried = self.whole = 0
 
     def __str__(self):
-        return (f"{self.asked} questions of {self.orders} orders have the same ends in {self.tried}, {self.counted} the same numbers of orders; "
-                f"{self.programs} programs of {self.program_orders} orders have the same ends in {self.program_tried}; {self.too_large} were "
+        return (f"{self.asked} questions of {self.orders} orders have the same ends in {self.tried}, {self.whole} of them whole; {self.counted} "
+                f"have the same numbers of orders; {self.programs} programs of {self.program_orders} orders have the same ends in {self.program_tried}; {self.too_large} were "
                 f"too large; {len(self.wrong)} otherwise")
 
 
@@ -40,8 +40,7 @@ def program(path):
     def explore(said):
         ran = subprocess.run([path, "explore", "--json"], input=json.dumps(said), stdout=subprocess.PIPE, stderr=subprocess.DEVNULL, encoding="utf-8")
         told = json.loads(ran.stdout)
-        assert told["whole"]
-        return {tuple(end["outcomes"][str(i)] for i in range(len(end["outcomes"]))): int(end["orders"]) for end in told["ends"]}
+        return None if not told["whole"] else {tuple(end["outcomes"][str(i)] for i in range(len(end["outcomes"]))): int(end["orders"]) for end in told["ends"]}
     return explore
 
 
@@ -210,22 +209,26 @@ class Asked:
 
 
 def compare(explore, said, name, most, told):
-    """Asks a question both ways."""
+    """Asks a question both ways. A search that doesn't end within its bounds must find no other ends."""
     wanted = explore(said)
+    if wanted is None:
+        told.too_large += 1
+        return
     count = sum(wanted.values())
 
-    options = {"free_clock": True, "failures": 10**9, "smaller": False, "seconds": 60, "most": 50_000,
+    options = {"free_clock": True, "failures": 10**9, "smaller": False, "seconds": 60, "most": 5 * most,
                "ends": lambda world: world.test.end()}
     told.asked += 1
     told.orders += count
     enough = said["workers"] >= len(said["stages"]) + said.get("room", 0)  # so that no function waits for a worker
     reduced = orders(lambda world: Asked(said, world, False) and None, workers=0 if enough else said["workers"], **options)
     told.tried += reduced.orders
-    if set(reduced.ends) != set(wanted) or not reduced.whole or reduced.failed:
+    told.whole += reduced.whole
+    if not set(reduced.ends) <= set(wanted) or reduced.whole and set(reduced.ends) != set(wanted) or reduced.failed:
         told.wrong.append(f"{name}: {len(reduced.ends)} ends, and {len(wanted)} are wanted\n{json.dumps(said)}")
     if count > most:
         return
-    plain = orders(lambda world: Asked(said, world, True) and None, workers=said["workers"], reduce=False, **options)
+    plain = orders(lambda world: Asked(said, world, True) and None, workers=said["workers"], reduce=False, **dict(options, most=10**9))
     told.counted += 1
     if plain.ends != wanted:
         told.wrong.append(f"{name}: it comes to {plain.ends}, and {wanted} is wanted\n{json.dumps(said)}")
