@@ -17,12 +17,13 @@ class Row(NamedTuple):
     name: str
     needs: Sequence[str]
     commands: Sequence[Sequence[str]]  # the last one's output is compared
-    prints: Optional[Tuple[str, str]] = None  # the folder, and the name in its README
+    prints: Optional[Tuple[str, str]] = None  # the page, or the folder of a README.md, and the name there
     is_shown: bool = False  # whether what it prints is shown, too, where it passes
 
 
 def blocks(folder: str) -> dict:
-    return dict(BLOCK.findall((TOP / folder / "README.md").read_text()))
+    """What programs print by a page, or by the README.md of a folder."""
+    return dict(BLOCK.findall((TOP / (folder if folder.endswith(".md") else folder + "/README.md")).read_text()))
 
 
 def rows_of_c(tools: Tools, made: Path) -> List[Row]:
@@ -57,6 +58,12 @@ def rows_of_python(tools: Tools, made: Path) -> List[Row]:
         Row("Python's example", ["library", "python3"], [[python, "clients/python/example.py"]], ("clients/python", "example.py")),
         Row("Python's first program", ["library", "python3"], [[python, "clients/python/first.py"]], ("clients/python", "first.py")),
         Row("Python's order of three processes", ["library", "python3"], [[python, "clients/python/order.py"]], ("clients/python", "order.py")),
+        Row("Python's order that charges twice", ["library", "python3"], [[python, "clients/python/twice.py"]], ("docs/TESTING.md", "twice.py")),
+        Row("Python's orders that charge once", ["library", "python3"], [[python, "clients/python/once.py"]], ("docs/TESTING.md", "once.py")),
+        Row("services of Python's in every order", ["library", "python3"],
+            [["env", "CF_NO_MODULE=1", python, "-m", "unittest", "discover", "-s", "clients/python/tests/testing"]]),
+        Row("random orders of Python's service beside explore", ["library", "python3", "cf_look"],
+            [["env", "CF_NO_MODULE=1", python, "conformance/clients/python-orders", "short", "0", "40", tools["cf_look"]]]),
         Row("Python's service by ctypes", ["library", "python3"],
             [["env", "CF_NO_MODULE=1", "CF_REQUESTS=2000", python, "-m", "unittest", "discover", "-s", "clients/python/tests/service"]]),
         Row("Python's service over the C module, installed", ["library", builds],

@@ -38,8 +38,8 @@ def wrong(row: Row, environment: dict) -> str:
     folder, name = row.prints
     wanted = blocks(folder).get(name)
     if wanted is None:
-        return f"{folder}/README.md has no block of what `{name}` prints"
-    return "\n".join(difflib.unified_diff(wanted.splitlines(), output.splitlines(), folder + "/README.md", "printed", lineterm=""))
+        return f"{folder} has no block of what `{name}` prints"
+    return "\n".join(difflib.unified_diff(wanted.splitlines(), output.splitlines(), folder, "printed", lineterm=""))
 
 
 class Counts:

@@ -94,6 +94,7 @@ typedef struct {
   Row *rows;
   Event *done;
   PyObject *works, *title, *keeps, *values, *errors, *weak;
+  PyTypeObject *stage_type;  /* the class of its futures, if that isn't the one in use */
   Plan *plan;
 } Request;
 
@@ -107,10 +108,11 @@ typedef struct {
   PyObject *call, *args, *kwargs, *callbacks, *condition, *waiters, *error;
 } Stage;
 
-/* The stages that an event settled and made ready, as lists through their rows. `error` is the one that stages time
- * out with by the next event, or have a bad answer with, as in their rows. */
-typedef struct { uint16_t settled, last_settled, ready, last_ready; uint32_t error; } News;
-static const News NO_NEWS = {NONE, NONE, NONE, NONE, 0};
+/* The stages that an event settled and made ready, as lists through their rows. `error` is the one that the stage
+ * `own` times out with by the next event, or has a bad answer with, as in its row. Those behind it take that of their
+ * first source that has one. */
+typedef struct { uint16_t settled, last_settled, ready, last_ready, own; uint32_t error; } News;
+static const News NO_NEWS = {NONE, NONE, NONE, NONE, NONE, 0};
 
 static PyObject *refused(uint32_t code) {
   if (code == CF_NO_MEMORY) return PyErr_NoMemory();
@@ -161,7 +163,9 @@ static void note(Request *self, size_t n, News *news) {
       row->told = changed[k].now.outcome;
       row->place = self->events;
       bool is_failed_as = row->told.kind == CF_TIMED_OUT || row->told.kind == CF_BAD_ANSWER;
-      if (is_failed_as) row->error = news->error ? news->error : error_of_sources(self, i, row->told.kind);
+      bool is_own = i == news->own && news->error;
+      uint32_t behind = is_failed_as && !is_own ? error_of_sources(self, i, row->told.kind) : 0;
+      if (is_failed_as) row->error = behind ? behind : news->error;
       row->next_settled = NONE;
       if (news->last_settled == NONE) news->settled = i; else self->rows[news->last_settled].next_settled = i;
       news->last_settled = i;
@@ -280,8 +284,9 @@ static PyObject *name_of(State *state, PyObject *call) {
 
 static Stage *new_stage(Request *request, uint16_t number) {
   State *state = request->state;
-  if (!state->stage_type) return (Stage *)PyErr_Format(PyExc_RuntimeError, "no class of stages is in use");
-  Stage *stage = (Stage *)PyType_GenericAlloc(state->stage_type, 0);
+  PyTypeObject *type = request->stage_type ? request->stage_type : state->stage_type;
+  if (!type) return (Stage *)PyErr_Format(PyExc_RuntimeError, "no class of stages is in use");
+  Stage *stage = (Stage *)PyType_GenericAlloc(type, 0);
   if (!stage) return NULL;
   Py_INCREF(state->module);
   stage->state = state;
@@ -472,10 +477,18 @@ static PyObject *Request_new(PyTypeObject *type, PyObject *Py_UNUSED(args), PyOb
 }
 
 static int Request_init(Request *self, PyObject *args, PyObject *kwargs) {
-  PyObject *works, *title, *keeps = Py_None, *plan = Py_None;
+  PyObject *works, *title, *keeps = Py_None, *plan = Py_None, *stage_class = Py_None;
   unsigned int room;
-  if (!PyArg_ParseTuple(args, "OOI|OO", &works, &title, &room, &keeps, &plan)) return -1;
+  if (!PyArg_ParseTuple(args, "OOI|OOO", &works, &title, &room, &keeps, &plan, &stage_class)) return -1;
   if (self->rows) { PyErr_SetString(PyExc_TypeError, "a request is opened once"); return -1; }
+  if (stage_class != Py_None) {
+    if (!PyType_Check(stage_class) || !PyType_IsSubtype((PyTypeObject *)stage_class, self->state->stage_core)) {
+      PyErr_SetString(PyExc_TypeError, "no class of stages");
+      return -1;
+    }
+    Py_INCREF(stage_class);
+    Py_XSETREF(self->stage_type, (PyTypeObject *)stage_class);
+  }
   if (plan != Py_None) {
     if (!PyObject_TypeCheck(plan, self->state->plan_core)) { PyErr_SetString(PyExc_TypeError, "no plan"); return -1; }
     Py_INCREF(plan);
@@ -507,6 +520,7 @@ static int Request_traverse(Request *self, visitproc visit, void *arg) {
   Py_VISIT(self->state->module);
   for (uint32_t i = 0; i < self->stages; i++) Py_VISIT(self->rows[i].stage);
   Py_VISIT(self->works); Py_VISIT(self->keeps); Py_VISIT(self->values); Py_VISIT(self->errors); Py_VISIT(self->plan);
+  Py_VISIT(self->stage_type);
   return 0;
 }
 
@@ -524,7 +538,7 @@ static void Request_dealloc(Request *self) {
   if (self->weak) PyObject_ClearWeakRefs((PyObject *)self);
   Request_clear(self);
   for (uint32_t i = 0; i < self->stages; i++) Py_CLEAR(self->rows[i].name);
-  Py_CLEAR(self->values); Py_CLEAR(self->errors); Py_CLEAR(self->title);
+  Py_CLEAR(self->values); Py_CLEAR(self->errors); Py_CLEAR(self->title); Py_CLEAR(self->stage_type);
   cf_free(&self->ledger);
   PyMem_Free(self->rows); PyMem_Free(self->done);
   type->tp_free((PyObject *)self);
@@ -650,6 +664,7 @@ static PyObject *Request_change(Request *self, PyObject *const *args, Py_ssize_t
     else {
       low = PyErr_GivenExceptionMatches(args[3], self->state->bad_answer) ? BAD_ANSWER : 0;
       news.error = number + 1;
+      news.own = stage;
     }
   }
   bool runs = self->rows[stage].running && !self->rows[stage].told.kind;
@@ -718,6 +733,7 @@ static PyObject *call(Called *it, uint8_t form) {
 static int end(Request *self, uint16_t i, int who, uint64_t low, uint16_t *following) {
   News news = NO_NEWS;
   if (low >= LINKS) news.error = self->rows[low & 0xFFFF].error;  /* what it links to may have ended */
+  news.own = i;
   cf_reply reply;
   uint32_t code = apply(self, KIND(FINISH) | WHO(who) | OF(i) | low, &reply, &news);
   if (code) { refused(code); return -1; }

@@ -48,7 +48,7 @@ def main(made):
     wanted = told(made, python, first)
     if told(made, python, first, CF_NO_MODULE="1") != wanted:
         raise SystemExit("installed.py: by ctypes the first program prints otherwise")
-    for tests in ("tests/service", "tests"):
+    for tests in ("tests/service", "tests/testing", "tests"):
         told(made, python, "-m", "unittest", "discover", "-s", CLIENT / tests, CF_INSTALLED="1")
     print(wheel.name, "is installed and runs")
 

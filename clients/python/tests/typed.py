@@ -5,7 +5,7 @@ each remark is needed.
     mypy --strict clients/python/cf clients/python/tests/typed.py
 
 It is read and not run. `python3 clients/python/tests/typed.py` says which public function or method, and which
-attribute of a class that cf, cf.service or cf.shared exports, has its type left out, which mypy may guess and pyright
+attribute of a class that cf, cf.service, cf.shared or cf.testing exports, has its type left out, which mypy may guess and pyright
 reports.
 """
 import ast
@@ -19,6 +19,7 @@ if TYPE_CHECKING:
     import cf
     from cf.service import (Flow, History, LoopService, Request, RequestFull, Service, Stage, describe_nothing,
                             describe_types)
+    from cf.testing import Arrival, Failure, Report, World, orders, pure, touches
 
     def load(number: int) -> str: ...
 
@@ -74,6 +75,24 @@ if TYPE_CHECKING:
         service.request("r", describe=len)  # type: ignore[arg-type]
         service.request("r", describe="types")  # type: ignore[arg-type]
         print(requests)
+
+    def checkout(world: World) -> "Stage[int]":
+        typed_charges: List[int] = []
+        price: Arrival[int] = world.arrives(4900, "price", or_fails=OSError())
+        paid = world.service.request("order 17").adopt(price).then(pure(lambda cents: cents + 1)).or_timeout(2)
+        world.calls(paid.cancel, lambda: typed_charges.append(1), name="the client")
+        world.check(lambda: len(typed_charges) <= 1, "charged at most once")
+        world.calls("paid.cancel")  # type: ignore[arg-type]
+        world.check(True, "charged")  # type: ignore[arg-type]
+        return paid
+
+    def tries() -> None:
+        found: Report = orders(checkout, seconds=2, seed=3)
+        told: List[Failure] = found.failed
+        rows: List[str] = [failure.row for failure in told]
+        many: int = orders(checkout, row=rows[0]).orders
+        orders(checkout, chance="many")  # type: ignore[arg-type]
+        print(many, touches("cache")(size)("x"))
 
     def ledgers(plan: cf.Plan) -> None:
         typed_ledger = cf.Ledger(plan, room=2)

@@ -9,7 +9,8 @@ from .loop import LoopService
 from .request import Request
 from .service import Service
 from .stage import Stage
+from .watch import Watch
 from .words import RequestFull
 
-__all__ = ["Flow", "History", "LoopService", "Request", "RequestFull", "Service", "Stage", "Step", "describe_all",
-           "describe_nothing", "describe_types"]
+__all__ = ["Flow", "History", "LoopService", "Request", "RequestFull", "Service", "Stage", "Step", "Watch",
+           "describe_all", "describe_nothing", "describe_types"]

@@ -305,11 +305,12 @@ class RequestCore:
     """A ledger, and the objects that it knows by numbers."""
 
     __slots__ = ("_works", "_title", "_keeps", "_plan", "_lock", "_ledger", "_rows", "_room", "_values", "_errors",
-                 "_times", "_replies", "__weakref__")
+                 "_times", "_replies", "_stage_class", "__weakref__")
 
-    def __init__(self, works: "Works", title: str, room: int, keeps: object = None,
-                 plan: Optional[PlanCore] = None) -> None:
+    def __init__(self, works: "Works", title: str, room: int, keeps: object = None, plan: Optional[PlanCore] = None,
+                 stage_class: "Optional[Type[Stage[Any]]]" = None) -> None:
         self._works, self._title, self._keeps, self._plan = works, title, keeps, plan
+        self._stage_class: "Type[Stage[Any]]" = stage_class or _classes["stage"]
         self._lock: "threading.Lock | _Parents" = threading.Lock()
         self._rows: List[_Row] = [] if plan is None else [_Row(form, of, name) for form, of, _, name in plan.rows]
         for row, (kind, told) in zip(self._rows, () if plan is None else plan.start):
@@ -330,7 +331,8 @@ class RequestCore:
 
     def _apply(self, word: int, news: _News, error: Optional[int] = None) -> "c.Array[c.c_uint32]":
         """Does the event of a word, shows what came of it, and adds that to the news. `error` is the number of the
-        exception that stages time out with by it, or have a bad answer with."""
+        exception that its stage times out with by it, or has a bad answer with. Those behind take that of their first
+        source that has one."""
         ledger, rows = self._ledger, self._rows
         ledger.apply(word)
         self._times.append(monotonic_ns())
@@ -340,7 +342,9 @@ class RequestCore:
             if kind == IS_SETTLED:
                 row.told, row.place = _told(changed.now), len(self._times)
                 if row.told.kind in FAILURES:
-                    row.error = self._error_of_sources(row, row.told.kind) if error is None else error
+                    is_own = error is not None and changed.stage == word >> 36 & 4095
+                    behind = None if is_own else self._error_of_sources(row, row.told.kind)
+                    row.error = error if behind is None else behind
                 stage, row.stage = row.stage, None
                 if stage is not None:
                     stage._publish(row.told)
@@ -388,8 +392,7 @@ class RequestCore:
         if any(source is not None and source.request is not self for source in (first, second)):
             raise TypeError("no stage of this request")
         known = name if name is not None else name_of(call)
-        kind: "Type[Stage[Any]]" = _classes["stage"]
-        stage, news = kind(self, 0), _News([], [])
+        stage, news = self._stage_class(self, 0), _News([], [])
         if call is not None:
             stage._call, stage._given = call, (args or (), kwargs or {})
         with self._lock:
@@ -506,7 +509,7 @@ class RequestCore:
         row = self._rows[number]
         if row.stage is not None:
             return row.stage
-        stage: "Stage[Any]" = _classes["stage"](self, number)
+        stage = self._stage_class(self, number)
         if self._plan is not None and number < len(self._plan.rows):
             stage._call = self._plan.rows[number][2]
         if row.told.kind != PENDING:

@@ -6,7 +6,7 @@ import functools
 import inspect
 import itertools
 from types import FunctionType
-from typing import Any, Awaitable, Callable, Dict, List, Optional, Set, Tuple, cast
+from typing import Any, Awaitable, Callable, Dict, List, Optional, Set, Tuple, Type, cast
 
 from ._core import RequestCore
 from .flow import Flow
@@ -14,6 +14,7 @@ from .history import Describe, describe_all
 from .request import Request
 from .service import ROOM
 from .stage import Stage
+from .watch import Watch, WatchedRequest
 from .words import COMPOSE_FORMS, FIRST_WORKER, GIVES, THROWS, name_of
 
 
@@ -36,19 +37,22 @@ class LoopService:
 
     Args:
         loop: The loop that calls the functions, and whose clock is the clock.
-        describe: As of `Service`."""
+        describe: As of `Service`.
+        watch: Who is told of all that is done to stages, as of `Service`. The loop runs the functions and is the clock."""
 
-    def __init__(self, loop: asyncio.AbstractEventLoop, *, describe: Describe = describe_all) -> None:
-        self._works = _LoopWorks(loop, describe)
+    def __init__(self, loop: asyncio.AbstractEventLoop, *, describe: Describe = describe_all,
+                 watch: Optional[Watch] = None) -> None:
+        self._works = _LoopWorks(loop, describe, watch)
+        self._kind: Type[_Request] = _Request if watch is None else _WatchedRequest
         self._requests = itertools.count()
 
     def request(self, name: str = "", room: int = ROOM, *, describe: Optional[Describe] = None) -> Request:
         """As `Service.request`."""
-        return _Request(self._works, name or f"request {next(self._requests)}", room, self)._describing(describe)
+        return self._kind(self._works, name or f"request {next(self._requests)}", room, self)._describing(describe)
 
     def start(self, flow: Flow, *given: Any, name: str = "", describe: Optional[Describe] = None) -> Request:
         """As `Service.start`."""
-        return flow._start(_Request, self._works, name or f"{flow.name} {next(self._requests)}", self,
+        return flow._start(self._kind, self._works, name or f"{flow.name} {next(self._requests)}", self,
                            given)._describing(describe)
 
 
@@ -72,6 +76,10 @@ class _Request(Request):
                                    kwargs, known)
 
 
+class _WatchedRequest(WatchedRequest, _Request):
+    """One that tells a watch what is done to it."""
+
+
 class _Within(functools.partial):  # type: ignore[type-arg]
     """The `run` of a context with the function that it is to call."""
 
@@ -81,8 +89,8 @@ class _Within(functools.partial):  # type: ignore[type-arg]
 class _LoopWorks:
     """What `Works` is to a request."""
 
-    def __init__(self, loop: asyncio.AbstractEventLoop, describe: Describe) -> None:
-        self._loop, self.describe = loop, describe
+    def __init__(self, loop: asyncio.AbstractEventLoop, describe: Describe, watch: Optional[Watch] = None) -> None:
+        self._loop, self.describe, self.watch = loop, describe, watch
         self._tasks: "Set[asyncio.Task[None]]" = set()
 
     @property

@@ -96,6 +96,16 @@ class _Row:
         _drain(relays, future)
 
 
+def is_relay(call: object) -> bool:
+    """Whether a callback hands an outcome on to relays."""
+    return isinstance(call, _Row)
+
+
+def is_release(call: object) -> bool:
+    """Whether a callback only lets go of a relay."""
+    return getattr(call, "__func__", None) is _Link.release
+
+
 class _Handing(threading.local):
     """What this thread is about to hand over. What comes up within that waits its turn, so chains of any length need
     no stack."""

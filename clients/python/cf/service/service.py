@@ -3,12 +3,13 @@ import concurrent.futures
 import itertools
 import os
 import weakref
-from typing import TYPE_CHECKING, Any, Callable, Optional, Tuple, TypeVar
+from typing import TYPE_CHECKING, Any, Callable, Optional, Tuple, Type, TypeVar, Union
 
 from .flow import Flow
 from .history import Describe, describe_all
 from .request import Request
 from .stage import Stage
+from .watch import Watch, WatchedRequest, WatchedWorks
 from .works import Works
 from ..values import Form
 
@@ -39,6 +40,8 @@ class Service(concurrent.futures.Executor):
             `cf.shared.DurableService`.
         describe: What histories tell of values and exceptions: `describe_all`, `describe_types`, `describe_nothing`, or
             another function that makes a text of one.
+        watch: Who runs the functions, keeps the time and is told of all that is done to stages, in the place of threads
+            and a clock: a `Watch` of watch.py, as `cf.testing` has one.
 
     Raises:
         ValueError: `max_workers` isn't above 0.
@@ -61,16 +64,22 @@ class Service(concurrent.futures.Executor):
 
     def __init__(self, max_workers: Optional[int] = None, thread_name_prefix: str = "",
                  initializer: Optional[Callable[..., object]] = None, initargs: Tuple[Any, ...] = (), *,
-                 store: "Optional[Store]" = None, describe: Describe = describe_all) -> None:
+                 store: "Optional[Store]" = None, describe: Describe = describe_all,
+                 watch: Optional[Watch] = None) -> None:
         workers = min(32, (os.cpu_count() or 1) + 4) if max_workers is None else max_workers
         if workers <= 0:
             raise ValueError("max_workers must be greater than 0")
         if initializer is not None and not callable(initializer):
             raise TypeError("initializer must be a callable")
         number = next(self._services)
+        self._requests = itertools.count()
+        self._kind: Type[Request] = Request
+        self._works: Union[Works, WatchedWorks]
+        if watch is not None:
+            self._works, self._kind = WatchedWorks(watch, describe), WatchedRequest
+            return
         self._works = Works(workers, thread_name_prefix or f"{type(self).__name__}-{number}", initializer, initargs,
                             describe)
-        self._requests = itertools.count()
         weakref.finalize(self, self._works.close)
 
     def request(self, name: str = "", room: int = ROOM, *, describe: Optional[Describe] = None) -> Request:
@@ -81,7 +90,7 @@ class Service(concurrent.futures.Executor):
             room: A guess how many stages it will have. One that grows beyond that does all its events again a few
                 times.
             describe: What its histories tell of values and exceptions, in place of what the service chose."""
-        return Request(self._works, name or f"request {next(self._requests)}", room, self)._describing(describe)
+        return self._kind(self._works, name or f"request {next(self._requests)}", room, self)._describing(describe)
 
     def start(self, flow: Flow, *given: Any, name: str = "", describe: Optional[Describe] = None) -> Request:
         """Begins a request of a flow's stages, and comes back at once. Threads run what becomes ready. Further stages
@@ -98,7 +107,7 @@ class Service(concurrent.futures.Executor):
 
         Raises:
             ValueError: More values are given than there are promises."""
-        return flow._start(Request, self._works, name or f"{flow.name} {next(self._requests)}", self,
+        return flow._start(self._kind, self._works, name or f"{flow.name} {next(self._requests)}", self,
                            given)._describing(describe)
 
     def submit(self, fn: Callable[..., T], /, *args: Any, **kwargs: Any) -> "Stage[T]":
@@ -115,7 +124,8 @@ class Service(concurrent.futures.Executor):
         works = self._works
         if works.closed:
             raise works.refusal()
-        stage: Stage[T] = Request(works, "", 1)._attach(Form.SUPPLY, None, None, fn, args or None, kwargs or None, None)
+        request = self._kind(works, "", 1)
+        stage: Stage[T] = request._attach(Form.SUPPLY, None, None, fn, args or None, kwargs or None, None)
         return stage
 
     def shutdown(self, wait: bool = True, *, cancel_futures: bool = False) -> None:

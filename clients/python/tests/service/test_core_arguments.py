@@ -107,7 +107,9 @@ class CoreArguments(CoreCase):
                      lambda: core._begin(None, 3), lambda: core._end(core_stage, 3, 3, other),
                      lambda: core._change(COMPLETE, 0, "x", 1), lambda: core._set_running(other),
                      lambda: core._work(None),
-                     lambda: _core.RequestCore(), lambda: _core.RequestCore(1, 2, 3, 4, 5, 6))
+                     lambda: _core.RequestCore(), lambda: _core.RequestCore(1, 2, 3, 4, 5, 6),
+                     lambda: _core.RequestCore(None, "", 1, None, None, 7),
+                     lambda: _core.RequestCore(None, "", 1, None, None, int))
         self.fits(core)
 
     def test_classes_in_use(self):

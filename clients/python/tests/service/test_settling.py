@@ -3,12 +3,18 @@
 
     CF_LIBRARY=/path/to/libcf.so python3 clients/python/tests/service/test_settling.py [-v] [TEST ..]
 """
+import functools
 import threading
 import unittest
 from concurrent.futures import InvalidStateError
 
 from case import Case, CoreCase, Oops
 from cf.service._core import IS_MODULE
+from cf.testing import orders
+
+
+def outcome_of(stage):
+    return "cancelled" if stage.cancelled() else stage.result() if stage.exception() is None else "late"
 
 
 class Settling(Case):
@@ -35,6 +41,30 @@ class Settling(Case):
         self.assertTrue(running.cancelled())
         self.service.shutdown()
         self.assertIn("too late", str(self.request.history()))
+
+    def test_one_settles_in_every_order(self):
+        """A function, a limit and three callers: the first settles the stage, and `cancel` does nothing while the
+        function runs."""
+        def test(world):
+            ran, told = [], []
+            stage = world.service.request("r").supply(ran.append, 1).or_timeout(1)
+
+            def cancel():
+                runs = stage.running()
+                told.append(not (stage.cancel() and runs))
+
+            world.calls(functools.partial(stage.complete, 2))
+            world.calls(cancel)
+            world.calls(stage.abandon)
+            world.at_end(lambda: all(told), "no cancel while the function runs")
+            world.at_end(lambda: seen.add((outcome_of(stage), bool(ran))) or True, "seen")
+            return stage
+
+        seen = set()
+        report = orders(test)
+        self.assertEqual((report.whole, list(map(str, report.failed))), (True, []))
+        self.assertEqual(seen, {("cancelled", False), ("cancelled", True), (2, False), (2, True), (None, True), ("late", False),
+                                ("late", True)})
 
     def test_promise_of_somebody_else(self):
         settling = self.request.promise()

@@ -121,6 +121,16 @@ class Causes(Case):
         self.assertEqual((before["cf"], json.loads(late_history.account())["plan"]["cf"]), (2, 2))
         self.assertEqual(cf.run_script(late_history.script()), late_history.report())
 
+    def test_of_two_that_timed_out_the_first_argument_is_told(self):
+        """Whichever of them timed out last."""
+        for order in ((0, 1), (1, 0)):
+            both = [self.request.promise("one"), self.request.promise("two")]
+            behind = [self.request.all_of(*both), both[0].combine(both[1], max)]
+            for number in order:
+                both[number].or_timeout(0)
+                self.assertIsInstance(both[number].exception(20), TimeoutError)
+            self.assertEqual([stage.exception(20) for stage in behind], [both[0].exception()] * 2)
+
     def test_a_bad_answer_is_told_as_one(self):
         timed, bad = self.service.request("r"), cf.BadAnswer("x")
         late_stage = timed.promise("p")

@@ -5,12 +5,14 @@ settle.
     CF_LIBRARY=/path/to/libcf.so python3 clients/python/tests/service/test_waiting.py [-v] [TEST ..]
 """
 import concurrent.futures
+import functools
 import threading
 import time
 import unittest
 
 from case import Case, CoreCase, Oops
 from cf.service._core import IS_MODULE
+from cf.testing import orders
 
 
 class Waiting(Case):
@@ -43,14 +45,19 @@ class Waiting(Case):
             self.assertEqual(len(woken), 4)
             self.assertIn(set(), woken)
 
-    def test_all_of_waits_for_all(self):
-        for _ in range(200):
-            a, b = self.service.request().promise(), self.service.request().promise()
-            threading.Thread(target=lambda: a.complete(1)).start()
-            threading.Thread(target=lambda: b.complete(1)).start()
-            done = concurrent.futures.wait([a, b], 10)
-            self.assertFalse(done.not_done)
-            self.assertTrue(a.done() and b.done())
+    def test_all_are_waited_for_in_every_order(self):
+        """Two stages are completed by two callers, before, while and after somebody begins to wait for both."""
+        def test(world):
+            awaited = [world.service.request(name).promise() for name in ("one", "two")]
+            for stage in awaited:
+                world.calls(functools.partial(stage.complete, 1))
+            world.point()
+            done = concurrent.futures.wait(awaited)
+            self.assertEqual((done.done, done.not_done), (set(awaited), set()))
+            self.assertTrue(all(stage.done() for stage in awaited))
+        report = orders(test)
+        self.assertEqual((report.whole, list(map(str, report.failed))), (True, []))
+        self.assertGreater(report.orders, 3)
 
 
 class WaitersThatRaise(CoreCase):

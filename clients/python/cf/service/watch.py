@@ -1,0 +1,369 @@
+"""A service that somebody else runs, move by move, and that tells all that is done to its stages.
+
+`Service(watch=..)` and `LoopService(.., watch=..)` take a `Watch`. It stands in the place of the threads and the clock: it
+decides when a ready function is claimed, called and finished, when a callback is called and when a limit passes. It is
+told of each event and of each read, and whatever would wait asks it to. `cf.testing` tries all orders so.
+
+All methods of a watch are called on the thread that makes the change, reads or waits. Nothing here has a lock of its own,
+so one thread at a time may be within a service that is watched.
+"""
+import concurrent.futures
+import functools
+from array import array
+from typing import Any, Callable, Dict, List, Optional, Protocol, Sequence, Tuple, TypeVar, cast
+
+from ._core import be
+from .history import Describe, History
+from .relays import Hold, is_relay, is_release
+from .request import Request
+from .stage import Stage
+from .words import CANCEL, COMPOSE_FORMS, GIVES, LINKS, THROWS
+
+T = TypeVar("T")
+
+
+class Watch(Protocol):
+    """Who runs a service, and is told what is done to its stages."""
+
+    @property
+    def busy(self) -> bool:
+        """Whether a function is ready or runs."""
+
+    def now(self, request: Request) -> float:
+        """The seconds that have passed for a request. Its history has them."""
+
+    def opened(self, request: Request) -> None:
+        """A request was opened."""
+
+    def attached(self, stage: "Stage[Any]", of: "Sequence[Stage[Any]]") -> None:
+        """A stage was attached behind others."""
+
+    def changed(self, stage: "Stage[Any]", did: bool) -> None:
+        """Somebody wanted to settle a stage, and did or was too late."""
+
+    def claimed(self, stage: "Stage[Any]") -> None:
+        """Somebody wanted to run a stage's function."""
+
+    def finished(self, stage: "Stage[Any]", to: "Optional[Stage[Any]]") -> None:
+        """A stage's function has ended; the stage waits for another one, if that is given."""
+
+    def settled(self, stage: "Stage[Any]") -> None:
+        """A stage was settled by the event that is told next."""
+
+    def calls_back(self, stage: "Stage[Any]", calls: "List[Callback]", at_once: bool) -> None:
+        """The callbacks of a settled stage are to be called, one after another; here and now if they have to."""
+
+    def ready(self, task: "Task") -> None:
+        """A stage's function is ready to be run."""
+
+    def read(self, stage: "Stage[Any]") -> None:
+        """Somebody looks at a stage."""
+
+    def linked(self, relay: "Stage[Any]", future: "concurrent.futures.Future[Any]") -> None:
+        """A stage is to end as a future does that stands elsewhere."""
+
+    def looked(self, request: Request) -> None:
+        """Somebody looks at all that happened to a request."""
+
+    def limit(self, stage: "Stage[Any]", seconds: float, act: Callable[[], object]) -> None:
+        """A stage gets a time limit, after which something is to be done."""
+
+    def wait(self, stages: "Sequence[Stage[Any]]", is_over: Callable[[], bool], timeout: Optional[float]) -> None:
+        """Comes back once something is so, which stages decide, or so many seconds have passed."""
+
+
+class Callback:
+    """A callback of a stage. `is_relay` says that it is the layer's own, and hands the outcome on to other requests."""
+
+    def __init__(self, stage: "Stage[Any]", fn: Callable[[Any], object]) -> None:
+        self.stage, self.fn, self.is_relay = stage, fn, is_relay(fn)
+
+    def __call__(self) -> None:
+        self.fn(self.stage)
+
+
+class Task:
+    """A stage that is ready, which is run in three steps: `claim`, `call`, `finish`."""
+
+    def __init__(self, stage: "Stage[Any]") -> None:
+        self.stage: "Stage[Any]" = stage
+        self.fn: Optional[Callable[..., Any]] = None  # once it is claimed
+        self.error: Optional[BaseException] = None  # what the function raised
+        self._who, self._kind = 0, GIVES
+        self._given: Any = None
+        self._args: Tuple[Tuple[Any, ...], Dict[str, Any]] = ((), {})
+
+    def claim(self, who: int) -> bool:
+        """Claims it for a caller, whose number histories tell, and says whether the function is to be called."""
+        begun = self.stage.request._begin(self.stage, who)
+        if begun is None:
+            return False
+        self._who, self.fn, self._args = who, begun[0], begun[1:]
+        return True
+
+    def call(self, leaves: Tuple[type, ...] = ()) -> None:
+        """Calls the function, and keeps what it returns or raises. Only what `leaves` names is raised."""
+        assert self.fn is not None
+        be(self._who)
+        try:
+            args, kwargs = self._args
+            self._given = self.fn(*args, **kwargs)
+        except BaseException as error:
+            if isinstance(error, leaves):
+                raise
+            self._kind, self._given, self.error = THROWS, error, error
+        finally:
+            be(0)
+
+    def finish(self) -> "Optional[Task]":
+        """Finishes the stage. A stage that became ready by that, which is run once the callbacks were called."""
+        stage, request = self.stage, self.stage.request
+        if self._kind == GIVES and stage._form in COMPOSE_FORMS:
+            following = request._link(stage, self._who, self._given)
+        else:
+            following = request._end(stage, self._who, self._kind, self._given)
+        return None if following is None else Task(following)
+
+
+class WatchedWorks:
+    """What `Works` is to a request, where a watch runs the service."""
+
+    def __init__(self, watch: Watch, describe: Describe) -> None:
+        self.watch, self.describe, self.closed = watch, describe, False
+
+    @property
+    def clock(self) -> Any:
+        raise RuntimeError("limits are told to the watch")
+
+    def refusal(self) -> RuntimeError:
+        return RuntimeError("cannot schedule new futures after shutdown")
+
+    def put(self, stage: "Stage[Any]") -> bool:
+        if self.closed and not self.watch.busy:
+            return False
+        self.watch.ready(Task(stage))
+        return True
+
+    def close(self) -> None:
+        self.closed = True
+
+    def cancel_all(self) -> None:
+        """What is ready is told as any other change."""
+
+    def join(self) -> None:
+        self.watch.wait((), lambda: not self.watch.busy, None)
+
+
+class WatchedRequest(Request):
+    """A request that tells a watch what is done to it."""
+
+    def __init__(self, works: Any, title: str, room: int, keeps: object = None, plan: Any = None) -> None:
+        super().__init__(works, title, room, keeps, plan, WatchedStage)
+        self._moments = array("q")
+        works.watch.opened(self)
+
+    @property
+    def watch(self) -> Watch:
+        """Who is told."""
+        return cast(WatchedWorks, self._works).watch
+
+    @property
+    def _is_on_loop(self) -> bool:
+        return not isinstance(self._works, WatchedWorks)
+
+    def history(self) -> History:
+        self.watch.looked(self)
+        return super().history()
+
+    def _facts(self) -> Any:
+        words, _, *others = super()._facts()
+        return (words, self._moments[:], *others)
+
+    def _stamp(self, events: int) -> None:
+        moment = int(self.watch.now(self) * 1e9)
+        self._moments.extend([moment] * events)
+
+    def _open(self) -> None:
+        for number in range(self._stages):
+            _meet(self._stage(number))
+        plan = self._plan
+        for number, (_, of, _, _) in enumerate([] if plan is None else plan.rows):
+            self.watch.attached(self._stage(number), [self._stage(source) for source in of])
+        super()._open()
+
+    def _attach(self, form: int, first: "Optional[Stage[Any]]", second: "Optional[Stage[Any]]",
+                call: Optional[Callable[..., Any]], args: Optional[Tuple[Any, ...]], kwargs: Optional[Dict[str, Any]],
+                name: Optional[str]) -> "Stage[Any]":
+        stage = super()._attach(form, first, second, call, args, kwargs, name)
+        if form in COMPOSE_FORMS:
+            self._stamp(1)
+            _meet(self._stage(stage.number - 1))
+            self.watch.attached(self._stage(stage.number - 1), ())
+        self._stamp(1)
+        _meet(stage)
+        self.watch.attached(stage, [source for source in (first, second) if source is not None])
+        return stage
+
+    def _change(self, kind: int, who: int, stage: "int | Stage[Any]", given: Any) -> bool:
+        its = self._stage(stage) if isinstance(stage, int) else stage
+        self.watch.read(its)
+        refused = kind == CANCEL and given is True and its.running()
+        did = super()._change(kind, who, stage, given)
+        self._stamp(not refused)
+        self.watch.changed(its, did)
+        return did
+
+    def _begin(self, stage: "Stage[Any]", who: int) -> Any:
+        begun = super()._begin(stage, who)
+        self._stamp(1)
+        self.watch.claimed(stage)
+        return begun
+
+    def _end(self, stage: "Stage[Any]", who: int, kind: int, given: Any) -> "Optional[Stage[Any]]":
+        following = super()._end(stage, who, kind, given)
+        self._stamp(1)
+        self.watch.finished(stage, given if kind == LINKS else None)
+        return following
+
+    def _relay_of(self, future: "concurrent.futures.Future[T]", holds: List[Hold]) -> "Stage[T]":
+        relay = super()._relay_of(future, holds)
+        if relay is not future:
+            self.watch.linked(relay, future)
+        return relay
+
+    def _follow(self, stage: "Stage[Any]", relay: "Stage[Any]", to: "concurrent.futures.Future[Any]") -> None:
+        super()._follow(stage, relay, to)
+        self.watch.linked(relay, to)
+
+    def _later(self, stage: "Stage[T]", seconds: float, act: Callable[[], object]) -> "Stage[T]":
+        if self._is_on_loop or seconds != seconds:
+            return super()._later(stage, seconds, act)
+        if seconds != float("inf") and not stage.done():
+            self.watch.limit(stage, seconds, act)
+        return stage
+
+
+class WatchedStage(Stage[T]):
+    """A stage that tells a watch who reads it and who waits for it."""
+
+    _calls: List[Callable[[Any], object]]
+
+    def done(self) -> bool:
+        _watch_of(self).read(self)
+        return super().done()
+
+    def cancelled(self) -> bool:
+        _watch_of(self).read(self)
+        return super().cancelled()
+
+    def running(self) -> bool:
+        _watch_of(self).read(self)
+        return super().running()
+
+    def result(self, timeout: Optional[float] = None) -> T:
+        self._awaited(timeout)
+        return super().result(0)
+
+    def exception(self, timeout: Optional[float] = None) -> Optional[BaseException]:
+        self._awaited(timeout)
+        return super().exception(0)
+
+    def add_done_callback(self, fn: Callable[[Any], object]) -> None:
+        watch = _watch_of(self)
+        watch.read(self)
+        if not is_settled(self):
+            _meet(self)
+            self._calls.append(fn)
+        elif not is_release(fn):
+            watch.calls_back(self, [Callback(self, fn)], True)
+
+    def _awaited(self, timeout: Optional[float]) -> None:
+        watch = _watch_of(self)
+        watch.read(self)
+        if not is_settled(self) and timeout != 0:
+            watch.wait((self,), functools.partial(is_settled, self), timeout)
+
+    # What `concurrent.futures.wait` and `as_completed` wait by.
+
+    @property
+    def _waiters(self) -> Any:
+        waiting: _Waiters = self.__dict__.setdefault("_waiting", _Waiters(self))
+        return waiting
+
+    @_waiters.setter
+    def _waiters(self, _: object) -> None:
+        """(`concurrent.futures` makes a list of its own.)"""
+
+    @property
+    def _condition(self) -> Any:
+        _watch_of(self).read(self)
+        return super()._condition
+
+    @_condition.setter
+    def _condition(self, condition: Any) -> None:
+        super(WatchedStage, type(self))._condition.__set__(self, condition)  # type: ignore[attr-defined]
+
+
+class _Waiters(List[Any]):
+    """Those who wait for a stage by an event, which is the watch's."""
+
+    def __init__(self, stage: "Stage[Any]") -> None:
+        super().__init__()
+        self._stage = stage
+
+    def append(self, waiter: Any) -> None:
+        _watch_of(self._stage).read(self._stage)
+        if not isinstance(waiter.event, _Event):
+            waiter.event = _Event(_watch_of(self._stage), waiter.event.is_set())
+        waiter.event.stages.append(self._stage)
+        super().append(waiter)
+
+
+class _Event:
+    """A `threading.Event` that asks a watch to wait."""
+
+    def __init__(self, watch: Watch, is_set: bool) -> None:
+        self._watch, self._is_set = watch, is_set
+        self.stages: "List[Stage[Any]]" = []
+
+    def is_set(self) -> bool:
+        return self._is_set
+
+    def set(self) -> None:
+        self._is_set = True
+
+    def clear(self) -> None:
+        self._is_set = False
+
+    def wait(self, timeout: Optional[float] = None) -> bool:
+        if not self._is_set and timeout != 0:
+            self._watch.wait(tuple(self.stages), self.is_set, timeout)
+        return self._is_set
+
+
+def is_settled(stage: "Stage[Any]") -> bool:
+    """Whether a stage is settled, which no watch is told of."""
+    return super(WatchedStage, stage).done() if isinstance(stage, WatchedStage) else stage.done()
+
+
+def _watch_of(stage: "Stage[Any]") -> Watch:
+    return cast(WatchedRequest, stage.request).watch
+
+
+def _meet(stage: "Stage[Any]") -> None:
+    """Sees to it that a stage tells when it is settled."""
+    if "_calls" not in stage.__dict__:
+        stage.__dict__["_calls"] = []
+        if not is_settled(stage):
+            super(WatchedStage, cast("WatchedStage[Any]", stage)).add_done_callback(_tell)
+
+
+def _tell(stage: Any) -> None:
+    watch = _watch_of(stage)
+    watch.settled(stage)
+    calls, stage.__dict__["_calls"] = stage.__dict__["_calls"], []
+    for call in filter(is_release, calls):
+        call(stage)
+    told = [Callback(stage, call) for call in calls if not is_release(call)]
+    if told:
+        watch.calls_back(stage, told, cast(WatchedRequest, stage.request)._is_on_loop)

@@ -1,0 +1,117 @@
+"""Runs a test in every order."""
+import functools
+import inspect
+import time
+from typing import Any, Callable, Hashable, Optional
+
+from .chance import Chance
+from .report import Report, moves_of
+from .runner import FAILED, Runner, failure_of
+from .search import Tree
+from .smaller import Smaller, pairs_of
+from .state import NeedsThreads, Settings
+from .world import World
+
+AT_FIRST = 100  # orders in turn, before some by chance
+PART = 10  # one of so many is by chance, and so much of the time
+MOST_TOLD = 20  # failures that are made smaller
+
+Test = Callable[[World], Any]
+
+
+def orders(test: Test, *, most: int = 100_000, seconds: float = 10.0, row: Optional[str] = None, chance: int = 0,
+           seed: int = 0, failures: int = 1, workers: int = 0, fine: bool = False, reduce: bool = True,
+           smaller: bool = True, free_clock: bool = False,
+           ends: Optional[Callable[[World], Hashable]] = None) -> Report:
+    """Runs a test in every order, until one fails.
+
+    Args:
+        test: Called with a `World`, once for each order, and each time to do the same. What it returns, a future or a
+            list of futures, has to be settled in the end.
+        most: How many orders are tried at most, those that are cut short among them.
+        seconds: How long that may take. The order that is tried then ends first.
+        row: An order that was told, which is tried alone.
+        chance: How many orders are drawn, in place of all in turn.
+        seed: What these depend on.
+        failures: How many orders may fail before the search ends.
+        workers: How many functions may go on at the same time. With 0 any number.
+        fine: Whether a function lets others go on at each change that it makes to a stage.
+        reduce: Whether orders that can come to nothing else are left out.
+        smaller: Whether orders that fail are made smaller, and the moves are named that decide.
+        free_clock: Whether limits need not pass, as in `cf_look explore`.
+        ends: What an end is, for `Report.ends`.
+
+    Returns:
+        What was found. A fault in the test itself is an order that fails.
+
+    Raises:
+        NotDeterministic: The test did other things with the same choices."""
+    settings = Settings(workers, free_clock, fine, reduce, fine)
+    began = time.perf_counter()
+    try:
+        report = _searched(Runner(test, settings), most, began + seconds, row, chance, seed, failures, reduce, smaller, ends)
+    except NeedsThreads:
+        runner = Runner(test, settings._replace(has_threads=True))
+        report = _searched(runner, most, began + seconds, row, chance, seed, failures, reduce, smaller, ends)
+    report.seconds = time.perf_counter() - began
+    return report
+
+
+def _searched(runner: Runner, most: int, until: float, row: Optional[str], chance: int, seed: int, failures: int,
+              reduce: bool, smaller: bool, ends: Optional[Callable[[World], Hashable]]) -> Report:
+    report = Report()
+    if row is not None:
+        ran = runner.again(moves_of(row))
+        report.orders = 1
+        if ran.how == FAILED:
+            report.failed.append(failure_of(ran))
+            report.failed[0].pairs = pairs_of(runner, report.failed[0])
+        return report
+    if chance:
+        Chance(runner, report, seed).go(chance, until, failures)
+    else:
+        _all(runner, report, most, until, failures, Tree(runner, report, ends, reduce), seed)
+    report.failed = [failure_of(runner.again(failure.moves)) for failure in report.failed]
+    if smaller:
+        report.failed = [Smaller(runner, failure).go() for failure in report.failed[:MOST_TOLD]]
+        for failure in report.failed:
+            failure.pairs = pairs_of(runner, failure)
+    report.moves = runner.moves
+    return report
+
+
+def _all(runner: Runner, report: Report, most: int, until: float, failures: int, tree: Tree, seed: int) -> None:
+    """Some orders in turn, and if these aren't all, some by chance: what needs the last of many to come first is met late
+    by the search in turn, and soon by chance."""
+    at_first = min(AT_FIRST, most)
+    tree.go(at_first, until, failures)
+    if report.whole or report.failed or most <= at_first:
+        return
+    part = time.perf_counter() + (until - time.perf_counter()) / PART
+    Chance(runner, report, seed).go(most // PART, part, failures)
+    tree.go(most - report.by_chance - at_first, until, failures)
+
+
+def every_order(test: Optional[Callable[..., Any]] = None, **options: Any) -> Any:
+    """Makes a test of pytest or unittest that is run in every order, and fails with the story of the first order that fails.
+
+    Args:
+        test: A function whose last parameter is a `World`. What stands before it, such as `self` or fixtures of pytest, it
+            is given as any test is.
+        options: As of `orders`. With `whole=True` it fails, too, where not all orders could be tried."""
+    if test is None:
+        return functools.partial(every_order, **options)
+    tested: Callable[..., Any] = test
+    signature = inspect.signature(tested)
+    *others, world = signature.parameters.values()
+    wants_whole = options.pop("whole", False)
+
+    @functools.wraps(test)
+    def runs(*given: Any, **named: Any) -> None:
+        report = orders(lambda made: tested(*given, **named, **{world.name: made}), **options)
+        if report.failed or wants_whole and not report.whole:
+            raise AssertionError(str(report))
+
+    del runs.__wrapped__  # type: ignore[attr-defined]
+    runs.__signature__ = signature.replace(parameters=others)  # type: ignore[attr-defined]
+    return runs

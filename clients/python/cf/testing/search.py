@@ -1,0 +1,154 @@
+"""All orders, but those that can come to nothing else.
+
+The search is stateless: each order is a run from the start. It goes through a tree of moves, depth first, of which it has
+the path to the last run. What is left out stands on what moves touched (footprints.py):
+
+- *Races.* Two moves of a run race if they touch the same thing, and nothing between them makes them wait for one another. At
+  the earlier one a move is added that leads to the other order, unless one of those that do so is there already (source
+  sets). What no race asks for isn't tried.
+- *Sleep sets.* A move that was tried at a place isn't tried again behind a sibling that is independent of it.
+- A move that takes another one away races with it, though that one was never made: both are tried.
+
+A workers' bound makes moves wait for one another in ways that races don't see; sleep sets alone are used then."""
+import time
+from typing import Any, Callable, Dict, Hashable, List, Optional, Set
+
+from .footprints import ALL, CHANGES, CHECKED, Footprint, Move, independent
+from .report import Report, row_of
+from .runner import CUT, FAILED, NotDeterministic, Ran, Runner, failure_of
+
+
+class _Node:
+    """A place in the path: the moves that were possible, and those that were or are to be tried."""
+
+    __slots__ = ("keys", "sleep", "done", "chosen", "footprint", "todo", "before")
+
+    def __init__(self, keys: List[Move], sleep: Dict[Move, Footprint], chosen: Move) -> None:
+        self.keys, self.sleep, self.chosen = keys, sleep, chosen
+        self.done: Dict[Move, Footprint] = {}
+        self.footprint: Optional[Footprint] = None
+        self.todo: Set[Move] = {chosen}
+        self.before = 0  # the places of the moves that this one has to come after, as bits
+
+
+class Tree:
+    """A search that can be stopped and gone on with."""
+
+    def __init__(self, runner: Runner, report: Report, ends: Optional[Callable[[Any], Hashable]], reduces: bool) -> None:
+        self.runner, self.report, self._ends, self._reduces = runner, report, ends, reduces
+        self._races = reduces and not runner.settings.workers
+        self._stack: List[_Node] = []
+        self._sleep: Dict[Move, Footprint] = {}
+        self._place = self._runs = 0
+        self._watched = 0
+
+    def go(self, runs: int, until: float, failures: int) -> None:
+        """So many runs more, until all is seen, the moment comes, or so many orders have failed."""
+        report = self.report
+        while runs > 0 and not report.whole and len(report.failed) < failures and time.perf_counter() < until:
+            runs -= 1
+            self._place = 0
+            self._sleep = {}
+            ran = self.runner.go(self._chooses, self._did)
+            if len(self.runner.watched) > self._watched and self._reduces and ran.run.checks:
+                self._begin_anew()
+                continue
+            self._count(ran)
+            self._turn()
+
+    def _begin_anew(self) -> None:
+        """Checks have looked at something new, so what moves touched before isn't known whole."""
+        self._watched = len(self.runner.watched)
+        self._stack = []
+
+    def _count(self, ran: Ran) -> None:
+        report = self.report
+        if ran.how == CUT:
+            report.cut += 1
+            return
+        report.orders += 1
+        self._runs += 1
+        if self._runs & (self._runs - 1) == 0:  # the first, second, fourth, eighth ..
+            self.runner.same(ran)
+        if ran.how == FAILED:
+            if self._stack and self._stack[-1].footprint is None:
+                self._stack[-1].footprint = {ALL: CHANGES}
+            report.failed.append(failure_of(ran))
+        elif self._ends is not None:
+            end = self._ends(ran.run.world)
+            report.ends[end] = report.ends.get(end, 0) + ran.run.weight
+
+    # One run.
+
+    def _chooses(self, depth: int, keys: List[Move]) -> Optional[Move]:
+        stack = self._stack
+        if self._races and depth and depth == len(stack):
+            last = stack[-1]
+            last.todo.update(key for key in last.keys if key != last.chosen and key not in keys)
+        if depth < len(stack):
+            if stack[depth].keys != keys:
+                raise NotDeterministic(f"after the moves\n    {row_of([node.chosen for node in stack[:depth]])}\nthere "
+                                       f"were\n    {row_of(stack[depth].keys)}\nbefore, and now\n    {row_of(keys)}")
+            return stack[depth].chosen
+        chosen = next((key for key in keys if key not in self._sleep), None)
+        if chosen is not None:
+            stack.append(_Node(keys, dict(self._sleep), chosen))
+        return chosen
+
+    def _did(self, key: Move, footprint: Footprint) -> None:
+        node = self._stack[self._place]
+        self._place += 1
+        if self._place < len(self._stack):
+            if {**(node.footprint or {}), CHECKED: ""} != {**footprint, CHECKED: ""}:  # (checks may look at more by now)
+                raise NotDeterministic(f"at the end of\n    {row_of([it.chosen for it in self._stack[:self._place]])}\n"
+                                       f"it touched {node.footprint} before, and now {footprint}")
+            return
+        if self._races:
+            self._race(footprint)
+        node.footprint = footprint
+        if self._reduces:
+            known = (*node.sleep.items(), *node.done.items())
+            self._sleep = {other: touched for other, touched in known if other != key and independent(touched, footprint)}
+
+    def _race(self, footprint: Footprint) -> None:
+        """Finds with which moves before the last one races, and has the other orders tried, too."""
+        stack = self._stack
+        last, before = len(stack) - 1, 0
+        racing = []
+        for place in range(last - 1, -1, -1):
+            if not before >> place & 1 and not independent(stack[place].footprint or {}, footprint):
+                before |= stack[place].before | 1 << place
+                racing.append(place)
+        stack[last].before = before
+        for place in racing:
+            firsts = self._firsts(place, last)
+            node = stack[place]
+            if not any(key in node.todo or key in node.sleep for key in firsts):
+                # (Where none is possible there, the later move waits for the earlier one, and there is no other order.)
+                node.todo.update([key for key in firsts if key in node.keys][:1])
+
+    def _firsts(self, place: int, last: int) -> List[Move]:
+        """What can come first of the moves behind a place that needn't come after it, and lead to the last one."""
+        stack, inside = self._stack, 0
+        firsts = []
+        for each in [k for k in range(place + 1, last) if not stack[k].before >> place & 1] + [last]:
+            own = stack[each].before & ~(stack[place].before | 1 << place) if each == last else stack[each].before
+            if not own & inside:
+                firsts.append(stack[each].chosen)
+            inside |= 1 << each
+        return firsts
+
+    def _turn(self) -> None:
+        """Goes back to the last place at which another move is to be tried."""
+        stack = self._stack
+        while stack:
+            node = stack[-1]
+            node.done[node.chosen] = node.footprint or {ALL: CHANGES}
+            left = [key for key in node.keys if key not in node.done and key not in node.sleep]
+            following = next((key for key in left if not self._races or key in node.todo), None)
+            if following is not None:
+                node.chosen, node.footprint = following, None
+                return
+            self.report.left_out += len(node.keys) - len(node.done)
+            stack.pop()
+        self.report.whole = True
