@@ -17,8 +17,8 @@ OWN = ("same-origin", "none")  # what Sec-Fetch-Site says of requests that peopl
 COMMON = {"X-Content-Type-Options": "nosniff", "Referrer-Policy": "no-referrer", "Cache-Control": "no-store",
           "Cross-Origin-Opener-Policy": "same-origin", "Cross-Origin-Resource-Policy": "same-origin"}
 NOTHING = "default-src 'none'; base-uri 'none'; form-action 'none'; frame-ancestors 'none'"
-AROUND = ("default-src 'none'; script-src {}; style-src {}; connect-src 'self'; frame-src 'self'; base-uri 'none'; "
-          "form-action 'none'; frame-ancestors 'none'")
+AROUND = ("default-src 'none'; script-src {}; style-src {}; connect-src 'self'; frame-src 'self'; img-src data:; "
+          "base-uri 'none'; form-action 'none'; frame-ancestors 'none'")
 # A picture has an origin of its own, so that even a script that got into it could ask for nothing here.
 WITHIN = ("sandbox allow-scripts; default-src 'none'; script-src {}; style-src 'unsafe-inline'; base-uri 'none'; "
           "form-action 'none'; frame-ancestors 'self'")
