@@ -83,7 +83,7 @@ def seen_of(view: RowView, now: float, before: Optional[Seen]) -> Seen:
         [Claim(stage, str(view.said(stage)["name"]), session, known.get((stage, session), now))
          for stage, session in claims],
         [Queue(*said, many, lasting.get(said, now)) for said, many in sorted(functions.items())[:MOST_TOLD]],
-        max([0, *(_tries(view, number) for number in order[:1])]), now)
+        max([0, *(_tries(view, number) for number in order[:1])]), now if view.seen else view.opened.opened)
 
 
 def _called(view: RowView, stage: int) -> Tuple[str, int]:

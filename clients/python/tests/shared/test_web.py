@@ -288,6 +288,11 @@ class Hostile(WebCase):
         self.assertIn("frame-ancestors 'self'", policy)
         self.assertNotIn("allow-same-origin", policy)
         self.assertEqual(len(json.loads(Path(self.folder.name, "account").read_text())["events"]), 1)
+        program.write_text("#!/bin/sh\ncat > /dev/null; printf '<html lang=en><script>run()</script>'\n")
+        service.request("r").promise()
+        for theme, wanted in (("dark", b'<html data-theme="dark" lang=en>'), ('"><b>', b"<html lang=en>")):
+            asked = urlencode({"name": "r", "number": 0, "theme": theme})
+            self.assertEqual(self.ask("GET", "/picture?" + asked)[2], wanted + b"<script>run()</script>")
         program.write_text("#!/bin/sh\nexit 1\n")
         service.request("r").promise()
         self.assertEqual(self.ask("GET", "/picture?" + urlencode({"name": "r", "number": 0}))[0], 500)

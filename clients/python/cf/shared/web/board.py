@@ -242,10 +242,9 @@ class Board:
         self.readings.forget(name)
 
     def _take_ends(self, ends: Dict[str, int]) -> bool:
+        """Notices what is new in requests that are known. (Others come with the next list of all.)"""
+        now = time.monotonic()
         with self._change:
-            if any(name not in self._lines for name in ends):
-                self._next_overview = 0.0
-            now = time.monotonic()
             return any([self._grow(self._lines[name], many, now) for name, many in ends.items()
                         if name in self._lines])
 
@@ -299,8 +298,7 @@ class Board:
         return read_any
 
     def _rests(self, name: str, now: float) -> bool:
-        line = self._lines[name]
-        return line.glanced < 0 or now - line.changed > RESTED
+        return now - self._lines[name].changed > RESTED
 
     def _read(self, name: str, keeps: bool) -> bool:
         line = self._lines.get(name)

@@ -231,7 +231,10 @@ class Handler(BaseHTTPRequestHandler):
                 raise
             self._say(500, TEXTS["no_picture"].format(error))
             return
-        self._send(200, "text/html", picture.text, WITHIN.format(" ".join(picture.scripts) or "'none'"))
+        # (as the page's own button does it)
+        theme = given.get("theme", "") if given.get("theme") in ("light", "dark") else ""
+        text = picture.text.replace(b"<html ", f'<html data-theme="{theme}" '.encode(), 1) if theme else picture.text
+        self._send(200, "text/html", text, WITHIN.format(" ".join(picture.scripts) or "'none'"))
 
     # Changes.
 

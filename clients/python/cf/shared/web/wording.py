@@ -81,7 +81,7 @@ PAGE: Dict[str, Any] = {
     "openStages": "Stages that aren't settled", "noOpen": "All stages are settled.", "moreStages": "and {0} more",
     "history": "What happened", "older": "Older", "newest": "Newest", "events": "{0} to {1} of {2}",
     "payload": "payload", "payloadOf": "The payload of word {0}, {1} bytes", "cut": "Only its beginning is shown.",
-    "picture": "The graph", "follow": "Follow", "fresher": "Show what is new",
+    "picture": "The graph", "follow": "Follow the graph", "fresher": "Draw what is new",
     "noPicture": "The program cf_look isn't there, so there is no picture of the graph. --cf-look says where it is.",
     "words": "{0} words", "opened": "opened {0} ago", "behind": "behind {0}", "back": "Requests",
     "keys": "Keys", "close": "Close", "theme": "Light or dark", "readOnly": "read only",
