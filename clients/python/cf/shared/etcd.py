@@ -14,6 +14,7 @@ from .rows import (HEAD, Entry, Glance, Gone, Listed, Open, Opened, Put, Store, 
 
 MOST_ENTRIES = 40  # in a put: a transaction of etcd has 128 operations at most by default
 MOST_READS = 100  # of keys, in a transaction
+MOST_GLANCES = 60  # in a transaction: each is two comparisons
 SECONDS = 3  # for an answer
 
 
@@ -293,10 +294,19 @@ class Etcd(Store):
                                         flow_of(str(said["plan"])[:HEAD]))
 
     def keep_glances(self, glances: Sequence[Glance]) -> None:
+        for k in range(0, len(glances), MOST_GLANCES):
+            some = glances[k:k + MOST_GLANCES]
+            if not self._keep(some) and len(some) > 1:  # one of the requests isn't open any more
+                for it in some:
+                    self._keep([it])
+
+    def _keep(self, glances: Sequence[Glance]) -> bool:
+        are_so: List[Any] = []
         for it in glances:
-            value = json.dumps([it.number, it.words, it.said]).encode()
             is_open = {"key": _b64(_key("o", it.request)), "target": "VERSION", "result": "GREATER", "version": 0}
-            self._txn([self._is_there(it.request, str(it.number)), is_open], [_put(_key("g", it.request), value)])
+            are_so += [self._is_there(it.request, str(it.number)), is_open]
+        puts = [_put(_key("g", it.request), json.dumps([it.number, it.words, it.said]).encode()) for it in glances]
+        return bool(self._txn(are_so, puts).get("succeeded"))
 
     def words_put(self) -> Optional[int]:
         return int(self._post("/v3/kv/range", _range(b"cf/w/", b"cf/w0", count_only=True)).get("count", 0))
