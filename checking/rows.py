@@ -161,6 +161,8 @@ def rows(tools: Tools, made: Path) -> List[Row]:
         Row("words, streams and pipes of cf", ["cf"], [["sweeps/words", tools["cf"]]]),
         Row("inputs of all sizes in ample memory", ["cf", "cf_look"], [["sweeps/sizes", "short", tools["cf"], tools["cf_look"]]]),
         Row("pages in a browser", ["cf_look", browser], [[tools[browser], "conformance/programs/pages", "short", tools["cf_look"]]]),
+        Row("the page of a store in a browser", ["library", "cf_look", browser],
+            [[tools[browser], "conformance/stores/page", "short", tools["cf_look"]]]),
         *rows_of_python(tools, made),
         *rows_of_requests(tools, made),
         *rows_of_rust(tools, made),

@@ -7,24 +7,36 @@
     end NAME [--cancel]         closes it, also one that is broken, so that workers look at it no more; with --cancel
                                 its stages are cancelled first
     drop --days N [NAME ..]     forgets those that were closed more than N days ago, or of these names; prints how many
+    serve [--port N] ..         all of that in a browser, at the address that it prints, until SIGTERM or SIGINT; a store
+                                that doesn't answer is waited for. With --read-only nothing can be changed there.
+                                `serve --help` has more
 
 Status 0, 1 where a request isn't there or is broken, 2 where the words or the address are wrong. Nothing runs here.
 """
 import argparse
+import getpass
+import logging
+import shutil
 import subprocess
 import sys
+import threading
+from pathlib import Path
 from typing import Any, List, Optional
+from urllib.parse import urlsplit
 
 from .service.words import CANCEL, IS_CLAIMED, IS_PENDING, IS_READY
 from .shared import Broken, RowView, Json, Store, StoreError, Unknown, connect, new_session
 from .shared.rows import Gone
 
 MOST_NAMED = 3  # stages that a line of the list names
+LEAST_TOKEN = 20  # characters
 
 
 def main(words: Optional[List[str]] = None) -> int:
     """Runs a command."""
     at = _parser().parse_args(words)
+    if at.command == "serve":
+        return _serve(at)
     try:
         store = connect(at.store)
     except (ValueError, StoreError, Unknown) as error:
@@ -54,7 +66,67 @@ def _parser() -> argparse.ArgumentParser:
     end.add_argument("--cancel", action="store_true")
     drop.add_argument("names", nargs="*", metavar="name")
     drop.add_argument("--days", type=float, required=True)
+    serve = commands.add_parser("serve")
+    serve.add_argument("--port", type=int, default=0, help="by default one that is free")
+    serve.add_argument("--listen", default="127.0.0.1", metavar="HOST", help="by default this machine alone")
+    serve.add_argument("--name", action="append", default=[], help="another name that browsers may call it by")
+    serve.add_argument("--read-only", action="store_true", help="nothing can be changed")
+    serve.add_argument("--who", default="", help="what the history calls who acts, unless they say otherwise")
+    serve.add_argument("--token-file", type=Path, help="has the token of the address, in place of one by chance")
+    serve.add_argument("--cf-look", metavar="PROGRAM", help="draws the graph; by default cf_look, if it is on the path")
+    serve.add_argument("--lease", type=float, default=10,
+                       help="after how many seconds without a sign of life a process is gone")
     return parser
+
+
+def _serve(at: argparse.Namespace) -> int:
+    """Shows the requests in a browser, until the process is told to end."""
+    from .shared.web.server import Server
+    from .shared.web.wording import TEXTS
+    from .shared.worker import told_to_end
+    from .worker import reached
+
+    logging.basicConfig(level=logging.WARNING, format="%(asctime)s %(name)s %(message)s")
+    ends = told_to_end()
+    cf_look = shutil.which(at.cf_look or "cf_look")
+    try:
+        if at.cf_look and cf_look is None:
+            raise ValueError(f"there is no program {at.cf_look}")
+        token = at.token_file.read_text(encoding="utf-8").strip() if at.token_file else None
+        if token is not None and len(token) < LEAST_TOKEN:
+            raise ValueError(f"{at.token_file}: a token has {LEAST_TOKEN} characters at least")
+        store = reached(at.store, ends)
+        if store is None:
+            return 0
+        title = _without_secrets(at.store)
+        server = Server(store, at.listen, at.port, names=tuple(at.name), token=token, is_read_only=at.read_only,
+                        who=at.who or _user(), cf_look=cf_look, lease=at.lease, title=title)
+    except (ValueError, StoreError, OSError, OverflowError) as error:
+        print(f"cf.requests: {error}", file=sys.stderr)
+        return 2
+    if at.listen not in ("127.0.0.1", "::1", "localhost"):
+        print("cf.requests: " + TEXTS["all_may"].format(at.listen), file=sys.stderr)
+    print(TEXTS["address"].format(title, server.address), flush=True)
+    serving = threading.Thread(target=server.serve_forever, name="cf-serve", daemon=True)
+    serving.start()
+    ends.wait()
+    server.shutdown()
+    server.server_close()
+    store.close()
+    return 0
+
+
+def _without_secrets(address: str) -> str:
+    """The address of a store without the user's name and password."""
+    parts = urlsplit(address)
+    return f"{parts.scheme}://{parts.netloc.rpartition('@')[2]}{parts.path}"
+
+
+def _user() -> str:
+    try:
+        return getpass.getuser()
+    except Exception:  # nobody is known by this number
+        return ""
 
 
 def _view(store: Store, name: str) -> RowView:

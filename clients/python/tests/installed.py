@@ -44,6 +44,7 @@ def main(made):
     way = told(made, python, "-c", "from cf.service._core import IS_MODULE; print(IS_MODULE)").strip()
     if way != "True":
         raise SystemExit("installed.py: the wheel has no C module")
+    told(made, python, "-c", "from cf.shared.web.server import Page; Page()")  # (page.html is there, too)
     first = shutil.copy(str(CLIENT / "first.py"), str(made))  # (beside it the package of the tree would be found)
     wanted = told(made, python, first)
     if told(made, python, first, CF_NO_MODULE="1") != wanted:

@@ -172,7 +172,7 @@ class History:
     def sentence(self, entry: Entry) -> str:
         """Who did what, and what it was answered."""
         event, reply = entry.event, entry.reply
-        who = self.caller(event.who)
+        who = self._who(entry)
         if isinstance(event, Attach):
             behind = " behind " + " and ".join(map(self.stage, event.of)) if event.of else ""
             return f"{who} attaches {self.stage(reply[NUMBER])}, {FORMS[event.form]}{behind}"
@@ -201,6 +201,10 @@ class History:
     def caller(self, who: int) -> str:
         """What a caller is called."""
         return CALLERS.get(who, f"worker {who - FIRST_WORKER}")
+
+    def _who(self, entry: Entry) -> str:
+        """What the caller of an event is called."""
+        return self.caller(entry.event.who)
 
     def stage(self, number: int) -> str:
         """Number and name of a stage."""

@@ -9,9 +9,12 @@ import weakref
 from typing import Any, Dict, List, Optional, Sequence, Tuple
 from urllib.parse import quote, unquote
 
-from .rows import Entry, Gone, Listed, Opened, Put, Store, StoreError, Timer, Unknown, in_a_row
+from .rows import (HEAD, Entry, Glance, Gone, Listed, Open, Opened, Put, Store, StoreError, Timer, Unknown, flow_of,
+                   in_a_row)
 
 MOST_ENTRIES = 40  # in a put: a transaction of etcd has 128 operations at most by default
+MOST_READS = 100  # of keys, in a transaction
+MOST_GLANCES = 60  # in a transaction: each is two comparisons
 SECONDS = 3  # for an answer
 
 
@@ -24,6 +27,8 @@ class Etcd(Store):
         self._turn = 0
         # the revisions in which requests were opened, which tell one from another of its name
         self._born: Dict[str, str] = {}
+        # of open requests, by the revision of the key that says so: what of them doesn't change
+        self._heads: Dict[Tuple[str, str], Tuple[int, float, str]] = {}
         self._made: "weakref.WeakSet[http.client.HTTPConnection]" = weakref.WeakSet()
         self._get(b"cf/r/", keys_only=True)  # whether a majority answers
 
@@ -125,6 +130,7 @@ class Etcd(Store):
                           {"key": _b64(key), "target": "VALUE", "value": _b64(b"%d" % at)}],
                          [{"request_delete_range": {"key": _b64(key)}},
                           {"request_delete_range": _range(timers, _after(timers))},
+                          {"request_delete_range": _range(_key("g", name))},
                           _put(_key("c", name), json.dumps([time.time(), at]).encode())])
         if not told.get("succeeded") and self._is_dropped(name, revision):
             raise self._gone(name)
@@ -145,7 +151,8 @@ class Etcd(Store):
 
     def drop(self, name: str, at: Optional[int] = None) -> bool:
         ranges = [_range(key, _after(key))
-                  for key in (_key(kind, name) + b"/" for kind in "wpt")] + [_range(_key(kind, name)) for kind in "roc"]
+                  for key in (_key(kind, name) + b"/" for kind in "wptn")]
+        ranges += [_range(_key(kind, name)) for kind in "rocg"]
         revision = self._revision(name)
         row = self._row("w", name, revision)
         is_so = [] if at is None else [_absent(_key("o", name)), _absent(_place(row, at))]
@@ -244,7 +251,67 @@ class Etcd(Store):
         return {int(base64.b64decode(it["key"])[5:], 16): int(it["version"]) for it in told}
 
     def drop_beat(self, session: int) -> None:
-        self._post("/v3/kv/deleterange", {"key": _b64(b"cf/b/%010x" % session)})
+        self._txn([], [{"request_delete_range": _range(b"cf/%s/%010x" % (kind, session))} for kind in (b"b", b"s")])
+
+    def name_session(self, session: int, said: str, request: str = "", number: int = 0) -> None:
+        if not request:
+            self._post("/v3/kv/put", {"key": _b64(b"cf/s/%010x" % session), "value": _b64(said.encode())})
+            return
+        revision = str(number or self._revision(request))
+        key = self._row("n", request, revision) + b"%010x" % session
+        if not self._txn([self._is_there(request, revision)], [_put(key, said.encode())]).get("succeeded"):
+            raise self._gone(request)
+
+    def session_names(self, request: str = "", number: int = 0) -> Dict[int, str]:
+        prefix = self._row("n", request, str(number or self._revision(request))) if request else b"cf/s/"
+        return {int(key[len(prefix):], 16): value.decode() for key, value in self._get(prefix, _after(prefix))}
+
+    # What lists ask for.
+
+    def overview(self) -> List[Open]:
+        told = self._post("/v3/kv/range", _range(b"cf/o/", b"cf/o0")).get("kvs", [])
+        ends = {(_name(base64.b64decode(it["key"])), it["create_revision"]): int(base64.b64decode(it["value"]))
+                for it in told}
+        self._heads = {key: it for key, it in self._heads.items() if key in ends}
+        self._read_heads([key for key in ends if key not in self._heads])
+        glances = {}
+        for key, value in self._get(b"cf/g/", b"cf/g0"):
+            number, words, said = json.loads(value)
+            glances[_name(key), number] = Glance(_name(key), number, words, said)
+        opened = [(name, words, *self._heads[name, born]) for (name, born), words in ends.items()
+                  if (name, born) in self._heads]
+        return [Open(name, number, at, words, flow, glances.get((name, number)))
+                for name, words, number, at, flow in opened]
+
+    def _read_heads(self, keys: List[Tuple[str, str]]) -> None:
+        for k in range(0, len(keys), MOST_READS):
+            some = keys[k:k + MOST_READS]
+            told = self._txn([], [{"request_range": _range(_key("r", name))} for name, _ in some])
+            for key, it in zip(some, told.get("responses", [])):
+                for found in it["response_range"].get("kvs", []):
+                    said = json.loads(base64.b64decode(found["value"]))
+                    self._heads[key] = (int(found["create_revision"]), float(said["opened"]),
+                                        flow_of(str(said["plan"])[:HEAD]))
+
+    def keep_glances(self, glances: Sequence[Glance]) -> None:
+        for k in range(0, len(glances), MOST_GLANCES):
+            some = glances[k:k + MOST_GLANCES]
+            if not self._keep(some) and len(some) > 1:  # one of the requests isn't open any more
+                for it in some:
+                    self._keep([it])
+
+    def _keep(self, glances: Sequence[Glance]) -> bool:
+        are_so: List[Any] = []
+        for it in glances:
+            is_open = {"key": _b64(_key("o", it.request)), "target": "VERSION", "result": "GREATER", "version": 0}
+            are_so += [self._is_there(it.request, str(it.number)), is_open]
+        puts = [_put(_key("g", it.request), json.dumps([it.number, it.words, it.said]).encode()) for it in glances]
+        return bool(self._txn(are_so, puts).get("succeeded"))
+
+    def words_put(self) -> Optional[int]:
+        return int(self._post("/v3/kv/range", _range(b"cf/w/", b"cf/w0", count_only=True)).get("count", 0))
+
+    # Clock and timers.
 
     def now(self) -> float:
         return time.time()

@@ -6,7 +6,7 @@ import threading
 import time
 from typing import Any, Dict, Generator, Iterator, List, NoReturn, Optional, Sequence, Tuple
 
-from .rows import Entry, Opened, Put, StoreError, Timer, Transaction, Unknown, in_a_row
+from .rows import Entry, Glance, Opened, Put, StoreError, Timer, Transaction, Unknown, in_a_row
 from .tables import TableStore
 
 psycopg2: Any = importlib.import_module("psycopg2")  # (its types are installed on some machines only)
@@ -23,6 +23,9 @@ SCHEMA = """
     create table if not exists cf_timer (request bigint, stage int, due double precision not null,
         payload bytea not null, primary key (request, stage));
     create index if not exists cf_timer_due on cf_timer (due);
+    create table if not exists cf_glance (request bigint primary key, words int not null, said text not null);
+    create table if not exists cf_name (request bigint, session bigint, name text not null,
+        primary key (request, session));
 """
 NOW = "extract(epoch from clock_timestamp())::double precision"
 MARK = "select pg_snapshot_xmin(pg_current_snapshot())::text::bigint"
@@ -58,7 +61,7 @@ class Postgres(TableStore):
     whole database. That connection doesn't wait for the disk, since a notice that a crash has lost was for nobody."""
 
     is_transactional = True
-    VALUE = "%s"
+    VALUE, HAS_PART = "%s", "position(%s in name) > 0"
 
     def __init__(self, address: str, is_unsafe: bool = False) -> None:
         super().__init__()
@@ -164,7 +167,8 @@ class Postgres(TableStore):
         if not self._ask(f"select pg_advisory_xact_lock({CLOSING}, %s); "
                          f"with closed as (update cf_request set closed = {NOW} "
                          f"where id = %s and closed is null and {HAS} returning id), "
-                         "timers as (delete from cf_timer where request in (select id from closed)) "
+                         "timers as (delete from cf_timer where request in (select id from closed)), "
+                         "glances as (delete from cf_glance where request in (select id from closed)) "
                          "select 1 from cf_request where id = %s", number % 2**31, number, at, number):
             raise self._gone(name)
 
@@ -180,7 +184,9 @@ class Postgres(TableStore):
         is_so = "" if at is None else f" and closed is not null and {HAS}"
         dropped = bool(self._ask(f"with gone as (delete from cf_request where id = %s{is_so} returning id), "
                                  "words as (delete from cf_word where request in (select id from gone)), "
-                                 "timers as (delete from cf_timer where request in (select id from gone)) "
+                                 "timers as (delete from cf_timer where request in (select id from gone)), "
+                                 "glances as (delete from cf_glance where request in (select id from gone)), "
+                                 "names as (delete from cf_name where request in (select id from gone)) "
                                  "select id from gone",
                                  self._id(name), *(() if at is None else (at,))))
         if dropped:
@@ -298,7 +304,15 @@ class Postgres(TableStore):
                   session)
 
     def drop_beat(self, session: int) -> None:
-        self._ask("delete from cf_beat where session = %s", session)
+        self._ask("with names as (delete from cf_name where request = 0 and session = %s) "
+                  "delete from cf_beat where session = %s", session, session)
+
+    def name_session(self, session: int, said: str, request: str = "", number: int = 0) -> None:
+        if not self._do(f"insert into cf_name select {'id' if request else '0'}, %s, %s "
+                        f"{'from cf_request where id = %s' if request else ''} "
+                        "on conflict (request, session) do update set name = excluded.name",
+                        (session, said, *([number or self._id(request)] if request else [])))[0]:
+            raise self._gone(request)
 
     def now(self) -> float:
         return float(self._ask(f"select {NOW}")[0][0])
@@ -317,6 +331,21 @@ class Postgres(TableStore):
 
     def drop_timer(self, request: str, stage: int, number: int = 0) -> None:
         self._ask("delete from cf_timer where request = %s and stage = %s", number or self._id(request), stage)
+
+    # What lists ask for.
+
+    def keep_glances(self, glances: Sequence[Glance]) -> None:
+        rows = sorted((it.number, it.words, it.said) for it in glances)  # (two in one order don't wait in a ring)
+        if rows:
+            self._ask("insert into cf_glance select id, v.words, v.said from "
+                      f"(values {','.join(['(%s::bigint, %s, %s)'] * len(rows))}) as v(request, words, said) "
+                      "join cf_request on id = v.request where closed is null "
+                      "on conflict (request) do update set words = excluded.words, said = excluded.said",
+                      *(it for row in rows for it in row))
+
+    def words_put(self) -> Optional[int]:
+        rows = self._ask("select n_tup_ins from pg_stat_user_tables where relid = 'cf_word'::regclass")
+        return int(rows[0][0] or 0) if rows else None
 
     # A function's own transaction.
 

@@ -77,7 +77,9 @@ from ..service.words import (ANSWER, ATTACH, CANCEL, CANCELLED, COMPLETE, FAIL, 
 from ..values import BadAnswer, Form
 from .view import Done, RowView
 from .functions import said_of
-from .rows import Put, StoreError, Timer, Transaction, Unknown
+from .glances import Seen, glance_of
+from .glances import read as read_glance
+from .rows import Glance, Put, StoreError, Timer, Transaction, Unknown
 
 if TYPE_CHECKING:
     from .service import DurableService, Finish
@@ -285,6 +287,9 @@ class DurableRequest:
         self.is_closed = False  # in the store, as far as is known
         self.reopens: bool = False  # whether that has yet to be taken back
         self.kept = 0  # how often it was asked for again
+        self._rested = -1  # how many words were seen at the last beat
+        self.glanced: int = -1  # how many the glance has seen that was kept
+        self._glance_seen: Optional[Seen] = None  # what the last glance says
         self._unshown: Set[int] = set()  # settled stages whose payload couldn't be read yet
         self._describe: Describe = service._describe
 
@@ -539,6 +544,21 @@ class DurableRequest:
                 yield
             finally:
                 self._transacts.discard(threading.get_ident())
+
+    def _glance(self, session: int, now: float) -> Optional[Glance]:
+        """What lists are to tell of it, where it has rested since the last beat, the last word is this session's, and
+        nobody has the lock: else others tell it, or it is told later."""
+        if not self._lock.acquire(blocking=False):
+            return None
+        try:
+            rests, self._rested = self.seen == self._rested, self.seen
+            if not rests or self.seen == self.glanced or self._view.last != session:
+                return None
+            made = glance_of(self._view, now, self._glance_seen)
+            self._glance_seen = read_glance(made)
+            return made
+        finally:
+            self._lock.release()
 
     def _act_within(self, transaction: Transaction, finish: "Finish") -> bool:
         """Puts a finish within a transaction, and says whether that stands. `Unknown` where it may. What it settled

@@ -5,6 +5,8 @@ made again after a lost reply is known by what stands at its place. A payload is
 transaction, and named by the word's place, counted from 1: no word names what isn't there.
 """
 import abc
+import json
+import re
 import threading
 import time
 from typing import (Any, Callable, ContextManager, Dict, Iterable, List, Mapping, NamedTuple, Optional, Sequence,
@@ -13,6 +15,7 @@ from typing import (Any, Callable, ContextManager, Dict, Iterable, List, Mapping
 T = TypeVar("T")
 Entry = Tuple[int, int]  # a word and its token
 COUNT_BITS = 23  # of a token
+HEAD = 400  # characters of a plan, in which the flow's name stands
 
 
 class Unknown(ConnectionError):
@@ -123,6 +126,36 @@ class Timer(NamedTuple):
     due: float
     payload: bytes
     number: int = 0
+
+
+class Glance(NamedTuple):
+    """What a list tells of a request, so that it need not read the row: `said` is what glances.py writes of it. It was
+    seen with so many words; where the row has more by now, it is of before."""
+
+    request: str
+    number: int
+    words: int
+    said: str
+
+
+class Open(NamedTuple):
+    """An open request in a list: its flow, how many words it has, and the last glance at it, if there is one."""
+
+    name: str
+    number: int
+    opened: float
+    words: int
+    flow: str
+    glance: Optional[Glance]
+
+
+def flow_of(head: str) -> str:
+    """The flow's name in the first characters of a plan, as `plans.text_of` writes it."""
+    found = re.match(r'\{"cf":\d+,"flow":("(?:[^"\\]|\\.)*")', head)
+    try:
+        return str(json.loads(found[1])) if found else ""
+    except ValueError:
+        return ""
 
 
 class Transaction(abc.ABC):
@@ -237,6 +270,34 @@ class Store(abc.ABC):
     def drop_timer(self, request: str, stage: int, number: int = 0) -> None:
         """Forgets a stage's timer."""
 
+    # What lists and pages ask for. An engine may do without: then lists read rows, and nobody has a name.
+
+    def overview(self) -> List[Open]:
+        """All open requests, each with the last glance at it. No row is read."""
+        found = [(it, self.find(it.name)) for it in self.listing() if it.closed is None]
+        return [Open(it.name, at.number, it.opened, it.words, flow_of(at.plan[:HEAD]), None)
+                for it, at in found if at is not None]
+
+    def keep_glances(self, glances: Sequence[Glance]) -> None:
+        """Keeps these, each in the place of the one before. Those of requests that aren't open are left out."""
+
+    def closed(self, behind: str, most: int, part: str = "") -> List[Listed]:
+        """Up to so many closed requests whose names come behind this one and have this part, by name."""
+        found = [it for it in self.listing() if it.closed is not None and it.name > behind and part in it.name]
+        return found[:most]
+
+    def name_session(self, session: int, said: str, request: str = "", number: int = 0) -> None:
+        """Says what a session is called: in a request, as long as that is kept; or without one, as long as its beats
+        are."""
+
+    def session_names(self, request: str = "", number: int = 0) -> Dict[int, str]:
+        """What sessions are called, in a request or by their beats."""
+        return {}
+
+    def words_put(self) -> Optional[int]:
+        """About how many words were put until now, or None where that isn't known. What is dropped may be left out."""
+        return None
+
     def append(self, put: Put) -> Optional[List[Entry]]:
         """Puts a group, all or none: None where it stands now, else the entries that stand from its first place on."""
         return self.append_groups([put])[0]
@@ -274,6 +335,8 @@ class Memory(Store):
         self._closed: Dict[str, float] = {}
         self._beats: Dict[int, int] = {}
         self._timers: Dict[Tuple[str, int], Timer] = {}
+        self._glances: Dict[str, Glance] = {}
+        self._names: Dict[Tuple[int, int], str] = {}  # by the numbers of requests, or 0, and sessions
         self._puts = 0
         self._last: Dict[str, int] = {}  # the number of the put that a request had last
         self._seen = threading.local()
@@ -346,6 +409,7 @@ class Memory(Store):
             self._is_there(name, number)
             if len(self._rows.get(name, [])) == at:
                 self._closed.setdefault(name, time.time())
+                self._glances.pop(name, None)
                 self._timers = {key: it for key, it in self._timers.items() if key[0] != name}
 
     def reopen(self, name: str, number: int = 0) -> None:
@@ -358,8 +422,10 @@ class Memory(Store):
             if name not in self._opened or at is not None and (name not in self._closed
                                                                or len(self._rows.get(name, [])) != at):
                 return False
-            for kept in (self._opened, self._closed, self._rows):
+            number = self._opened[name].number
+            for kept in (self._opened, self._closed, self._rows, self._glances):
                 kept.pop(name, None)  # type: ignore[attr-defined]
+            self._names = {key: it for key, it in self._names.items() if key[0] != number}
             self._payloads = {key: it for key, it in self._payloads.items() if key[0] != name}
             self._timers = {key: it for key, it in self._timers.items() if key[0] != name}
             return True
@@ -375,6 +441,7 @@ class Memory(Store):
     def drop_beat(self, session: int) -> None:
         with self._change:
             self._beats.pop(session, None)
+            self._names.pop((0, session), None)
 
     def now(self) -> float:
         return time.time()
@@ -392,6 +459,33 @@ class Memory(Store):
         with self._change:
             self._is_there(request, number)
             self._timers.pop((request, stage), None)
+
+    def overview(self) -> List[Open]:
+        with self._change:
+            return [Open(name, it.number, it.opened, len(self._rows.get(name, [])), flow_of(it.plan[:HEAD]),
+                         self._glances.get(name)) for name, it in self._opened.items() if name not in self._closed]
+
+    def keep_glances(self, glances: Sequence[Glance]) -> None:
+        with self._change:
+            self._glances.update({it.request: it for it in glances if it.request not in self._closed and
+                                  it.request in self._opened and self._opened[it.request].number == it.number})
+
+    def name_session(self, session: int, said: str, request: str = "", number: int = 0) -> None:
+        with self._change:
+            if request:
+                self._is_there(request, number)
+            self._names[self._opened[request].number if request else 0, session] = said
+
+    def session_names(self, request: str = "", number: int = 0) -> Dict[int, str]:
+        with self._change:
+            if request:
+                self._is_there(request, number)
+            of = self._opened[request].number if request else 0
+            return {session: said for (its, session), said in self._names.items() if its == of}
+
+    def words_put(self) -> Optional[int]:
+        with self._change:
+            return sum(map(len, self._rows.values()))
 
 
 class Grouped(Store):
@@ -506,6 +600,24 @@ class Grouped(Store):
 
     def drop_timer(self, request: str, stage: int, number: int = 0) -> None:
         self._store.drop_timer(request, stage, number)
+
+    def overview(self) -> List[Open]:
+        return self._store.overview()
+
+    def keep_glances(self, glances: Sequence[Glance]) -> None:
+        self._store.keep_glances(glances)
+
+    def closed(self, behind: str, most: int, part: str = "") -> List[Listed]:
+        return self._store.closed(behind, most, part)
+
+    def name_session(self, session: int, said: str, request: str = "", number: int = 0) -> None:
+        self._store.name_session(session, said, request, number)
+
+    def session_names(self, request: str = "", number: int = 0) -> Dict[int, str]:
+        return self._store.session_names(request, number)
+
+    def words_put(self) -> Optional[int]:
+        return self._store.words_put()
 
     def may_put(self) -> None:
         self._store.may_put()

@@ -5,6 +5,7 @@ import itertools
 import logging
 import math
 import os
+import socket
 import threading
 import time
 import weakref
@@ -20,11 +21,12 @@ from .view import Done, RowView, Watcher, new_session
 from .functions import F, Functions, Known
 from .plans import text_of, tried_again
 from .request import DurableRequest, DurableStage
-from .rows import Broken, Gone, Grouped, Store, StoreError, Timer, Transaction, Unknown, sure
+from .rows import Broken, Glance, Gone, Grouped, Store, StoreError, Timer, Transaction, Unknown, sure
 
 T = TypeVar("T")
 LOGGER = logging.getLogger("cf.shared")
 PATIENCE = 60  # seconds
+MOST_GLANCES = 500  # that a beat keeps
 LONGEST_WHY = 500  # characters of what a store says that takes no value
 ONLY_FAULT = (int(Form.EXCEPTIONALLY), int(Form.EXCEPTIONALLY_COMPOSE))
 GOES_ON = {  # the forms that a finish which gives or throws makes ready, where it is their only source
@@ -119,6 +121,7 @@ class DurableService(concurrent.futures.Executor):
         self._lock, self._stops, self._process = threading.Lock(), threading.Event(), os.getpid()
         self._watcher, self._next_beat, self._next_look = Watcher(self.store, lease), 0.0, 0.0
         self._mark: Any = None
+        self._is_named = False
         self._firing: Set[Tuple[str, int, float]] = set()
         self._pump = threading.Thread(target=self._run_pump, name="cf-shared", daemon=True)
         self._pump.start()
@@ -324,6 +327,8 @@ class DurableService(concurrent.futures.Executor):
 
     def _round(self) -> None:
         now, looks = time.monotonic(), self._beat()
+        if looks:
+            self._keep_glances()
         if now >= self._next_look:
             self._next_look = now + 0.02
             for timer in self.store.due(self.store.now()):
@@ -355,9 +360,30 @@ class DurableService(concurrent.futures.Executor):
             return False
         self._next_beat = now + self._lease / 5
         self.store.beat(self.session)
+        if not self._is_named:
+            self.store.name_session(self.session, f"{socket.gethostname()} {os.getpid()}")
+            self._is_named = True
         self._watcher.look()
         self._watcher.forget()
         return True
+
+    def _keep_glances(self) -> None:
+        """Keeps what lists tell of requests that have rested since the last beat, for a part of the time until the next
+        one. The rest comes then, and a list does without what fails."""
+        until = time.monotonic() + self._lease / 50
+        made: List[Tuple[DurableRequest, Glance]] = []
+        for request in list(self._requests.values()):
+            if time.monotonic() > until or len(made) == MOST_GLANCES:
+                break
+            with contextlib.suppress(Unknown, StoreError, ValueError, TypeError):
+                glance = request._glance(self.session, time.time())
+                if glance is not None:
+                    made.append((request, glance))
+        if made:
+            with contextlib.suppress(Unknown, StoreError):
+                self.store.keep_glances([glance for _, glance in made])
+                for request, glance in made:
+                    request.glanced = glance.words
 
     def _needs(self, request: DurableRequest) -> bool:
         """Whether something is to do in a request without a new word."""

@@ -7,7 +7,7 @@ import threading
 import time
 from typing import Any, Callable, Dict, Generator, List, Optional, Sequence, Tuple, TypeVar
 
-from .rows import Broken, Entry, Opened, Put, StoreError, Timer, Transaction, Unknown, in_a_row
+from .rows import Broken, Entry, Glance, Opened, Put, StoreError, Timer, Transaction, Unknown, in_a_row
 from .tables import TableStore
 
 T = TypeVar("T")
@@ -22,7 +22,10 @@ SCHEMA = """
     create table if not exists cf_timer (request integer, stage integer, due real not null, payload blob not null,
         primary key (request, stage)) without rowid;
     create index if not exists cf_timer_due on cf_timer (due);
-    create index if not exists cf_request_open on cf_request (id) where closed is null
+    create index if not exists cf_request_open on cf_request (id) where closed is null;
+    create table if not exists cf_glance (request integer primary key, words integer not null, said text not null);
+    create table if not exists cf_name (request integer, session integer, name text not null,
+        primary key (request, session)) without rowid
 """
 PUT = ("insert or ignore into cf_word (request, at, word, token, payload) "
        "select id, ?, ?, ?, ? from cf_request where id = ?")
@@ -45,7 +48,7 @@ class SQLite(TableStore):
     `Unknown`."""
 
     is_transactional = locks_out = True
-    VALUE = "?"
+    VALUE, HAS_PART = "?", "instr(name, ?) > 0"
 
     def __init__(self, path: str, is_unsafe: bool = False) -> None:
         super().__init__()
@@ -146,7 +149,8 @@ class SQLite(TableStore):
         def act(db: sqlite3.Connection) -> bool:
             if db.execute(f"update cf_request set closed = ? where id = ? and closed is null and {HAS}",
                           (time.time(), number, at)).rowcount:
-                db.execute("delete from cf_timer where request = ?", (number,))
+                for table in ("cf_timer", "cf_glance"):
+                    db.execute(f"delete from {table} where request = ?", (number,))
             return _is_there(db, number)
         if not self._in_turn(act):
             raise self._gone(name)
@@ -167,7 +171,7 @@ class SQLite(TableStore):
             is_so = f"select 1 from cf_request where id = ? and closed is not null and {HAS}"
             if at is not None and not db.execute(is_so, (number, at)).fetchall():
                 return False
-            for table in ("cf_word", "cf_large", "cf_timer"):
+            for table in ("cf_word", "cf_large", "cf_timer", "cf_glance", "cf_name"):
                 db.execute(f"delete from {table} where request = ?", (number,))
             return db.execute("delete from cf_request where id = ?", (number,)).rowcount == 1
         dropped = self._in_turn(act)
@@ -244,7 +248,21 @@ class SQLite(TableStore):
                                             "on conflict do update set count = count + 1", (session,)))
 
     def drop_beat(self, session: int) -> None:
-        self._in_turn(lambda db: db.execute("delete from cf_beat where session = ?", (session,)))
+        def act(db: sqlite3.Connection) -> None:
+            db.execute("delete from cf_beat where session = ?", (session,))
+            db.execute("delete from cf_name where request = 0 and session = ?", (session,))
+        self._in_turn(act)
+
+    def name_session(self, session: int, said: str, request: str = "", number: int = 0) -> None:
+        number = (number or self._id(request)) if request else 0
+
+        def act(db: sqlite3.Connection) -> bool:
+            if request and not _is_there(db, number):
+                return False
+            db.execute("insert or replace into cf_name values (?, ?, ?)", (number, session, said))
+            return True
+        if not self._in_turn(act):
+            raise self._gone(request)
 
     def now(self) -> float:
         return time.time()
@@ -264,6 +282,16 @@ class SQLite(TableStore):
     def drop_timer(self, request: str, stage: int, number: int = 0) -> None:
         number = number or self._id(request)
         self._in_turn(lambda db: db.execute("delete from cf_timer where request = ? and stage = ?", (number, stage)))
+
+    # What lists ask for.
+
+    def keep_glances(self, glances: Sequence[Glance]) -> None:
+        rows = [(it.words, it.said, it.number) for it in glances]
+        self._in_turn(lambda db: db.executemany("insert or replace into cf_glance select id, ?, ? from cf_request "
+                                                "where id = ? and closed is null", rows))
+
+    def words_put(self) -> Optional[int]:
+        return int(self._ask("select coalesce(max(n), 0) from cf_word")[0][0])
 
     # A function's own transaction.
 

@@ -5,13 +5,15 @@ import json
 import os
 import time
 from array import array
-from typing import Any, Callable, ContextManager, Dict, List, NamedTuple, Optional, Sequence, Set, Tuple, TypeVar
+from typing import (Any, Callable, ContextManager, Dict, Iterable, List, Mapping, NamedTuple, Optional, Sequence, Set,
+                    Tuple, TypeVar)
 
 from .. import values
 from .._library import NOT_YOURS, CNews
 from ..events import _known
 from ..service._plain import PlanCore, _grow, _Ledger, _told
-from ..service.history import History
+from ..service.history import Entry as Event
+from ..service.history import History, escaped
 from ..service.words import (ANSWER, ATTACH, CLAIM, COMPLETE, COMPOSE_FORMS, FAIL, FAIL_AS, FAILURES, FINISH, GIVES,
                              IS_CLAIMED, IS_PENDING, IS_READY, IS_SETTLED, LINKS, MOST_STAGES, NOT_YET, NUMBER, THROWS,
                              TICK, RequestFull, Told)
@@ -44,17 +46,23 @@ class Done(NamedTuple):
 
 class RowHistory(History):
     """A row's history: places in place of times, and numbers that sessions had as callers. `sessions` are those of
-    its words."""
+    its words, and `named` what some of them are called in the request."""
 
     _unit, _width = "words", 5
 
-    def __init__(self, name: str, core: PlanCore, facts: Any, sessions: Sequence[int]) -> None:
+    def __init__(self, name: str, core: PlanCore, facts: Any, sessions: Sequence[int],
+                 named: Optional[Mapping[int, str]] = None) -> None:
         super().__init__(name, core, facts)
-        self._sessions = sessions
+        self._sessions, self._named = sessions, named or {}
 
     def caller(self, who: int) -> str:
-        """What a caller is called."""
-        return f"session {who}"
+        """What a caller is called: all the names that sessions of its number have."""
+        its = {session: None for session, word in zip(self._sessions, self.words) if word >> 48 & 0xFF == who}
+        return " or ".join([escaped(self._named[it]) for it in its if it in self._named] or [f"session {who}"])
+
+    def _who(self, entry: Event) -> str:
+        said = self._named.get(self._sessions[entry.place - 1])
+        return f"session {entry.event.who}" if said is None else escaped(said)
 
     def account(self) -> str:
         """What `cf_look check` judges, with the replies as this process has read them off the row. Where several
@@ -377,6 +385,16 @@ class RowView:
                                           lambda given: said_in(json.loads(given.decode()), stage))
         return self._said[stage]
 
+    def look_up(self, stages: Iterable[int]) -> None:
+        """Reads what is said of these stages, as far as it isn't known, in one call. What can't be read is left to
+        `said`, which tells so. `Unknown` at once where the store is silent."""
+        many = len(self.plan.said)
+        missing = {self.attached[it]: it for it in stages if it >= many and it not in self._said}
+        found = self.store.payloads(self.name, list(missing), self.opened.number) if missing else {}
+        for place, given in found.items():
+            with contextlib.suppress(ValueError):
+                self._said[missing[place]] = said_in(json.loads(given.decode()), missing[place])
+
     def read(self, place: int, reader: Callable[[bytes], T]) -> T:
         """What a payload says. `Broken` where it can't be read."""
         return self._reading(place, self.payload(place), reader)
@@ -415,9 +433,22 @@ class RowView:
         self._note("saw", self.name, self.seen, stage, told)
         return told
 
-    def history(self, codec: Json, lock: ContextManager[Any] = contextlib.nullcontext()) -> History:
+    @property
+    def last(self) -> Optional[int]:
+        """The session that put the last word that is seen."""
+        return self._sessions[-1] if self._sessions else None
+
+    def history(self, codec: Json, lock: ContextManager[Any] = contextlib.nullcontext(),
+                unread: Optional[Callable[[Broken], Any]] = None) -> History:
         """All that is seen, as it was done. What others may change is read under the lock, and the codec is called
-        without it."""
+        without it. `unread` gives what is told in place of what can't be read; else `Broken` is raised."""
+        def told_by(call: Callable[[], Any]) -> Any:
+            try:
+                return call()
+            except Broken as error:
+                if unread is None:
+                    raise
+                return unread(error)
         with lock:
             words, replies, sessions, told = self.words[:], bytes(self._replies), self._sessions[:], array("I")
             for number, it in enumerate(self.told):
@@ -427,13 +458,14 @@ class RowView:
         values_: List[Any] = [None] * (len(words) + 1)
         errors: List[BaseException] = [RuntimeError("no payload")] * (len(words) + 1)
         for place, given in found.items():
-            if _names_error(words[place - 1]):
-                errors[place] = self._reading(place, given, codec.read_error)
-            else:
-                values_[place] = self._reading(place, given, codec.read)
-        facts = (words, array("q", [0] * len(words)), replies, told, [str(self.said(k)["name"]) for k in range(many)],
-                 values_, errors)
-        return RowHistory(self.name, self.plan.core, facts, sessions)
+            is_error = _names_error(words[place - 1])
+            reader = codec.read_error if is_error else codec.read
+            (errors if is_error else values_)[place] = told_by(lambda: self._reading(place, given, reader))
+        self.sure(lambda: self.look_up(range(many)))
+        names = [str(told_by(lambda: self.said(number)["name"])) for number in range(many)]
+        facts = (words, array("q", [0] * len(words)), replies, told, names, values_, errors)
+        named: Dict[int, str] = self.sure(lambda: self.store.session_names(self.name, self.opened.number))
+        return RowHistory(self.name, self.plan.core, facts, sessions, named)
 
     def open_claims(self) -> Dict[int, int]:
         """The stages whose function runs somewhere: claimed and not settled, with the session that has it."""
@@ -486,6 +518,10 @@ class Watcher:
             if count is not None and since < until:
                 self._store.drop_beat(session)
                 del self._seen[session]
+
+    def silences(self) -> Dict[int, float]:
+        """For how many seconds the beat of each session has stood still, as far as this one has looked."""
+        return {session: self._time - since for session, (count, since) in self._seen.items() if count is not None}
 
     def is_gone(self, session: int) -> bool:
         """Whether a session's beat stood still for so long."""

@@ -1,10 +1,12 @@
 """The functions of tests of cf.shared, which several processes know."""
 import os
+import threading
 import time
 
 from cf.shared import Functions
 
 functions = Functions()
+held = threading.Event()  # until it is set, `hold` runs
 
 
 @functions.function("inc")
@@ -56,6 +58,13 @@ def odd():
 def slow(seconds):
     time.sleep(seconds)
     return os.getpid()
+
+
+@functions.function("hold")
+def hold():
+    """Runs until a test lets it go."""
+    held.wait(60)
+    return "held"
 
 
 @functions.function("mark")

@@ -1,0 +1,126 @@
+"""What a list tells of a request: how far its stages are, what it waits for, who runs what, and since when.
+
+A session that has read a row makes a glance of it, and keeps it in the store, so that a list of many requests reads no
+row. A glance is JSON, since readers of other versions take what they know of it.
+"""
+import json
+from typing import Any, Dict, List, NamedTuple, Optional, Tuple
+
+from ..service.words import IS_CLAIMED, IS_LINKED, IS_PENDING, IS_READY, IS_SETTLED
+from .rows import Glance
+from .view import RowView
+
+FORMAT = 1
+MOST_NAMED = 3  # stages that it waits for
+MOST_TOLD = 16  # claims, and functions of ready stages
+MOST_TRIES = 100
+NAMED = {IS_CLAIMED: "at work", IS_READY: "ready", IS_PENDING: "pending", IS_LINKED: "linked"}
+
+
+class Wait(NamedTuple):
+    """A stage that a request waits for, and how it stands: a value of `NAMED`."""
+
+    stage: int
+    name: str
+    how: str
+
+
+class Claim(NamedTuple):
+    """A stage whose function runs, which session runs it, and since when."""
+
+    stage: int
+    name: str
+    session: int
+    since: float
+
+
+class Queue(NamedTuple):
+    """Stages of one function that are ready: how many, and since when the first."""
+
+    function: str
+    version: int
+    many: int
+    since: float
+
+
+class Seen(NamedTuple):
+    """What a glance says.
+
+    Attributes:
+        stages, open: How many stages there are, and how many of them aren't settled.
+        waits: The first of those that aren't, those at work before those that are ready.
+        claims: Those at work.
+        ready: Those that are ready, by their functions.
+        tries: How often the function of the first was tried before.
+        since: When the last word was seen, in seconds since 1970."""
+
+    stages: int
+    open: int
+    waits: List[Wait]
+    claims: List[Claim]
+    ready: List[Queue]
+    tries: int
+    since: float
+
+
+def seen_of(view: RowView, now: float, before: Optional[Seen]) -> Seen:
+    """What a view shows. What already was so in an earlier one is so since then."""
+    order = [number for how in (IS_CLAIMED, IS_READY, IS_LINKED, IS_PENDING) for number, kind in enumerate(view.kinds)
+             if kind == how]
+    claims = list(view.open_claims().items())[:MOST_TOLD]
+    ready = sorted(view.ready)
+    view.look_up({*order[:MOST_NAMED], *ready, *(stage for stage, _ in claims)})
+    view.look_up({int(view.said(stage).get("again", stage)) for stage in [*order[:1], *ready]})
+    known = {(it.stage, it.session): it.since for it in (before.claims if before else [])}
+    lasting = {(it.function, it.version): it.since for it in (before.ready if before else [])}
+    functions: Dict[Tuple[str, int], int] = {}
+    for stage in ready:
+        said = _called(view, stage)
+        functions[said] = functions.get(said, 0) + 1
+    return Seen(
+        len(view.kinds), sum(kind != IS_SETTLED for kind in view.kinds),
+        [Wait(number, str(view.said(number)["name"]), NAMED[view.kinds[number]]) for number in order[:MOST_NAMED]],
+        [Claim(stage, str(view.said(stage)["name"]), session, known.get((stage, session), now))
+         for stage, session in claims],
+        [Queue(*said, many, lasting.get(said, now)) for said, many in sorted(functions.items())[:MOST_TOLD]],
+        max([0, *(_tries(view, number) for number in order[:1])]), now if view.seen else view.opened.opened)
+
+
+def _called(view: RowView, stage: int) -> Tuple[str, int]:
+    """Name and version of the function that a stage calls: of a further try, those of what it tries again."""
+    said = view.said(stage)
+    if "again" in said:
+        said = view.said(int(said["again"]))
+    return str(said.get("fn", "")), int(said.get("version", 0))
+
+
+def _tries(view: RowView, stage: int) -> int:
+    """How many tries there were before this one: they stand in a row before it."""
+    first, tries = view.said(stage).get("again"), 0
+    while first is not None and stage != first and view.forms[stage][1] and tries < MOST_TRIES:
+        stage, tries = view.forms[stage][1][0], tries + 1
+    return tries
+
+
+def glance_of(view: RowView, now: float, before: Optional[Seen]) -> Glance:
+    """A glance at what a view shows. `Broken` where what is said of a stage can't be read."""
+    seen = seen_of(view, now, before)
+    said = json.dumps({"glance": FORMAT, **seen._asdict()}, separators=(",", ":"))
+    return Glance(view.name, view.opened.number, view.seen, said)
+
+
+def read(glance: Optional[Glance]) -> Optional[Seen]:
+    """What a glance says, or None where there is none that can be read."""
+    try:
+        said: Dict[str, Any] = json.loads(glance.said) if glance is not None else {}
+        if said.get("glance") != FORMAT:
+            return None
+        return Seen(int(said["stages"]), int(said["open"]),
+                    [Wait(int(stage), str(name), str(how)) for stage, name, how in said["waits"]],
+                    [Claim(int(stage), str(name), int(session), float(since))
+                     for stage, name, session, since in said["claims"]],
+                    [Queue(str(name), int(version), int(many), float(since))
+                     for name, version, many, since in said["ready"]],
+                    int(said["tries"]), float(said["since"]))
+    except (ValueError, KeyError, TypeError, AttributeError):
+        return None

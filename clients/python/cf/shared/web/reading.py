@@ -1,0 +1,62 @@
+"""Views of rows that are read again and again: each is kept for a while, so that only its new words are read."""
+import contextlib
+import threading
+from collections import OrderedDict
+from typing import Generator, List, Optional, Tuple
+
+from ..rows import Gone, Store
+from ..view import RowView, new_session
+
+MOST = 256  # views that are kept
+PATIENCE = 2  # seconds for which the store may be silent
+
+
+class Readings:
+    """Views of a store's rows. Any thread may ask for one; it has it alone then."""
+
+    def __init__(self, store: Store) -> None:
+        self._store, self._session = store, new_session()
+        self._kept: "OrderedDict[Tuple[str, int], Tuple[threading.RLock, List[Optional[RowView]]]]" = OrderedDict()
+        self._lock = threading.Lock()
+
+    @contextlib.contextmanager
+    def reading(self, name: str, number: int = 0, keeps: bool = True) -> Generator[RowView, None, None]:
+        """A view of a request, with all that stands. `Gone` where the request isn't there, or is another's now."""
+        if not number:
+            found = self._store.find(name)
+            if found is None:
+                raise Gone(name)
+            number = found.number
+        lock, kept = self._slot(name, number, keeps)
+        with lock:
+            try:
+                view = kept[0]
+                if view is None:
+                    opened = self._store.find(name)
+                    if opened is None or opened.number != number:
+                        raise Gone(name)
+                    view = kept[0] = RowView(self._store, opened, self._session, PATIENCE)
+                view.catch_up()
+                yield view
+            except BaseException:
+                kept[0] = None  # (what it knows may be half a row)
+                raise
+
+    def _slot(self, name: str, number: int, keeps: bool) -> "Tuple[threading.RLock, List[Optional[RowView]]]":
+        with self._lock:
+            slot = self._kept.get((name, number))
+            if slot is None:
+                slot = (threading.RLock(), [None])
+                if keeps:
+                    self._kept[name, number] = slot
+                    while len(self._kept) > MOST:
+                        self._kept.popitem(last=False)
+            else:
+                self._kept.move_to_end((name, number))
+            return slot
+
+    def forget(self, name: str) -> None:
+        """Lets the views of a name go."""
+        with self._lock:
+            for key in [key for key in self._kept if key[0] == name]:
+                del self._kept[key]

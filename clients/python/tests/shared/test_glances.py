@@ -1,0 +1,207 @@
+#!/usr/bin/env python3
+"""What lists ask of a store: all open requests with glances at them, closed ones, names of sessions; and who keeps
+glances there.
+
+    CF_LIBRARY=/path/to/libcf.so python3 clients/python/tests/shared/test_glances.py [-v] [TEST ..]
+"""
+import unittest
+
+from case import Case, STORES
+import shared_functions as f
+from cf.service import Flow
+from cf.shared import (Abandoned, Broken, connect, DurableService, Grouped, Memory, new_session, Put, RowView, Store,
+                       StoreError, Unknown)
+from cf.shared.glances import glance_of, read
+from cf.shared.plans import text_of
+from cf.shared.rows import flow_of, Glance, Gone
+
+
+class Lists(Case):
+    def listing_stores(self):
+        for address in ["memory://", self.address, self.address + "2", *STORES]:
+            store = connect(address)
+            with self.subTest(address):
+                yield Grouped(store) if address[-1] == "2" else store
+            store.close()
+
+    def test_an_overview_has_what_is_open(self):
+        flow = Flow('of "two" \\ words')
+        flow.promise()
+        for store in self.listing_stores():
+            opened, other = store.open(self.name, text_of(flow, f.functions)), store.open(self.name + "2", "{}")
+            store.append(Put(self.name, 0, [(1, 11), (2, 12)], {}))
+            its = {it.name: it for it in store.overview() if it.name.startswith(self.name)}
+            self.assertEqual(sorted(its), [self.name, self.name + "2"])
+            self.assertEqual(its[self.name][1:], (opened.number, its[self.name].opened, 2, flow.name, None))
+            self.assertAlmostEqual(its[self.name].opened, opened.opened, 2)
+            self.assertEqual((its[self.name + "2"].words, its[self.name + "2"].flow), (0, ""))
+            glance = Glance(self.name, opened.number, 2, '{"said": "…"}')
+            store.keep_glances([glance, Glance(self.name + "2", other.number + 7, 1, "another's")])
+            store.keep_glances([])
+            its = {it.name: it.glance for it in store.overview() if it.name.startswith(self.name)}
+            self.assertEqual(its, {self.name: glance, self.name + "2": None})
+            store.keep_glances([glance._replace(words=3)])
+            self.assertEqual([it.glance.words for it in store.overview() if it.name == self.name], [3])
+            store.end(self.name, 2)
+            self.assertEqual([it.name for it in store.overview() if it.name.startswith(self.name)], [self.name + "2"])
+            store.keep_glances([glance])  # of one that is closed
+            store.reopen(self.name)
+            self.assertEqual([it.glance for it in store.overview() if it.name == self.name], [None])
+            store.keep_glances([glance])
+            store.drop(self.name), store.open(self.name, "{}")
+            self.assertEqual([it.glance for it in store.overview() if it.name == self.name], [None])
+
+    def test_a_page_of_closed_requests(self):
+        for store in self.listing_stores():
+            names = [f"{self.name} {k} {part}" for k in range(5) for part in ("a%", "b_")]
+            for name in names:
+                store.open(name, "{}")
+                store.append(Put(name, 0, [(1, 11)], {}))
+                store.end(name, 1)
+            store.open(self.name + " open", "{}")
+            found = store.closed(self.name, 4, self.name)
+            self.assertEqual([it.name for it in found], names[:4])
+            self.assertTrue(all(it.closed and it.opened and it.words == 1 for it in found))
+            self.assertEqual([it.name for it in store.closed(names[3], 100, self.name)], names[4:])
+            self.assertEqual([it.name for it in store.closed(self.name, 100, "b_") if it.name in names], names[1::2])
+            self.assertGreaterEqual(len(store.closed("", 100)), 10)
+
+    def test_names_of_sessions(self):
+        for store in self.listing_stores():
+            session, other = new_session(), new_session()
+            opened = store.open(self.name, "{}")
+            store.beat(session), store.name_session(session, "here 1"), store.name_session(session, "here 2")
+            store.name_session(session, "Ada", self.name, opened.number)
+            store.name_session(other, "Bob", self.name)
+            self.assertEqual(store.session_names().get(session), "here 2")
+            self.assertNotIn(other, store.session_names())
+            self.assertEqual(store.session_names(self.name, opened.number), {session: "Ada", other: "Bob"})
+            store.drop_beat(session)
+            self.assertNotIn(session, store.session_names())
+            self.assertEqual(store.session_names(self.name), {session: "Ada", other: "Bob"})
+            store.drop(self.name)
+            with self.assertRaises(Gone):
+                store.name_session(session, "Ada", self.name, opened.number)
+            store.open(self.name, "{}")
+            self.assertEqual(store.session_names(self.name), {})
+
+    def test_words_are_counted(self):
+        for store in self.listing_stores():
+            before = store.words_put()
+            store.open(self.name, "{}")
+            store.append(Put(self.name, 0, [(1, 11), (2, 12)], {}))
+            self.until(lambda: store.words_put() >= before + 2)  # (PostgreSQL counts a little later)
+
+    def test_an_engine_that_has_none_of_this(self):
+        class Plain(Memory):
+            overview, keep_glances, closed = Store.overview, Store.keep_glances, Store.closed
+            name_session, session_names, words_put = Store.name_session, Store.session_names, Store.words_put
+        store = Plain()
+        store.open("b", text_of(Flow("flow"), f.functions)), store.open("a", "{}")
+        store.end("a", 0), store.keep_glances([]), store.name_session(1, "x")
+        self.assertEqual([(it.name, it.flow, it.glance) for it in store.overview()], [("b", "flow", None)])
+        self.assertEqual([it.name for it in store.closed("", 9)], ["a"])
+        self.assertEqual((store.session_names(), store.words_put()), ({}, None))
+
+    def test_the_flow_in_the_head_of_a_plan(self):
+        for name in ('', 'order', 'a "quoted" \\ name', "x" * 100, "é\n"):
+            self.assertEqual(flow_of(text_of(Flow(name), f.functions)[:400]), name)
+        for head in ("", "{}", '{"cf":3,"flow":7}', '{"cf":3,"flow":"' + "x" * 500, '{"cf":3,"flow":"\\x"}'):
+            self.assertEqual(flow_of(head[:400]), "")
+
+
+class Glances(Case):
+    lease = 0.5
+
+    def setUp(self):
+        super().setUp()
+        f.held.clear()
+
+    def tearDown(self):
+        f.held.set()
+        super().tearDown()
+
+    def glance(self, store, name):
+        return next((it.glance for it in store.overview() if it.name == name and it.glance is not None), None)
+
+    def test_a_service_keeps_glances_of_what_rests(self):
+        for service, name in self.each():
+            store = service.store
+            request = service.request(name)
+            request.supply(f.load, 17).result(20)
+            promise = request.promise("answer")
+            promise.then(f.inc), request.supply(f.hold)
+            self.until(lambda: (it := self.glance(store, name)) and it.words == store.ends()[name])
+            seen = read(self.glance(store, name))
+            self.assertEqual((seen.stages, seen.open, seen.tries, seen.ready), (4, 3, 0, []))
+            self.assertEqual([it[1:] for it in seen.waits],
+                             [("hold", "at work"), ("answer", "pending"), ("inc", "pending")])
+            (claim,) = seen.claims
+            self.assertEqual((claim.stage, claim.name, claim.session), (3, "hold", service.session))
+            promise.complete(1)
+            self.until(lambda: (it := self.glance(store, name)) and it.words == store.ends()[name])
+            again = read(self.glance(store, name))
+            self.assertEqual(again.claims, seen.claims)  # since the same moment
+            self.assertGreater(again.since, seen.since)
+            self.assertIn(service.session, store.session_names())
+            request.end()
+            self.assertIsNone(self.glance(store, name))
+
+    def test_ready_stages_by_their_functions(self):
+        store = Memory()
+        service = self.made(store)
+        request = service.request("r")
+        for _ in range(3):
+            request.supply(f.load, 1)
+        request.supply(f.slow, 0)
+        self.until(lambda: self.glance(store, "r"))
+        self.assertEqual([it[:3] for it in read(self.glance(store, "r")).ready], [("load", 1, 3), ("slow", 1, 1)])
+
+    def test_tries(self):
+        store = Memory()
+        service = self.made(store)
+        request = service.request("r")
+        stage = request.supply(f.load, 1)
+        last = stage.again(3)
+        stage.fail(Abandoned("gone"))
+        request[1].fail(RuntimeError("no"))
+        self.until(lambda: self.glance(store, "r") and self.glance(store, "r").words == 6)
+        seen = read(self.glance(store, "r"))
+        self.assertEqual((seen.tries, [it[:3] for it in seen.ready]), (2, [("load", 1, 1)]))
+        self.assertEqual(last.number, 3)
+
+    def made(self, store):
+        service = DurableService(store, 0, functions=f.functions, lease=self.lease)
+        self.services.append(service)
+        return service
+
+    def test_a_store_that_keeps_none_holds_nobody_up(self):
+        for fault in (Unknown("away"), StoreError("no")):
+            class Away(Memory):
+                def keep_glances(self, glances, fault=fault):
+                    raise fault
+            store = Away()
+            service = self.made(store)
+            promise = service.request("r").promise()
+            beats = store.beats().get(service.session, 0)
+            self.until(lambda: store.beats().get(service.session, 0) > beats + 5)
+            self.assertTrue(promise.complete(1))
+
+    def test_what_is_no_glance(self):
+        for said in ("", "{", "[]", "{}", '{"glance": 2}', '{"glance": 1}', '{"glance": 1, "stages": "x"}'):
+            self.assertIsNone(read(Glance("r", 1, 1, said)))
+        self.assertIsNone(read(None))
+
+    def test_a_stage_that_nobody_can_read(self):
+        store = Memory()
+        service = self.made(store)
+        service.request("r").promise()
+        store._payloads["r", 1] = b"{}"
+        view = RowView(store, store.find("r"), new_session())
+        view.catch_up()
+        with self.assertRaises(Broken):
+            glance_of(view, 0.0, None)
+
+
+if __name__ == "__main__":
+    unittest.main()
