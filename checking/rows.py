@@ -56,6 +56,7 @@ def rows_of_python(tools: Tools, made: Path) -> List[Row]:
     return [
         Row("Python's example", ["library", "python3"], [[python, "clients/python/example.py"]], ("clients/python", "example.py")),
         Row("Python's first program", ["library", "python3"], [[python, "clients/python/first.py"]], ("clients/python", "first.py")),
+        Row("Python's spans in a file", ["library", "python3"], [[python, "clients/python/traced.py"]], ("clients/python", "traced.py")),
         Row("Python's order of three processes", ["library", "python3"], [[python, "clients/python/order.py"]], ("clients/python", "order.py")),
         Row("Python's service by ctypes", ["library", "python3"],
             [["env", "CF_NO_MODULE=1", "CF_REQUESTS=2000", python, "-m", "unittest", "discover", "-s", "clients/python/tests/service"]]),

@@ -8,8 +8,9 @@ from .history import History, describe_all, describe_nothing, describe_types
 from .loop import LoopService
 from .request import Request
 from .service import Service
+from .spans import Span, SpanFile, Spans, spans_of, spans_to
 from .stage import Stage
 from .words import RequestFull
 
-__all__ = ["Flow", "History", "LoopService", "Request", "RequestFull", "Service", "Stage", "Step", "describe_all",
-           "describe_nothing", "describe_types"]
+__all__ = ["Flow", "History", "LoopService", "Request", "RequestFull", "Service", "Span", "SpanFile", "Spans", "Stage",
+           "Step", "describe_all", "describe_nothing", "describe_types", "spans_of", "spans_to"]

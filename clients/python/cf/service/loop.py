@@ -1,20 +1,18 @@
 """Functions on an event loop, in place of threads: they may be coroutine functions, and the loop's clock is the
 clock."""
 import asyncio
-import contextvars
-import functools
 import inspect
 import itertools
-from types import FunctionType
-from typing import Any, Awaitable, Callable, Dict, List, Optional, Set, Tuple, cast
+from typing import Any, Awaitable, Callable, List, Optional, Set, cast
 
-from ._core import RequestCore
+from .contexts import ContextRequest, ended, Within
+from .ending import EndingRequest, Ends, Hook
 from .flow import Flow
 from .history import Describe, describe_all
 from .request import Request
 from .service import ROOM
 from .stage import Stage
-from .words import COMPOSE_FORMS, FIRST_WORKER, GIVES, THROWS, name_of
+from .words import FIRST_WORKER, THROWS
 
 
 class LoopService:
@@ -36,53 +34,30 @@ class LoopService:
 
     Args:
         loop: The loop that calls the functions, and whose clock is the clock.
-        describe: As of `Service`."""
+        describe: As of `Service`.
+        on_end: As of `Service`. Requests that are still open when the interpreter ends are told then."""
 
-    def __init__(self, loop: asyncio.AbstractEventLoop, *, describe: Describe = describe_all) -> None:
-        self._works = _LoopWorks(loop, describe)
+    def __init__(self, loop: asyncio.AbstractEventLoop, *, describe: Describe = describe_all,
+                 on_end: Optional[Hook] = None) -> None:
+        self._works = _LoopWorks(loop, describe, None if on_end is None else Ends(on_end, "LoopService_ends"))
+        self._kind = ContextRequest if on_end is None else EndingRequest
         self._requests = itertools.count()
 
     def request(self, name: str = "", room: int = ROOM, *, describe: Optional[Describe] = None) -> Request:
         """As `Service.request`."""
-        return _Request(self._works, name or f"request {next(self._requests)}", room, self)._describing(describe)
+        return self._kind(self._works, name or f"request {next(self._requests)}", room, self)._describing(describe)
 
     def start(self, flow: Flow, *given: Any, name: str = "", describe: Optional[Describe] = None) -> Request:
         """As `Service.start`."""
-        return flow._start(_Request, self._works, name or f"{flow.name} {next(self._requests)}", self,
+        return flow._start(self._kind, self._works, name or f"{flow.name} {next(self._requests)}", self,
                            given)._describing(describe)
-
-
-class _Request(Request):
-    """A request whose functions have contexts."""
-
-    __slots__ = ("_context",)
-
-    def __init__(self, *given: Any) -> None:
-        super().__init__(*given)
-        if self._plan is not None:
-            self._context = contextvars.copy_context()
-
-    def _attach(self, form: int, first: "Optional[Stage[Any]]", second: "Optional[Stage[Any]]",
-                call: Optional[Callable[..., Any]], args: Optional[Tuple[Any, ...]], kwargs: Optional[Dict[str, Any]],
-                name: Optional[str]) -> "Stage[Any]":
-        if call is None:
-            return RequestCore._attach(self, form, first, second, None, args, kwargs, name)
-        known = name if name is not None else call.__qualname__ if type(call) is FunctionType else name_of(call)
-        return RequestCore._attach(self, form, first, second, _Within(contextvars.copy_context().run, call), args,
-                                   kwargs, known)
-
-
-class _Within(functools.partial):  # type: ignore[type-arg]
-    """The `run` of a context with the function that it is to call."""
-
-    __slots__ = ()
 
 
 class _LoopWorks:
     """What `Works` is to a request."""
 
-    def __init__(self, loop: asyncio.AbstractEventLoop, describe: Describe) -> None:
-        self._loop, self.describe = loop, describe
+    def __init__(self, loop: asyncio.AbstractEventLoop, describe: Describe, ends: Optional[Ends]) -> None:
+        self._loop, self.describe, self.ends = loop, describe, ends
         self._tasks: "Set[asyncio.Task[None]]" = set()
 
     @property
@@ -136,7 +111,7 @@ class _LoopWorks:
             if begun is None:
                 return
             call, args, kwargs = begun
-            within = call if type(call) is _Within else _Within(cast(_Request, request)._context.copy().run, call)
+            within = call if type(call) is Within else cast(ContextRequest, request)._within(call)
             try:
                 given = within(*args, **kwargs)
             except BaseException as error:
@@ -145,7 +120,7 @@ class _LoopWorks:
                 if inspect.isawaitable(given) and not isinstance(given, Stage):
                     within.func(self._await, stage, given)
                     return
-                stage = _ended(stage, given)
+                stage = ended(stage, FIRST_WORKER, given)
 
     def _raised(self, stage: "Stage[Any]", error: BaseException) -> "Optional[Stage[Any]]":
         """Finishes a stage whose function raised. What leaves a loop as a task raises it does so here, too, once no
@@ -170,12 +145,5 @@ class _LoopWorks:
         except BaseException as error:
             following = self._raised(stage, error)
         else:
-            following = _ended(stage, value)
+            following = ended(stage, FIRST_WORKER, value)
         self._run(following)
-
-
-def _ended(stage: "Stage[Any]", given: Any) -> "Optional[Stage[Any]]":
-    """Finishes a stage with what its function gave."""
-    if stage._form in COMPOSE_FORMS:
-        return stage.request._link(stage, FIRST_WORKER, given)
-    return stage.request._end(stage, FIRST_WORKER, GIVES, given)

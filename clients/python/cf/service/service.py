@@ -3,8 +3,10 @@ import concurrent.futures
 import itertools
 import os
 import weakref
-from typing import TYPE_CHECKING, Any, Callable, Optional, Tuple, TypeVar
+from typing import TYPE_CHECKING, Any, Callable, Optional, Tuple, Type, TypeVar
 
+from .contexts import ContextRequest
+from .ending import EndingRequest, Ends, Hook
 from .flow import Flow
 from .history import Describe, describe_all
 from .request import Request
@@ -39,6 +41,12 @@ class Service(concurrent.futures.Executor):
             `cf.shared.DurableService`.
         describe: What histories tell of values and exceptions: `describe_all`, `describe_types`, `describe_nothing`, or
             another function that makes a text of one.
+        on_end: Called with the `History` of each request that is over, on a thread of its own, and in the context of
+            the place where the request was opened. What it raises is logged as a warning. `SpanFile` and `Spans` are
+            such hooks. With a hook functions have contexts.
+        contexts: Whether functions have the context variables of the place where they were attached, those of a flow
+            the ones of the place where the request was opened. Otherwise they have those of their thread, as with
+            `ThreadPoolExecutor`.
 
     Raises:
         ValueError: `max_workers` isn't above 0.
@@ -61,15 +69,17 @@ class Service(concurrent.futures.Executor):
 
     def __init__(self, max_workers: Optional[int] = None, thread_name_prefix: str = "",
                  initializer: Optional[Callable[..., object]] = None, initargs: Tuple[Any, ...] = (), *,
-                 store: "Optional[Store]" = None, describe: Describe = describe_all) -> None:
+                 store: "Optional[Store]" = None, describe: Describe = describe_all, on_end: Optional[Hook] = None,
+                 contexts: bool = False) -> None:
         workers = min(32, (os.cpu_count() or 1) + 4) if max_workers is None else max_workers
         if workers <= 0:
             raise ValueError("max_workers must be greater than 0")
         if initializer is not None and not callable(initializer):
             raise TypeError("initializer must be a callable")
-        number = next(self._services)
-        self._works = Works(workers, thread_name_prefix or f"{type(self).__name__}-{number}", initializer, initargs,
-                            describe)
+        prefix = thread_name_prefix or f"{type(self).__name__}-{next(self._services)}"
+        self._works = Works(workers, prefix, initializer, initargs, describe,
+                            None if on_end is None else Ends(on_end, f"{prefix}_ends"))
+        self._kind: Type[Request] = (ContextRequest if contexts else Request) if on_end is None else EndingRequest
         self._requests = itertools.count()
         weakref.finalize(self, self._works.close)
 
@@ -81,7 +91,7 @@ class Service(concurrent.futures.Executor):
             room: A guess how many stages it will have. One that grows beyond that does all its events again a few
                 times.
             describe: What its histories tell of values and exceptions, in place of what the service chose."""
-        return Request(self._works, name or f"request {next(self._requests)}", room, self)._describing(describe)
+        return self._kind(self._works, name or f"request {next(self._requests)}", room, self)._describing(describe)
 
     def start(self, flow: Flow, *given: Any, name: str = "", describe: Optional[Describe] = None) -> Request:
         """Begins a request of a flow's stages, and comes back at once. Threads run what becomes ready. Further stages
@@ -98,7 +108,7 @@ class Service(concurrent.futures.Executor):
 
         Raises:
             ValueError: More values are given than there are promises."""
-        return flow._start(Request, self._works, name or f"{flow.name} {next(self._requests)}", self,
+        return flow._start(self._kind, self._works, name or f"{flow.name} {next(self._requests)}", self,
                            given)._describing(describe)
 
     def submit(self, fn: Callable[..., T], /, *args: Any, **kwargs: Any) -> "Stage[T]":
@@ -115,7 +125,8 @@ class Service(concurrent.futures.Executor):
         works = self._works
         if works.closed:
             raise works.refusal()
-        stage: Stage[T] = Request(works, "", 1)._attach(Form.SUPPLY, None, None, fn, args or None, kwargs or None, None)
+        request = self._kind(works, "", 1)
+        stage: Stage[T] = request._attach(Form.SUPPLY, None, None, fn, args or None, kwargs or None, None)
         return stage
 
     def shutdown(self, wait: bool = True, *, cancel_futures: bool = False) -> None:
@@ -123,7 +134,8 @@ class Service(concurrent.futures.Executor):
         ready by them. What becomes ready later, as by a `complete`, fails with `RuntimeError`.
 
         Args:
-            wait: Whether to wait until all threads have ended.
+            wait: Whether to wait until all threads have ended. A service with `on_end` then ends all its requests, and
+                waits until that was told, for at most 30 seconds.
             cancel_futures: Whether to cancel the stages that no thread has taken yet, as `Stage.cancel` does."""
         self._works.close()
         try:
@@ -132,3 +144,5 @@ class Service(concurrent.futures.Executor):
         finally:
             if wait:
                 self._works.join()
+                if self._works.ends is not None:
+                    self._works.ends.end_all()
