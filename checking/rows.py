@@ -110,13 +110,14 @@ def rows_of_java(tools: Tools, made: Path) -> List[Row]:
     """The jar, with the library in it, is built once, by the first row."""
     javac, jar, tests = tools["JDK of 17 or later"], str(made / "java/cf-service.jar"), str(made / "java/tests")
     needs = ["library", "C compiler", "JDK of 17 or later"]
-    sources = sorted(str(path) for part in ["test/cf/service", "example"] for path in (TOP / "clients/java" / part).glob("*.java"))
+    sources = sorted(str(path) for part in ["test", "example", "opentelemetry"] for path in (TOP / "clients/java" / part).rglob("*.java"))
     built = [["env", "JAVAC=" + javac, "clients/java/build", "--quick", str(made / "java")],
              [javac, "-nowarn", "-encoding", "UTF-8", "-cp", jar, "-d", tests, *sources]]
     java = [str(Path(javac).parent / "java"), "-Xmx64m", "-XX:+UseSerialGC", "-XX:TieredStopAtLevel=1", "-cp", jar + ":" + tests]
     return [
         Row("Java's service", needs, [*built, [*java, "-Dcf.look=" + tools["cf_look"], "cf.service.AllTests"]]),
         Row("Java's first program", needs, [[*java, "First"]], ("clients/java", "First")),
+        Row("Java's spans", needs, [[*java, "Traced"]], ("clients/java", "Traced")),
         Row("random requests of Java's service", [*needs, "python3", "cf", "cf_look"],
             [[tools["python3"], "conformance/clients/java-service", jar, "0", "1000", tools["cf"], tools["cf_look"]]]),
     ]
