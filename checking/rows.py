@@ -96,9 +96,10 @@ def rows_of_rust(tools: Tools, made: Path) -> List[Row]:
     python, offline, needs = tools["python3"], "clients/rust/offline", ["library", "cargo", "python3"]
     return [
         Row("Rust's tests", needs, [[python, offline, "test", "-q", "--lib", "--tests", "--examples"]]),
-        Row("Rust's tests under tokio, rayon and serde", [*needs, DEBIANS],
-            [[python, offline, "--debian", "test", "-q", "-p", "cf", "--features", "tokio,rayon,serde", "--lib", "--tests"]]),
+        Row("Rust's tests under tokio, rayon, serde and tracing", [*needs, DEBIANS],
+            [[python, offline, "--debian", "test", "-q", "-p", "cf", "--features", "tokio,rayon,serde,tracing", "--lib", "--tests"]]),
         Row("the examples of Rust's pages", needs, [[python, offline, "test", "-q", "--doc"]]),
+        Row("Rust's spans", needs, [[python, offline, "run", "-q", "-p", "cf", "--example", "traced"]], ("clients/rust", "traced.rs")),
         Row("Rust's first program", needs, [[python, offline, "run", "-q", "-p", "cf", "--example", "first"]], ("clients/rust", "first.rs")),
         Row("random requests of Rust's crate", [*needs, "cf", "cf_look"],
             [[python, "conformance/clients/rust-requests", "0", "100", tools["cf"], tools["cf_look"]]]),
