@@ -57,6 +57,7 @@ def rows_of_python(tools: Tools, made: Path) -> List[Row]:
     return [
         Row("Python's example", ["library", "python3"], [[python, "clients/python/example.py"]], ("clients/python", "example.py")),
         Row("Python's first program", ["library", "python3"], [[python, "clients/python/first.py"]], ("clients/python", "first.py")),
+        Row("Python's spans in a file", ["library", "python3"], [[python, "clients/python/traced.py"]], ("clients/python", "traced.py")),
         Row("Python's order of three processes", ["library", "python3"], [[python, "clients/python/order.py"]], ("clients/python", "order.py")),
         Row("Python's order that charges twice", ["library", "python3"], [[python, "clients/python/twice.py"]], ("docs/TESTING.md", "twice.py")),
         Row("Python's orders that charge once", ["library", "python3"], [[python, "clients/python/once.py"]], ("docs/TESTING.md", "once.py")),
@@ -102,9 +103,10 @@ def rows_of_rust(tools: Tools, made: Path) -> List[Row]:
     python, offline, needs = tools["python3"], "clients/rust/offline", ["library", "cargo", "python3"]
     return [
         Row("Rust's tests", needs, [[python, offline, "test", "-q", "--lib", "--tests", "--examples"]]),
-        Row("Rust's tests under tokio, rayon and serde", [*needs, DEBIANS],
-            [[python, offline, "--debian", "test", "-q", "-p", "cf", "--features", "tokio,rayon,serde", "--lib", "--tests"]]),
+        Row("Rust's tests under tokio, rayon, serde and tracing", [*needs, DEBIANS],
+            [[python, offline, "--debian", "test", "-q", "-p", "cf", "--features", "tokio,rayon,serde,tracing", "--lib", "--tests"]]),
         Row("the examples of Rust's pages", needs, [[python, offline, "test", "-q", "--doc"]]),
+        Row("Rust's spans", needs, [[python, offline, "run", "-q", "-p", "cf", "--example", "traced"]], ("clients/rust", "traced.rs")),
         Row("Rust's first program", needs, [[python, offline, "run", "-q", "-p", "cf", "--example", "first"]], ("clients/rust", "first.rs")),
         Row("random requests of Rust's crate", [*needs, "cf", "cf_look"],
             [[python, "conformance/clients/rust-requests", "0", "100", tools["cf"], tools["cf_look"]]]),
@@ -116,13 +118,14 @@ def rows_of_java(tools: Tools, made: Path) -> List[Row]:
     """The jar, with the library in it, is built once, by the first row."""
     javac, jar, tests = tools["JDK of 17 or later"], str(made / "java/cf-service.jar"), str(made / "java/tests")
     needs = ["library", "C compiler", "JDK of 17 or later"]
-    sources = sorted(str(path) for part in ["test/cf/service", "example"] for path in (TOP / "clients/java" / part).glob("*.java"))
+    sources = sorted(str(path) for part in ["test", "example", "opentelemetry"] for path in (TOP / "clients/java" / part).rglob("*.java"))
     built = [["env", "JAVAC=" + javac, "clients/java/build", "--quick", str(made / "java")],
              [javac, "-nowarn", "-encoding", "UTF-8", "-cp", jar, "-d", tests, *sources]]
     java = [str(Path(javac).parent / "java"), "-Xmx64m", "-XX:+UseSerialGC", "-XX:TieredStopAtLevel=1", "-cp", jar + ":" + tests]
     return [
         Row("Java's service", needs, [*built, [*java, "-Dcf.look=" + tools["cf_look"], "cf.service.AllTests"]]),
         Row("Java's first program", needs, [[*java, "First"]], ("clients/java", "First")),
+        Row("Java's spans", needs, [[*java, "Traced"]], ("clients/java", "Traced")),
         Row("random requests of Java's service", [*needs, "python3", "cf", "cf_look"],
             [[tools["python3"], "conformance/clients/java-service", jar, "0", "1000", tools["cf"], tools["cf_look"]]]),
     ]

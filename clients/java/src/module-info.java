@@ -1,5 +1,6 @@
 /** Completable futures whose requests leave one proved history each. */
 module cf.service {
+    requires java.logging;
     requires static jdk.jfr;
 
     exports cf.service;

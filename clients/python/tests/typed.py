@@ -13,12 +13,12 @@ import asyncio
 import concurrent.futures
 import sys
 from pathlib import Path
-from typing import TYPE_CHECKING, Any, Iterator, List, Optional, Set, Tuple
+from typing import TYPE_CHECKING, Any, Callable, Iterator, List, Optional, Set, Tuple
 
 if TYPE_CHECKING:
     import cf
-    from cf.service import (Flow, History, LoopService, Request, RequestFull, Service, Stage, describe_nothing,
-                            describe_types)
+    from cf.service import (Flow, History, LoopService, Request, RequestFull, Service, Span, SpanFile, Spans, Stage,
+                            describe_nothing, describe_types, spans_of, spans_to)
     from cf.testing import Arrival, Failure, Report, World, orders, pure, touches
 
     def load(number: int) -> str: ...
@@ -93,6 +93,19 @@ if TYPE_CHECKING:
         many: int = orders(checkout, row=rows[0]).orders
         orders(checkout, chance="many")  # type: ignore[arg-type]
         print(many, touches("cache")(size)("x"))
+
+    def traced(loop: asyncio.AbstractEventLoop) -> None:
+        hooks: List[Callable[[History], object]] = [SpanFile(Path("spans")), Spans(), spans_to("spans", "shop"),
+                                                    lambda history: history.line()]
+        services = [Service(on_end=hook) for hook in hooks]
+        LoopService(loop, on_end=SpanFile("spans", service="shop"))
+        with Service(contexts=True).request("r") as request:
+            request.supply(load, 17)
+            request.end()
+        spans: List[Span] = spans_of(request.history())
+        Service(on_end=SpanFile)  # type: ignore[arg-type]
+        Service(on_end="spans")  # type: ignore[arg-type]
+        print(services, spans)
 
     def ledgers(plan: cf.Plan) -> None:
         typed_ledger = cf.Ledger(plan, room=2)

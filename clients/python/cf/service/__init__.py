@@ -8,9 +8,10 @@ from .history import History, describe_all, describe_nothing, describe_types
 from .loop import LoopService
 from .request import Request
 from .service import Service
+from .spans import Span, SpanFile, Spans, spans_of, spans_to
 from .stage import Stage
 from .watch import Watch
 from .words import RequestFull
 
-__all__ = ["Flow", "History", "LoopService", "Request", "RequestFull", "Service", "Stage", "Step", "Watch",
-           "describe_all", "describe_nothing", "describe_types"]
+__all__ = ["Flow", "History", "LoopService", "Request", "RequestFull", "Service", "Span", "SpanFile", "Spans", "Stage",
+           "Step", "Watch", "describe_all", "describe_nothing", "describe_types", "spans_of", "spans_to"]

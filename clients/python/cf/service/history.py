@@ -1,6 +1,7 @@
 """What happened to a request: told in words, as an account that `cf_look check` judges, and as a script."""
 import json
 import subprocess
+import time
 import unicodedata
 from array import array
 from typing import TYPE_CHECKING, Any, Callable, Dict, Iterator, List, NamedTuple, Optional, Sequence, Tuple
@@ -120,6 +121,7 @@ class History:
         self.planned: List[Tuple[int, Tuple[int, ...], bool]] = [
             (form, of, call is not None) for form, of, call, _ in rows]
         self._times, self._replies = _numbers("q", times), _numbers("I", replies)
+        self._since = time.time_ns() - time.monotonic_ns()  # when the clock of the times was at 0
         self._told: Dict[int, List[Tuple[int, Told]]] = {}
         self._entries: Optional[List[Entry]] = None
         numbers = _numbers("I", told)

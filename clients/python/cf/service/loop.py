@@ -1,21 +1,19 @@
 """Functions on an event loop, in place of threads: they may be coroutine functions, and the loop's clock is the
 clock."""
 import asyncio
-import contextvars
-import functools
 import inspect
 import itertools
-from types import FunctionType
-from typing import Any, Awaitable, Callable, Dict, List, Optional, Set, Tuple, Type, cast
+from typing import Any, Awaitable, Callable, List, Optional, Set, Type, cast
 
-from ._core import RequestCore
+from .contexts import ContextRequest, ended, Within
+from .ending import EndingRequest, Ends, Hook
 from .flow import Flow
 from .history import Describe, describe_all
 from .request import Request
 from .service import ROOM
 from .stage import Stage
 from .watch import Watch, WatchedRequest
-from .words import COMPOSE_FORMS, FIRST_WORKER, GIVES, THROWS, name_of
+from .words import FIRST_WORKER, THROWS
 
 
 class LoopService:
@@ -38,12 +36,22 @@ class LoopService:
     Args:
         loop: The loop that calls the functions, and whose clock is the clock.
         describe: As of `Service`.
-        watch: Who is told of all that is done to stages, as of `Service`. The loop runs the functions and is the clock."""
+        watch: Who is told of all that is done to stages, as of `Service`. The loop runs the functions and is the clock.
+        on_end: As of `Service`. Requests that are still open when the interpreter ends are told then. It isn't given
+            beside a watch.
+
+    Raises:
+        ValueError: Both a watch and a hook are given."""
 
     def __init__(self, loop: asyncio.AbstractEventLoop, *, describe: Describe = describe_all,
-                 watch: Optional[Watch] = None) -> None:
-        self._works = _LoopWorks(loop, describe, watch)
-        self._kind: Type[_Request] = _Request if watch is None else _WatchedRequest
+                 watch: Optional[Watch] = None, on_end: Optional[Hook] = None) -> None:
+        if watch is not None and on_end is not None:
+            raise ValueError("a watch and on_end aren't given together")
+        ends = None if on_end is None else Ends(on_end, "LoopService_ends")
+        self._works = _LoopWorks(loop, describe, ends, watch)
+        self._kind: Type[ContextRequest] = ContextRequest if on_end is None else EndingRequest
+        if watch is not None:
+            self._kind = _WatchedRequest
         self._requests = itertools.count()
 
     def request(self, name: str = "", room: int = ROOM, *, describe: Optional[Describe] = None) -> Request:
@@ -56,41 +64,16 @@ class LoopService:
                            given)._describing(describe)
 
 
-class _Request(Request):
-    """A request whose functions have contexts."""
-
-    __slots__ = ("_context",)
-
-    def __init__(self, *given: Any) -> None:
-        super().__init__(*given)
-        if self._plan is not None:
-            self._context = contextvars.copy_context()
-
-    def _attach(self, form: int, first: "Optional[Stage[Any]]", second: "Optional[Stage[Any]]",
-                call: Optional[Callable[..., Any]], args: Optional[Tuple[Any, ...]], kwargs: Optional[Dict[str, Any]],
-                name: Optional[str]) -> "Stage[Any]":
-        if call is None:
-            return RequestCore._attach(self, form, first, second, None, args, kwargs, name)
-        known = name if name is not None else call.__qualname__ if type(call) is FunctionType else name_of(call)
-        return RequestCore._attach(self, form, first, second, _Within(contextvars.copy_context().run, call), args,
-                                   kwargs, known)
-
-
-class _WatchedRequest(WatchedRequest, _Request):
+class _WatchedRequest(WatchedRequest, ContextRequest):
     """One that tells a watch what is done to it."""
-
-
-class _Within(functools.partial):  # type: ignore[type-arg]
-    """The `run` of a context with the function that it is to call."""
-
-    __slots__ = ()
 
 
 class _LoopWorks:
     """What `Works` is to a request."""
 
-    def __init__(self, loop: asyncio.AbstractEventLoop, describe: Describe, watch: Optional[Watch] = None) -> None:
-        self._loop, self.describe, self.watch = loop, describe, watch
+    def __init__(self, loop: asyncio.AbstractEventLoop, describe: Describe, ends: Optional[Ends],
+                 watch: Optional[Watch]) -> None:
+        self._loop, self.describe, self.ends, self.watch = loop, describe, ends, watch
         self._tasks: "Set[asyncio.Task[None]]" = set()
 
     @property
@@ -144,7 +127,7 @@ class _LoopWorks:
             if begun is None:
                 return
             call, args, kwargs = begun
-            within = call if type(call) is _Within else _Within(cast(_Request, request)._context.copy().run, call)
+            within = call if type(call) is Within else cast(ContextRequest, request)._within(call)
             try:
                 given = within(*args, **kwargs)
             except BaseException as error:
@@ -153,7 +136,7 @@ class _LoopWorks:
                 if inspect.isawaitable(given) and not isinstance(given, Stage):
                     within.func(self._await, stage, given)
                     return
-                stage = _ended(stage, given)
+                stage = ended(stage, FIRST_WORKER, given)
 
     def _raised(self, stage: "Stage[Any]", error: BaseException) -> "Optional[Stage[Any]]":
         """Finishes a stage whose function raised. What leaves a loop as a task raises it does so here, too, once no
@@ -178,12 +161,5 @@ class _LoopWorks:
         except BaseException as error:
             following = self._raised(stage, error)
         else:
-            following = _ended(stage, value)
+            following = ended(stage, FIRST_WORKER, value)
         self._run(following)
-
-
-def _ended(stage: "Stage[Any]", given: Any) -> "Optional[Stage[Any]]":
-    """Finishes a stage with what its function gave."""
-    if stage._form in COMPOSE_FORMS:
-        return stage.request._link(stage, FIRST_WORKER, given)
-    return stage.request._end(stage, FIRST_WORKER, GIVES, given)

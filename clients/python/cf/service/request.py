@@ -59,9 +59,14 @@ Room
     (`_make_room`, `grow` in C). What takes several stages asks `_check_room` before it attaches the first, so that a
     call that raises `RequestFull` has changed nothing.
 
+Contexts and ends
+    A request whose functions have contexts is a `ContextRequest` (contexts.py), and one of a service with a hook an
+    `EndingRequest` (ending.py). Other requests know nothing of either.
+
 Which methods call a user's code
     `_run` and `_LoopWorks._run` (functions), `_let_go` (callbacks), `Works._work` (the initializer of threads),
-    `history` (`describe`), and relays, which add a callback to somebody's future and ask for its result.
+    `history` (`describe`), `Ends._run` (the hook, and `describe` before it), and relays, which add a callback to
+    somebody's future and ask for its result.
 """
 import concurrent.futures
 import functools
@@ -78,6 +83,7 @@ from .words import FAIL, LINKS, MOST_STAGES, RELAY, THROWS, RequestFull
 if TYPE_CHECKING:
     from typing import Protocol
 
+    from .ending import Ends
     from .flow import Step
 
     class Clock(Protocol):
@@ -96,6 +102,9 @@ if TYPE_CHECKING:
 
         @property
         def describe(self) -> Describe: ...
+
+        @property
+        def ends(self) -> Optional[Ends]: ...
 
         def refusal(self) -> RuntimeError: ...
 
@@ -222,6 +231,17 @@ class Request(RequestCore):
         """All that happened until now, as a `History` that stays as it is. It takes about a microsecond an event."""
         return History(self.name, self._plan,
                        self._facts())._described(getattr(self, "_describe", self._works.describe))
+
+    def end(self) -> None:
+        """Says that this request is over: once all stages that it has now are settled, the `on_end` of its service is
+        told of it. `with service.request(..) as request:` says so at the end of the block. Without a call the request
+        is over once nobody has it or one of its stages any more. To a service without `on_end` it means nothing."""
+
+    def __enter__(self: R) -> R:
+        return self
+
+    def __exit__(self, *_cause: object) -> None:
+        self.end()
 
     def _describing(self: R, describe: Optional[Describe]) -> R:
         """This request, whose histories tell of values what a function does, if one is given."""

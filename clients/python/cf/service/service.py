@@ -5,6 +5,8 @@ import os
 import weakref
 from typing import TYPE_CHECKING, Any, Callable, Optional, Tuple, Type, TypeVar, Union
 
+from .contexts import ContextRequest
+from .ending import EndingRequest, Ends, Hook
 from .flow import Flow
 from .history import Describe, describe_all
 from .request import Request
@@ -42,9 +44,15 @@ class Service(concurrent.futures.Executor):
             another function that makes a text of one.
         watch: Who runs the functions, keeps the time and is told of all that is done to stages, in the place of threads
             and a clock: a `Watch` of watch.py, as `cf.testing` has one.
+        on_end: Called with the `History` of each request that is over, on a thread of its own, and in the context of
+            the place where the request was opened. What it raises is logged as a warning. `SpanFile` and `Spans` are
+            such hooks. With a hook functions have contexts.
+        contexts: Whether functions have the context variables of the place where they were attached, those of a flow
+            the ones of the place where the request was opened. Otherwise they have those of their thread, as with
+            `ThreadPoolExecutor`.
 
     Raises:
-        ValueError: `max_workers` isn't above 0.
+        ValueError: `max_workers` isn't above 0, or a watch is given beside `on_end` or `contexts`.
         TypeError: `initializer` can't be called.
 
     Threads are started as they are needed. They end with `shutdown`, or once nobody has the service or a request of
@@ -65,21 +73,24 @@ class Service(concurrent.futures.Executor):
     def __init__(self, max_workers: Optional[int] = None, thread_name_prefix: str = "",
                  initializer: Optional[Callable[..., object]] = None, initargs: Tuple[Any, ...] = (), *,
                  store: "Optional[Store]" = None, describe: Describe = describe_all,
-                 watch: Optional[Watch] = None) -> None:
+                 watch: Optional[Watch] = None, on_end: Optional[Hook] = None, contexts: bool = False) -> None:
         workers = min(32, (os.cpu_count() or 1) + 4) if max_workers is None else max_workers
         if workers <= 0:
             raise ValueError("max_workers must be greater than 0")
         if initializer is not None and not callable(initializer):
             raise TypeError("initializer must be a callable")
-        number = next(self._services)
+        if watch is not None and (on_end is not None or contexts):
+            raise ValueError("a watch and on_end or contexts aren't given together")
+        prefix = thread_name_prefix or f"{type(self).__name__}-{next(self._services)}"
         self._requests = itertools.count()
-        self._kind: Type[Request] = Request
         self._works: Union[Works, WatchedWorks]
+        self._kind: Type[Request]
         if watch is not None:
             self._works, self._kind = WatchedWorks(watch, describe), WatchedRequest
             return
-        self._works = Works(workers, thread_name_prefix or f"{type(self).__name__}-{number}", initializer, initargs,
-                            describe)
+        self._works = Works(workers, prefix, initializer, initargs, describe,
+                            None if on_end is None else Ends(on_end, f"{prefix}_ends"))
+        self._kind = (ContextRequest if contexts else Request) if on_end is None else EndingRequest
         weakref.finalize(self, self._works.close)
 
     def request(self, name: str = "", room: int = ROOM, *, describe: Optional[Describe] = None) -> Request:
@@ -133,7 +144,8 @@ class Service(concurrent.futures.Executor):
         ready by them. What becomes ready later, as by a `complete`, fails with `RuntimeError`.
 
         Args:
-            wait: Whether to wait until all threads have ended.
+            wait: Whether to wait until all threads have ended. A service with `on_end` then ends all its requests, and
+                waits until that was told, for at most 30 seconds.
             cancel_futures: Whether to cancel the stages that no thread has taken yet, as `Stage.cancel` does."""
         self._works.close()
         try:
@@ -142,3 +154,5 @@ class Service(concurrent.futures.Executor):
         finally:
             if wait:
                 self._works.join()
+                if self._works.ends is not None:
+                    self._works.ends.end_all()

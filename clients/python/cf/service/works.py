@@ -13,6 +13,7 @@ from queue import Empty, SimpleQueue
 from typing import Any, Callable, Iterable, List, Optional, Set, Tuple
 
 from ._core import be
+from .ending import Ends
 from .history import Describe, describe_all
 from .stage import Stage
 from .words import FIRST_WORKER, MOST_CALLERS
@@ -30,8 +31,8 @@ class Works:
     under the lock, and who puts a stage looks behind it whether all have ended, so each stage is run or refused."""
 
     def __init__(self, most: int, prefix: str, initializer: Optional[Callable[..., object]], initargs: Tuple[Any, ...],
-                 describe: Describe = describe_all) -> None:
-        self.most, self.broken, self.closed, self.describe = most, False, False, describe
+                 describe: Describe = describe_all, ends: Optional[Ends] = None) -> None:
+        self.most, self.broken, self.closed, self.describe, self.ends = most, False, False, describe, ends
         self.clock = Clock(f"{prefix}_clock")
         self._prefix, self._initializer, self._initargs = prefix, initializer, initargs
         self._reset()
@@ -298,6 +299,7 @@ class Here:
     """This thread, which runs all that is ready before it goes on, as its ledger tells it. There is no clock."""
 
     closed = False
+    ends: Optional[Ends] = None
 
     @property
     def describe(self) -> Describe:

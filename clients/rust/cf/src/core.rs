@@ -2,7 +2,9 @@
 //!
 //! No code of a user runs under the lock: wakers, values and functions that are dropped, jobs and other requests are told behind it ([`After`]).
 use crate::clock::{Alarm, Clock};
+use crate::context::carried;
 use crate::error::{Error, Panic, Refusal};
+use crate::history::History;
 use crate::inner::{After, Feed, Inner, Kept};
 use crate::name::Made;
 use crate::slot::Held;
@@ -88,7 +90,7 @@ impl Core {
 
     /// Nanoseconds since the request began. A clock may be a user's, so it isn't asked under the lock, and one that panics tells nothing; the
     /// record lets times rise.
-    fn now(&self) -> u64 {
+    pub(crate) fn now(&self) -> u64 {
         let told = catch_unwind(AssertUnwindSafe(|| self.clock.now())).unwrap_or_default();
         let since = told.saturating_sub(self.begun);
         since.as_secs().saturating_mul(1_000_000_000).saturating_add(u64::from(since.subsec_nanos()))
@@ -97,12 +99,14 @@ impl Core {
     // Changes by callers.
 
     pub(crate) fn attach(self: &Arc<Core>, who: u8, form: Form, of: &[u16], call: Option<Call>, made: Made) -> Result<u16, Refusal> {
+        let call = call.map(carried);
         self.change(|inner, after| inner.attach(who, form, of, call, made, after))
     }
 
     /// A composing stage, and right below it a source, the relay that stands in for a stage that is higher or elsewhere: a stage links to lower
     /// ones alone, and one that its function makes is higher.
     pub(crate) fn attach_composing(self: &Arc<Core>, who: u8, form: Form, of: u16, call: Call, made: Made) -> Result<u16, Refusal> {
+        let call = carried(call);
         self.change(|inner, after| {
             if inner.ledger.left() < 2 {
                 after.dropped.push(Held::Call(call));
@@ -485,7 +489,14 @@ thread_local! {
 impl Drop for Core {
     /// What it holds may be the last that has another request: by a value, a function, or a stage that was adopted there. They are dropped one
     /// after another, so that a row of requests takes no stack.
+    ///
+    /// It is over, so who is to be told of that is handed its history.
     fn drop(&mut self) {
+        let ending = self.inner.get_mut().unwrap_or_else(PoisonError::into_inner).ending.take();
+        if let Some(ending) = ending {
+            let (history, describe) = History::taken(self);
+            ending.ends.tell(history, describe, ending.within);
+        }
         let kept = self.inner.get_mut().unwrap_or_else(PoisonError::into_inner).kept();
         if !kept.is_empty() {
             in_turn(&DROPPED, kept, drop);

@@ -14,7 +14,7 @@ use std::fmt::{self, Write};
 use std::io::{self, Write as _};
 use std::process::{Command, Stdio};
 use std::thread;
-use std::time::Duration;
+use std::time::{Duration, SystemTime};
 
 /// Characters that accounts take of a stage's name.
 const LONGEST_NAME: usize = 64;
@@ -44,6 +44,8 @@ pub struct History {
     /// What is told of `()`.
     nil: String,
     relays: Vec<(u16, u16)>,
+    /// When the request began.
+    since: SystemTime,
 }
 
 /// What a stage ended in, or what is told of it where that isn't all: then what it ended in isn't kept.
@@ -54,9 +56,13 @@ enum Kept<T> {
 }
 
 impl<T> Kept<T> {
-    fn all(kept: Vec<Option<T>>, tell: impl Fn(&T) -> Option<String>) -> Vec<Option<Kept<T>>> {
-        let keep = |it: T| tell(&it).map_or(Kept::Raw(it), Kept::Text);
-        kept.into_iter().map(|it| it.map(keep)).collect()
+    fn all(kept: Vec<Option<T>>) -> Vec<Option<Kept<T>>> {
+        kept.into_iter().map(|it| it.map(Kept::Raw)).collect()
+    }
+
+    /// Keeps texts in the place of these.
+    fn tell(all: &mut [Option<Kept<T>>], tell: impl Fn(&T) -> String) {
+        all.iter_mut().flatten().for_each(|kept| *kept = Kept::Text(kept.text(&tell)));
     }
 
     fn text(&self, tell: impl Fn(&T) -> String) -> String {
@@ -75,8 +81,18 @@ struct Entry {
     told: Vec<(u16, Outcome)>,
 }
 
+/// Of an event its word, what it was answered, and what it settled.
+pub(crate) type Replied = (u64, Reply, Vec<(u16, Outcome)>);
+
 impl History {
     pub(crate) fn of(core: &Core) -> History {
+        let (history, describe) = History::taken(core);
+        history.described(&describe)
+    }
+
+    /// All as it is, and what is to be told of it.
+    pub(crate) fn taken(core: &Core) -> (History, Describe) {
+        let since = SystemTime::now().checked_sub(Duration::from_nanos(core.now())).unwrap_or(SystemTime::UNIX_EPOCH);
         let mut inner = core.lock();
         let words = inner.ledger.words();
         let record = inner.ledger.record.clone();
@@ -87,10 +103,45 @@ impl History {
         let mut names: Vec<String> = made.iter().map(Made::to_string).collect();
         given.into_iter().for_each(|(stage, name)| names[usize::from(stage)] = name.into_owned());
         let (values, errors) = kept.into_iter().unzip();
-        let (is_all, nil) = (matches!(describe, Describe::All), describe.tell(Ok(&Val::Nil)));
-        let values = Kept::all(values, |value| (!is_all).then(|| describe.tell(Ok(value))));
-        let errors = Kept::all(errors, |error| (!is_all).then(|| describe.tell(Err(error))));
-        History { name: core.name.to_string(), words, record, names, values, errors, nil, relays }
+        let (values, errors) = (Kept::all(values), Kept::all(errors));
+        (History { name: core.name.to_string(), words, record, names, values, errors, nil: String::new(), relays, since }, describe)
+    }
+
+    /// The same, which keeps what is told of values and errors alone, where that isn't all.
+    pub(crate) fn described(mut self, describe: &Describe) -> History {
+        self.nil = describe.tell(Ok(&Val::Nil));
+        if !matches!(describe, Describe::All) {
+            Kept::tell(&mut self.values, |value| describe.tell(Ok(value)));
+            Kept::tell(&mut self.errors, |error| describe.tell(Err(error)));
+        }
+        self
+    }
+
+    // For spans.
+
+    pub(crate) fn name(&self) -> &str {
+        &self.name
+    }
+
+    pub(crate) fn since(&self) -> SystemTime {
+        self.since
+    }
+
+    pub(crate) fn replies(&self) -> Vec<Replied> {
+        self.entries().into_iter().map(|entry| (entry.word, entry.reply, entry.told)).collect()
+    }
+
+    /// The stages for which relays stand.
+    pub(crate) fn relayed(&self) -> impl Iterator<Item = u16> + '_ {
+        self.relays.iter().map(|(_, stage)| *stage)
+    }
+
+    /// What is told of a fault.
+    pub(crate) fn failure(&self, fault: Outcome) -> String {
+        match fault {
+            Outcome::Fault { cause: Cause::TimedOut, .. } => "timed out".into(),
+            fault => self.outcome(fault),
+        }
     }
 
     /// The words of all events, in their one order: docs/FORMATS.md, "Words of events".
@@ -338,7 +389,7 @@ impl History {
         }
     }
 
-    fn error(&self, code: u32) -> String {
+    pub(crate) fn error(&self, code: u32) -> String {
         self.errors[code as usize].as_ref().map_or_else(|| "an error".into(), |error| escaped(&error.text(|error| short(told(Err(error))))))
     }
 
@@ -469,7 +520,7 @@ impl Told {
     }
 }
 
-fn caller(who: u8) -> String {
+pub(crate) fn caller(who: u8) -> String {
     match who {
         CALLER => "caller".into(),
         CLOCK => "clock".into(),
@@ -526,7 +577,7 @@ fn list(text: &mut String, items: impl Iterator<Item = String>) {
 }
 
 /// A JSON string, which is one line also for who takes other letters for the end of one.
-fn quoted(text: &str) -> String {
+pub(crate) fn quoted(text: &str) -> String {
     let mut quoted = String::from('"');
     for letter in text.chars() {
         match letter {

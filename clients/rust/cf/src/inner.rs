@@ -5,6 +5,7 @@
 //!
 //! A value's number is that of the stage that gave it, and so is an error's.
 use crate::core::{Core, First, Needs};
+use crate::ends::Ending;
 use crate::error::{Error, Refusal};
 use crate::ledger::{Hangs, Ledger};
 use crate::name::Made;
@@ -34,6 +35,8 @@ pub(crate) struct Inner {
     pub(crate) names: BTreeMap<u16, Cow<'static, str>>,
     /// What histories tell of values and errors.
     pub(crate) describe: crate::describe::Describe,
+    /// Who is told that the request is over.
+    pub(crate) ending: Option<Box<Ending>>,
     /// Which stage each relay of this request stands for.
     pub(crate) relays: Vec<(u16, u16)>,
     /// The handles that wait for a stage.
@@ -134,6 +137,7 @@ impl Inner {
             slots: Vec::with_capacity(usize::from(room.min(SLOTS))),
             names: BTreeMap::new(),
             describe: crate::describe::Describe::All,
+            ending: None,
             relays: Vec::new(),
             waiting: Wakers::default(),
             helpers: Vec::new(),

@@ -49,6 +49,11 @@
 //! A [`History`] tells what stages gave and failed with. [`Describe`] says how much of that, for requests whose values are nobody else's
 //! business. Names, values and errors are told in one line whatever stands in them, so that none looks like an event.
 //!
+//! # Traces
+//!
+//! [`Request::on_end`] has a function told of the [`History`] of each request that is over ([`Ends`]). [`History::spans`] tells it as
+//! OpenTelemetry's spans, and [`SpanFile`] adds these to a file.
+//!
 //! # Features
 //!
 //! | Feature | What it adds | It needs |
@@ -56,6 +61,7 @@
 //! | `tokio` | `Blocking`, `Tasks` and `TokioClock`: functions and futures on a runtime of tokio, timeouts by its clock | tokio 1 |
 //! | `rayon` | a `rayon::ThreadPool` is a [`Spawn`] | rayon 1 |
 //! | `serde` | a [`History`] is `Serialize`, as its account | serde 1 |
+//! | `tracing` | a function, and its future, has the span of tracing that was current where it was attached | tracing 0.1 |
 //!
 //! Without features it needs `libcf` and `std` alone, and Rust 1.63.
 //!
@@ -68,8 +74,10 @@
 #![warn(missing_docs, missing_debug_implementations, unreachable_pub, rust_2018_idioms)]
 
 mod clock;
+mod context;
 mod core;
 mod describe;
+mod ends;
 mod error;
 mod help;
 mod history;
@@ -83,6 +91,7 @@ mod runtime;
 #[cfg(test)]
 mod search;
 mod slot;
+mod spans;
 mod spawn;
 mod stage;
 mod task;
@@ -92,10 +101,12 @@ mod word;
 
 pub use clock::{Alarm, Clock, HandClock, SystemClock};
 pub use describe::{Describe, Describes};
+pub use ends::Ends;
 pub use error::{BoxError, Error, Panic, Refusal};
 pub use history::History;
 pub use request::Request;
 #[cfg(feature = "tokio")]
 pub use runtime::{Blocking, Tasks, TokioClock};
+pub use spans::{Called, Span, SpanFile, Status};
 pub use spawn::{Inline, Job, Pool, Spawn};
 pub use stage::{AnyStage, ArcOf, CancelOnDrop, Stage};

@@ -1,7 +1,9 @@
 //! Stages that belong together.
 use crate::clock::{Clock, SystemClock};
+use crate::context::Context;
 use crate::core::Core;
 use crate::describe::Describe;
+use crate::ends::{Ending, Ends};
 use crate::error::{BoxError, Error, Refusal};
 use crate::history::History;
 use crate::name::Made;
@@ -101,6 +103,25 @@ impl Request {
         let old = std::mem::replace(&mut inner.describe, describe);
         drop(inner);
         drop(old);
+        self
+    }
+
+    /// The request itself, whose history these are told once it is over: when the last handle of it or of one of its stages is dropped. A function
+    /// that is queued or runs has one. With the feature `tracing` they are told within the span that is current here.
+    ///
+    /// ```
+    /// use std::{sync::atomic::{AtomicUsize, Ordering}, sync::Arc, time::Duration};
+    /// let events = Arc::new(AtomicUsize::new(0));
+    /// let seen = Arc::clone(&events);
+    /// let ends = cf::Ends::new(move |history| { seen.fetch_add(history.words().len(), Ordering::SeqCst); });
+    /// cf::Request::new("basket 3", cf::Inline).on_end(&ends).supply(|| 49).wait().unwrap();
+    /// assert!(ends.flush(Duration::from_secs(60)));
+    /// assert_eq!(events.load(Ordering::SeqCst), 3);
+    /// ```
+    pub fn on_end(self, ends: &Ends) -> Request {
+        let ending = Box::new(Ending { ends: ends.clone(), within: Context::here() });
+        let before = self.0.lock().ending.replace(ending);
+        drop(before);
         self
     }
 

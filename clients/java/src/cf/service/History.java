@@ -34,6 +34,8 @@ public final class History {
     private final Flow flow;
     private final long[] words;
     private final long[] times;
+    /** When its first event was, in nanoseconds since 1970. */
+    private final long began;
     private final int stages;
     private final String[] names;
     /** Values and exceptions; but the texts of them where the request doesn't tell all. */
@@ -50,6 +52,7 @@ public final class History {
         long[] kept = ledger.kept();
         words = Arrays.copyOf(kept, ledger.events());
         times = Ledger.times(kept, words.length);
+        began = Ledger.began(kept, words.length);
         stages = ledger.stages();
         witness = ledger.witness();
         this.names = names;
@@ -82,6 +85,16 @@ public final class History {
 
     public int stages() {
         return stages;
+    }
+
+    /**
+     * What happened as OpenTelemetry's spans: one for the request, and then within it one for each call of a function, in the order of their
+     * stages. Names and attributes are those of {@code cf_look trace --spans}. There are none where nothing happened. The request has failed where a
+     * stage has that no other one waits for; those that functions attached aren't looked at for that.
+     */
+    public List<Span> spans() {
+        read();
+        return SpanReader.of(this);
     }
 
     private int planned() {
@@ -157,11 +170,50 @@ public final class History {
         }
     }
 
-    private int answer(int event) {
+    // For spans.
+
+    String name() {
+        return name;
+    }
+
+    long word(int event) {
+        return words[event];
+    }
+
+    /** When an event was, in nanoseconds since 1970. */
+    long moment(int event) {
+        return began + (times == null ? 1000L * event : times[event]);
+    }
+
+    /** What a stage has ended in; 0 where it hasn't. */
+    int kind(int stage) {
+        return ends[2 * stage] & 0xf;
+    }
+
+    /** What is told of the fault of a stage. */
+    String failure(int stage) {
+        return Text.escaped(cause(ends[2 * stage], ends[2 * stage + 1]));
+    }
+
+    /** What is told of an exception. */
+    String told(Object error) {
+        return Text.escaped(shown(error));
+    }
+
+    Object error(int code) {
+        return errors[code];
+    }
+
+    /** The name of a stage, or its form. */
+    String called(int stage, Form form) {
+        return names[stage] != null ? names[stage] : form.text;
+    }
+
+    int answer(int event) {
         return replies[REPLY * event];
     }
 
-    private int number(int event) {
+    int number(int event) {
         return replies[REPLY * event + 1];
     }
 
@@ -215,14 +267,19 @@ public final class History {
     }
 
     private String[] forms() {
-        String[] forms = new String[stages];
+        return Arrays.stream(allForms()).map(form -> form.text).toArray(String[]::new);
+    }
+
+    /** Of each stage the form. */
+    Form[] allForms() {
+        Form[] forms = new Form[stages];
         int at = 0;
         for (; at < planned(); at++) {
-            forms[at] = flow.form(at).text;
+            forms[at] = flow.form(at);
         }
         for (long word : words) {
             if (Words.kind(word) == Words.ATTACH && at < stages) {
-                forms[at++] = Form.of(Words.low(word) >>> 24).text;
+                forms[at++] = Form.of(Words.low(word) >>> 24);
             }
         }
         return forms;
@@ -243,18 +300,24 @@ public final class History {
     }
 
     private int[] sources(int stage) {
-        if (stage < planned()) {
-            return flow.at(stage).of;
+        return allSources()[stage];
+    }
+
+    /** Of each stage the sources. */
+    int[][] allSources() {
+        int[][] of = new int[stages][];
+        int at = 0;
+        for (; at < planned(); at++) {
+            of[at] = flow.at(at).of;
         }
-        int at = planned();
         for (long word : words) {
-            if (Words.kind(word) == Words.ATTACH && at++ == stage) {
+            if (Words.kind(word) == Words.ATTACH && at < stages) {
                 int second = Words.low(word) >>> 12 & 0xfff;
-                return Words.tag(word) == 0 ? new int[0] : Words.tag(word) == 1 ? new int[] {Words.stage(word)}
+                of[at++] = Words.tag(word) == 0 ? new int[0] : Words.tag(word) == 1 ? new int[] {Words.stage(word)}
                         : new int[] {Words.stage(word), second};
             }
         }
-        return new int[0];
+        return of;
     }
 
     private String sentence(int k, String[] forms) {
@@ -305,7 +368,7 @@ public final class History {
         }
     }
 
-    private String who(int who) {
+    String who(int who) {
         return who == Request.CLOCK ? "the clock" : who == Request.RELAY ? "a relay"
                 : who == Request.OTHER_THREADS ? "some thread" : threads[who - Request.FIRST_THREAD];
     }
@@ -325,9 +388,12 @@ public final class History {
     private String outcome(int what, int number) {
         boolean wrapped = (what & 16) != 0;
         int kind = what & 0xf;
-        return kind == GIVES ? value(what >>> 5 & 1, number)
-                : (kind == THROWN ? shown(errors[number]) : kind == CANCELLED ? "cancelled"
-                : kind == TIMED_OUT ? "timed out" : "a bad answer") + (wrapped ? ", wrapped" : "");
+        return kind == GIVES ? value(what >>> 5 & 1, number) : cause(what, number) + (wrapped ? ", wrapped" : "");
+    }
+
+    private String cause(int what, int number) {
+        int kind = what & 0xf;
+        return kind == THROWN ? shown(errors[number]) : kind == CANCELLED ? "cancelled" : kind == TIMED_OUT ? "timed out" : "a bad answer";
     }
 
     private String shown(Object thing) {
@@ -390,7 +456,7 @@ public final class History {
     }
 
     /** A string of JSON, of one line wherever it is shown. Half of a surrogate pair, which no UTF-8 has, becomes the replacement character. */
-    private static String quoted(String text) {
+    static String quoted(String text) {
         StringBuilder quoted = new StringBuilder("\"");
         for (int k = 0, c; k < text.length(); k += Character.charCount(c)) {
             c = text.codePointAt(k);

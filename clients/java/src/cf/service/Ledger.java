@@ -4,6 +4,7 @@ import java.nio.ByteBuffer;
 import java.nio.ByteOrder;
 import java.util.ArrayList;
 import java.util.List;
+import java.util.concurrent.TimeUnit;
 import java.util.concurrent.atomic.AtomicInteger;
 import java.util.concurrent.atomic.AtomicReferenceArray;
 
@@ -424,6 +425,12 @@ final class Ledger {
             }
         }
         return times;
+    }
+
+    /** When the first word was done, of what was kept, in nanoseconds since 1970. */
+    static long began(long[] kept, int count) {
+        long now = TimeUnit.MILLISECONDS.toNanos(System.currentTimeMillis());
+        return TIMES && count < kept.length ? now - Math.round((Native.ticks() - kept[count]) * Native.nanosPerTick()) : now;
     }
 
     /** Gives the core back. A word that comes nevertheless has another one do all words again. */

@@ -1,13 +1,16 @@
 package cf.service;
 
 import cf.service.Faults.Fault;
+import java.util.ArrayList;
 import java.util.Arrays;
+import java.util.List;
 import java.util.Objects;
 import java.util.concurrent.CancellationException;
 import java.util.concurrent.CompletableFuture;
 import java.util.concurrent.CompletionStage;
 import java.util.concurrent.Executor;
 import java.util.concurrent.TimeUnit;
+import java.util.concurrent.atomic.AtomicInteger;
 import java.util.function.Supplier;
 
 /**
@@ -97,10 +100,14 @@ public final class Request implements AutoCloseable {
      * has another core do all words again. Cores of requests that nobody can reach are freed by whoever opens the next ones
      * (Freed).
      *
+     * Contexts and ends. Where the service has contexts, a function that is attached is a Carried, which has what was captured
+     * before anything is done; one of a flow becomes one as it is claimed (`granted`). `closed` sees to it that a hook of the
+     * service's is told of the request once, by `Ends`, as soon as the stages that it has then are settled.
+     *
      * Which methods call user code, all without a lock: those that `tell` calls, which are `show` (what Java's own methods
      * have attached; Describe, for a recording), `hand` (Executor.execute) and `call` (a stage's function); handStarted and
-     * `execute`, which call an executor; `history`, which calls Describe; and Link.hang, which calls whenComplete of
-     * somebody's CompletionStage.
+     * `execute`, which call an executor; `history`, which calls Describe; Link.hang, which calls whenComplete of
+     * somebody's CompletionStage; and those that call Contexts: the constructors, `attach`, `started` and `oneCall`.
      */
 
     /** Callers: the clock, what settles relays, the threads in the order in which they came, and those for which there is no number. */
@@ -118,6 +125,8 @@ public final class Request implements AutoCloseable {
     private final Ledger ledger;
     /** What is told of values and exceptions. */
     final Describe describe;
+    /** The contexts of where it was opened; null without. */
+    private final Executor within;
 
     /** Those that aren't settled; of a flow, those that were asked for. */
     private Stage<?>[] stages;
@@ -134,6 +143,8 @@ public final class Request implements AutoCloseable {
     /** Whether executors call some of its functions. */
     private boolean mixed;
     private boolean goesOn;
+    /** Whether the service's hook was told that it has ended. */
+    private boolean isTold;
     private volatile Request next;
 
     Request(Service service, String name, Flow flow, int room, Describe describe) {
@@ -142,6 +153,7 @@ public final class Request implements AutoCloseable {
         this.flow = flow;
         single = false;
         this.describe = describe;
+        within = service.captured();
         ledger = new Ledger(flow == null ? null : flow.plan(), room);
         values = new Object[flow != null ? Math.max(flow.count(), 1) : 8];
         stages = flow == null && room > 0 ? new Stage<?>[room] : NO_STAGES;
@@ -155,6 +167,7 @@ public final class Request implements AutoCloseable {
         flow = null;
         single = true;
         describe = service.describe();
+        within = service.captured();
         values = new Object[1];
         stages = new Stage<?>[1];
         mixed = true;
@@ -167,7 +180,8 @@ public final class Request implements AutoCloseable {
     static <U> Stage<U> oneCall(Service service, Supplier<U> supplier) {
         Objects.requireNonNull(supplier);
         Request request = new Request(service);
-        Stage<U> stage = new Stage<>(request, 0, Form.SUPPLY, supplier, service.executor());
+        Object function = request.within == null ? supplier : new Carried(request.within, supplier);
+        Stage<U> stage = new Stage<>(request, 0, Form.SUPPLY, function, service.executor());
         request.entered(stage);
         request.handStarted(stage);
         return stage;
@@ -342,30 +356,91 @@ public final class Request implements AutoCloseable {
     public History history() {
         History history;
         synchronized (ledger) {
-            int count = ledger.stages();
-            String[] names = this.names == null ? new String[count] : Arrays.copyOf(this.names, count);
-            for (int k = 0; flow != null && k < flow.count(); k++) {
-                names[k] = names[k] == null ? flow.name(k) : names[k];
-            }
-            history = new History(name, flow, ledger, names, Arrays.copyOf(values, valueCount),
-                    faults == null ? new Throwable[0] : faults.errors(), Arrays.copyOf(threadNames, threadCount));
+            history = taken();
         }
         return history.described(describe);
     }
 
-    /** Gives the memory outside the heap back to be used again. Stages may be used on: if need be all words are done again. */
+    /** The same, not described yet. The lock is held. */
+    private History taken() {
+        int count = ledger.stages();
+        String[] names = this.names == null ? new String[count] : Arrays.copyOf(this.names, count);
+        for (int k = 0; flow != null && k < flow.count(); k++) {
+            names[k] = names[k] == null ? flow.name(k) : names[k];
+        }
+        return new History(name, flow, ledger, names, Arrays.copyOf(values, valueCount), faults == null ? new Throwable[0] : faults.errors(),
+                Arrays.copyOf(threadNames, threadCount));
+    }
+
+    /**
+     * Gives the memory outside the heap back to be used again. Stages may be used on: if need be all words are done again. The hook of its
+     * {@link Service#onEnd service} is told of it, once all stages are settled that it has now.
+     */
     @Override
     public void close() {
+        if (service.ends() != null) {
+            closed();
+        }
         synchronized (ledger) {
             ledger.rest();
         }
     }
 
     private void rests() {
+        boolean rests;
         synchronized (ledger) {
-            if (ledger.stages() == 1 && stages[0] == null) {
+            rests = ledger.stages() == 1 && stages[0] == null;
+            if (rests) {
                 ledger.rest();
             }
+        }
+        if (rests && service.ends() != null) {
+            ended();
+        }
+    }
+
+    private void closed() {
+        List<Stage<?>> open = new ArrayList<>();
+        synchronized (ledger) {
+            for (int k = 0; k < ledger.stages() && !isTold; k++) {
+                if (isOpen(k)) {
+                    open.add(at(k));
+                }
+            }
+        }
+        AtomicInteger left = new AtomicInteger(1 + open.size());
+        Runnable settled = () -> {
+            if (left.decrementAndGet() == 0) {
+                ended();
+            }
+        };
+        open.forEach(stage -> stage.observe(settled));
+        settled.run();
+    }
+
+    /** Whether a stage isn't settled. The lock is held. */
+    private boolean isOpen(int number) {
+        if (number < stages.length && stages[number] != null || flow == null || number >= flow.count()) {
+            return number < stages.length && stages[number] != null;
+        }
+        ledger.ask(number);
+        return ledger.news() == 0 || ((int) ledger.news(0) >>> 12 & 1) == 0;
+    }
+
+    /** Has the service's hook told of it, if it wasn't yet. It throws nothing, nor keeps anybody waiting. */
+    private void ended() {
+        try {
+            History history;
+            synchronized (ledger) {
+                if (isTold) {
+                    return;
+                }
+                isTold = true;
+                history = taken();
+            }
+            service.ends().tell(history, describe, within);
+        } catch (Throwable none) {
+            Ends.warn("the end of a request isn't told", none);
         }
     }
 
@@ -395,14 +470,15 @@ public final class Request implements AutoCloseable {
             return last().started(form, function, executor);
         }
         checkDepth();
+        Object carried = service.carried(function);
         Stage<U> stage = null;
         synchronized (ledger) {
             if (ledger.hasPlace(1)) {
-                stage = added(form, null, null, function, executor, false, null);
+                stage = added(form, null, null, carried, executor, false, null);
             }
         }
         if (stage == null) {
-            return further().started(form, function, executor);
+            return further().started(form, carried, executor);
         }
         handStarted(stage);
         return stage;
@@ -470,6 +546,7 @@ public final class Request implements AutoCloseable {
         if (foreign > 0) {
             checkDepth();
         }
+        Object carried = service.carried(function);
         Stage<U> stage = null;
         News news = null;
         Link[] links = foreign == 0 ? NO_LINKS : new Link[2];
@@ -483,7 +560,7 @@ public final class Request implements AutoCloseable {
                             checkDepth();
                             news = new News();
                         }
-                        stage = added(form, a, b, function, executor, minimal, news);
+                        stage = added(form, a, b, carried, executor, minimal, news);
                     }
                 }
             }
@@ -496,7 +573,7 @@ public final class Request implements AutoCloseable {
             }
         }
         if (stage == null) {
-            return further().attach(form, first, second, function, executor, minimal);
+            return further().attach(form, first, second, carried, executor, minimal);
         }
         if (news != null) {
             tell(news);
@@ -928,6 +1005,9 @@ public final class Request implements AutoCloseable {
             news.function = stage.function;
             stage.function = null;
         }
+        if (within != null && flow != null && number < flow.count()) {
+            news.function = new Carried(within, news.function);
+        }
         switch (ledger.arguments()) {
             case History.NO_ARGS:
                 news.first = news.second = null;
@@ -1041,7 +1121,7 @@ public final class Request implements AutoCloseable {
         news.function = news.first = news.second = null;
         Throwable thrown = null;
         try {
-            given = form.call(function, first, second);
+            given = Carried.call(form, function, first, second);
         } catch (Throwable error) {
             thrown = error;
             if (form == Form.WHEN_COMPLETE && second != null && second != error) {

@@ -6,6 +6,7 @@ import java.util.concurrent.Executor;
 import java.util.concurrent.ForkJoinPool;
 import java.util.concurrent.TimeUnit;
 import java.util.concurrent.atomic.AtomicLong;
+import java.util.function.Consumer;
 import java.util.function.Supplier;
 
 /** Requests, and the executor that calls the functions of their Async stages where no other is given. Any thread may use it. */
@@ -15,6 +16,10 @@ public final class Service {
 
     private final Executor executor;
     private final Describe describe;
+    /** Null where nothing goes along with functions. */
+    private final Contexts contexts;
+    /** Null where nobody is told of ends. */
+    private final Ends ends;
     private final AtomicLong requests;
 
     /** With the executor that {@link CompletableFuture} has where none is given. */
@@ -23,18 +28,37 @@ public final class Service {
     }
 
     public Service(Executor executor) {
-        this(Objects.requireNonNull(executor), Describe.ALL, new AtomicLong());
+        this(Objects.requireNonNull(executor), Describe.ALL, null, null, new AtomicLong());
     }
 
-    private Service(Executor executor, Describe describe, AtomicLong requests) {
+    private Service(Executor executor, Describe describe, Contexts contexts, Ends ends, AtomicLong requests) {
         this.executor = executor;
         this.describe = describe;
+        this.contexts = contexts;
+        this.ends = ends;
         this.requests = requests;
     }
 
     /** One with the same executor, of whose requests it is told by this function what their values and exceptions are. */
     public Service describing(Describe describe) {
-        return new Service(executor, Objects.requireNonNull(describe), requests);
+        return new Service(executor, Objects.requireNonNull(describe), contexts, ends, requests);
+    }
+
+    /**
+     * One with the same executor, with whose functions these contexts go along: those of the place where each was handed over, and with a flow's
+     * functions those of the place where the request was opened.
+     */
+    public Service carrying(Contexts contexts) {
+        return new Service(executor, describe, Objects.requireNonNull(contexts), ends, requests);
+    }
+
+    /**
+     * One with the same executor, of whose requests this hook is told, each once: when it was closed, and the stages are settled that it had then.
+     * A request of one stage ({@link #supplyAsync}) ends by itself. The hook is called on a thread of its own, with the contexts of the place where
+     * the request was opened. What it throws is logged as a warning of {@code cf.service}.
+     */
+    public Service onEnd(Consumer<? super History> hook) {
+        return new Service(executor, describe, contexts, new Ends(Objects.requireNonNull(hook)), requests);
     }
 
     /** A request by this name, which histories tell. */
@@ -83,6 +107,20 @@ public final class Service {
 
     Describe describe() {
         return describe;
+    }
+
+    Ends ends() {
+        return ends;
+    }
+
+    /** The contexts of this place, or null. */
+    Executor captured() {
+        return contexts == null ? null : contexts.capture();
+    }
+
+    /** A function with what goes along with it, unless it has that already. */
+    Object carried(Object function) {
+        return contexts == null || function == null || function instanceof Carried ? function : new Carried(contexts.capture(), function);
     }
 
     /** Java's rule: the common pool, or a thread for each task where that has but one. */

@@ -395,13 +395,14 @@ public class Stage<T> extends CompletableFuture<T> {
     }
 
     @Override
+    @SuppressWarnings("unchecked")
     public Stage<T> completeAsync(Supplier<? extends T> supplier, Executor executor) {
-        Objects.requireNonNull(supplier);
+        Object function = request.service.carried(Objects.requireNonNull(supplier));
         executor.execute((Runnable & AsynchronousCompletionTask) () -> {
             if (told == null) {
                 T value;
                 try {
-                    value = supplier.get();
+                    value = (T) Carried.call(Form.SUPPLY, function, null, null);
                 } catch (Throwable error) {
                     completeExceptionally(error instanceof CompletionException ? error : new CompletionException(error));
                     return;

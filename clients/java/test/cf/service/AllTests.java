@@ -52,6 +52,13 @@ public final class AllTests {
         test("interrupts", AskingTest::interrupts);
         test("races", RacesTest::races);
         test("races of relays", RacesTest::relayRaces);
+        test("contexts", TracesTest::contexts);
+        test("contexts that break", TracesTest::brokenContexts);
+        test("ends of requests", TracesTest::ends);
+        test("hooks that break", TracesTest::brokenHooks);
+        test("spans", TracesTest::spans);
+        test("spans in files", TracesTest::files);
+        test("spans at OpenTelemetry", TracesTest::openTelemetry);
         test("flows", FlowsTest::flows);
         test("flows with what goes wrong", FlowsTest::flowFaults);
         test("many news", AskingTest::manyNews);

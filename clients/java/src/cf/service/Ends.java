@@ -1,0 +1,60 @@
+package cf.service;
+
+import java.util.concurrent.Executor;
+import java.util.concurrent.LinkedBlockingQueue;
+import java.util.concurrent.RejectedExecutionException;
+import java.util.concurrent.ThreadPoolExecutor;
+import java.util.concurrent.TimeUnit;
+import java.util.function.Consumer;
+import java.util.logging.Level;
+import java.util.logging.Logger;
+
+/**
+ * Tells a hook of requests that have ended, one after another. It does so on a thread of its own, which is there while some are left: a hook that
+ * is slow or throws holds up nothing else, and the JVM waits for it. If too many requests wait for it, further ones aren't told.
+ */
+final class Ends {
+    private static final int MOST = 2048, IDLE_MILLIS = 100;
+
+    private final Consumer<? super History> hook;
+    private final ThreadPoolExecutor thread = new ThreadPoolExecutor(1, 1, IDLE_MILLIS, TimeUnit.MILLISECONDS, new LinkedBlockingQueue<>(MOST),
+            run -> new Thread(run, "cf-ends"));
+    private volatile boolean isFull;
+
+    Ends(Consumer<? super History> hook) {
+        this.hook = hook;
+        thread.allowCoreThreadTimeOut(true);
+    }
+
+    /** Has the hook told of a history, whose values are told by this function, in the context where its request was opened. It throws nothing. */
+    void tell(History history, Describe describe, Executor within) {
+        try {
+            thread.execute(() -> told(history, describe, within));
+            isFull = false;
+        } catch (RejectedExecutionException full) {
+            if (!isFull) {
+                isFull = true;
+                warn(MOST + " ended requests wait for the hook: further ones aren't told", null);
+            }
+        } catch (Throwable none) {
+            warn("the end of a request isn't told", none);
+        }
+    }
+
+    private void told(History history, Describe describe, Executor within) {
+        try {
+            history.described(describe);
+            if (within == null) {
+                hook.accept(history);
+            } else {
+                within.execute(() -> hook.accept(history));
+            }
+        } catch (Throwable thrown) {
+            warn("the hook of an ended request has thrown", thrown);
+        }
+    }
+
+    static void warn(String said, Throwable thrown) {
+        Logger.getLogger("cf.service").log(Level.WARNING, said, thrown);
+    }
+}

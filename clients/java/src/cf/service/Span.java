@@ -1,0 +1,77 @@
+package cf.service;
+
+import java.util.Collections;
+import java.util.List;
+import java.util.Map;
+
+/** What {@link History#spans} tells of a request, or of one call of a function, for OpenTelemetry. */
+public final class Span {
+    /** How what it is about ended: it hasn't, with a value, or with an exception. */
+    public enum Status { UNSET, OK, ERROR }
+
+    private final int stage;
+    private final String name;
+    private final long start, end;
+    private final Map<String, Object> attributes;
+    private final List<Integer> sources;
+    private final Status status;
+    private final String message;
+    private final Map<String, String> thrown;
+
+    Span(int stage, String name, long start, long end, Map<String, Object> attributes, List<Integer> sources, Status status, String message,
+            Map<String, String> thrown) {
+        this.stage = stage;
+        this.name = name;
+        this.start = start;
+        this.end = end;
+        this.attributes = Collections.unmodifiableMap(attributes);
+        this.sources = Collections.unmodifiableList(sources);
+        this.status = status;
+        this.message = message;
+        this.thrown = thrown == null ? null : Collections.unmodifiableMap(thrown);
+    }
+
+    /** The stage whose function was called, or -1 for the request. */
+    public int stage() {
+        return stage;
+    }
+
+    /** That of the request or of the stage. */
+    public String name() {
+        return name;
+    }
+
+    /** In nanoseconds since 1970: the claim, and for the request the first event. */
+    public long start() {
+        return start;
+    }
+
+    /** In nanoseconds since 1970: the finish, and for the request, and what isn't finished, the last event. */
+    public long end() {
+        return end;
+    }
+
+    /** {@code cf.stage}, which is an Integer, {@code cf.caller} and {@code cf.form}. */
+    public Map<String, Object> attributes() {
+        return attributes;
+    }
+
+    /** The stages to whose spans it has a link. */
+    public List<Integer> sources() {
+        return sources;
+    }
+
+    public Status status() {
+        return status;
+    }
+
+    /** What it failed with, or an empty text. */
+    public String message() {
+        return message;
+    }
+
+    /** Attributes of the event at the end that tells what the function has thrown, or null. */
+    public Map<String, String> thrown() {
+        return thrown;
+    }
+}

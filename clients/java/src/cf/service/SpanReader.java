@@ -1,0 +1,140 @@
+package cf.service;
+
+import java.util.ArrayList;
+import java.util.Arrays;
+import java.util.Collections;
+import java.util.LinkedHashMap;
+import java.util.List;
+import java.util.Map;
+
+/** Reads spans out of a history, in one pass over its words. */
+final class SpanReader {
+    private static final int NONE = -1;
+    /** Tags of finishes. */
+    private static final int THROWS = 2, LINKS = 3;
+
+    private final History history;
+    private final Form[] forms;
+    private final int[][] of;
+    /** Of each stage the events by which its function was claimed and finished. */
+    private final int[] claims, finishes;
+    /** How many functions each caller has claimed and not finished. */
+    private final int[] running = new int[Request.OTHER_THREADS + 1];
+    /** Stages for which another one waits, or that a function attached. */
+    private final boolean[] inner;
+
+    private SpanReader(History history) {
+        this.history = history;
+        forms = history.allForms();
+        of = history.allSources();
+        claims = new int[history.stages()];
+        finishes = new int[history.stages()];
+        inner = new boolean[history.stages()];
+        Arrays.fill(claims, NONE);
+        Arrays.fill(finishes, NONE);
+        for (int k = 0; k < of.length; k++) {
+            for (int source : of[k]) {
+                inner[source] = true;
+            }
+            if (forms[k].composes) {
+                inner[k - 1] = true; // its relay
+            }
+        }
+        for (int k = 0; k < history.events(); k++) {
+            read(k, history.word(k));
+        }
+    }
+
+    static List<Span> of(History history) {
+        if (history.events() == 0) {
+            return Collections.emptyList();
+        }
+        SpanReader it = new SpanReader(history);
+        List<Span> spans = new ArrayList<>();
+        spans.add(it.whole());
+        for (int k = 0; k < it.claims.length; k++) {
+            if (it.claims[k] != NONE) {
+                spans.add(it.span(k));
+            }
+        }
+        return spans;
+    }
+
+    private void read(int k, long word) {
+        int who = Words.who(word), stage = Words.stage(word);
+        switch (Words.kind(word)) {
+            case Words.ATTACH:
+                inner[history.number(k)] |= running[who] > 0;
+                break;
+            case Words.CLAIM:
+                if (history.answer(k) == History.GRANTED) {
+                    claims[stage] = k;
+                    running[who]++;
+                }
+                break;
+            case Words.FINISH:
+                if (finishes[stage] == NONE && claims[stage] != NONE) {
+                    finishes[stage] = k;
+                    running[Words.who(history.word(claims[stage]))]--;
+                }
+                if (Words.tag(word) == LINKS) {
+                    inner[Words.low(word)] = true;
+                }
+                break;
+            default:
+        }
+    }
+
+    /** The span of the request, which has failed where a stage has that nothing waits for. */
+    private Span whole() {
+        Span.Status status = Span.Status.OK;
+        String message = "";
+        boolean isEmpty = true;
+        for (int k = 0; k < inner.length && status != Span.Status.ERROR; k++) {
+            if (!inner[k]) {
+                isEmpty = false;
+                Span.Status own = status(k);
+                status = own == Span.Status.OK ? status : own;
+                message = own == Span.Status.ERROR ? history.failure(k) : message;
+            }
+        }
+        return new Span(NONE, history.name(), history.moment(0), history.moment(history.events() - 1), new LinkedHashMap<>(), new ArrayList<>(),
+                isEmpty ? Span.Status.UNSET : status, message, null);
+    }
+
+    private Span span(int stage) {
+        int claim = claims[stage], finish = finishes[stage];
+        Map<String, Object> attributes = new LinkedHashMap<>();
+        attributes.put("cf.stage", stage);
+        attributes.put("cf.caller", history.who(Words.who(history.word(claim))));
+        attributes.put("cf.form", forms[stage].text);
+        List<Integer> sources = new ArrayList<>();
+        for (int source : of[stage]) {
+            if (claims[source] != NONE) {
+                sources.add(source);
+            }
+        }
+        Span.Status status = status(stage);
+        return new Span(stage, history.called(stage, forms[stage]), history.moment(claim), history.moment(finish == NONE ? history.events() - 1 : finish),
+                attributes, sources, status, status == Span.Status.ERROR ? history.failure(stage) : "",
+                finish == NONE ? null : thrown(history.word(finish)));
+    }
+
+    private Span.Status status(int stage) {
+        int kind = history.kind(stage);
+        return kind == 0 ? Span.Status.UNSET : kind == History.GIVES ? Span.Status.OK : Span.Status.ERROR;
+    }
+
+    private Map<String, String> thrown(long finish) {
+        if (Words.tag(finish) != THROWS) {
+            return null;
+        }
+        Map<String, String> thrown = new LinkedHashMap<>();
+        Object error = history.error(Words.low(finish));
+        if (error instanceof Throwable) { // and not what was told of it
+            thrown.put("exception.type", error.getClass().getName());
+        }
+        thrown.put("exception.message", history.told(error));
+        return thrown;
+    }
+}

@@ -1,0 +1,75 @@
+"""Requests whose functions have the context variables of the place where they were attached."""
+import contextvars
+import functools
+from types import FunctionType
+from typing import Any, Callable, Dict, Optional, Tuple
+
+from ._core import RequestCore
+from .request import Request
+from .stage import Stage
+from .words import COMPOSE_FORMS, GIVES, THROWS, name_of
+
+
+class Within(functools.partial):  # type: ignore[type-arg]
+    """The `run` of a context with the function that it is to call."""
+
+    __slots__ = ()
+
+
+class ContextRequest(Request):
+    """A request whose functions have contexts: each a copy of that of the place where it was attached, and a flow's
+    functions copies of that of the place where the request was opened."""
+
+    __slots__ = ("_context",)
+    _context: contextvars.Context
+
+    def __init__(self, *given: Any) -> None:
+        super().__init__(*given)
+        if self._plan is not None:
+            self._context = contextvars.copy_context()
+
+    def _attach(self, form: int, first: "Optional[Stage[Any]]", second: "Optional[Stage[Any]]",
+                call: Optional[Callable[..., Any]], args: Optional[Tuple[Any, ...]], kwargs: Optional[Dict[str, Any]],
+                name: Optional[str]) -> "Stage[Any]":
+        if call is None:
+            return RequestCore._attach(self, form, first, second, None, args, kwargs, name)
+        known = name if name is not None else call.__qualname__ if type(call) is FunctionType else name_of(call)
+        return RequestCore._attach(self, form, first, second, Within(contextvars.copy_context().run, call), args,
+                                   kwargs, known)
+
+    def _within(self, call: Callable[..., Any]) -> Within:
+        """A flow's function with its context. One that was attached has that already."""
+        return Within(self._context.copy().run, call)
+
+    def _run(self, stage: "Stage[Any]", who: int) -> None:
+        if self._plan is None:
+            RequestCore._run(self, stage, who)
+        else:
+            self._run_planned(stage, who)
+
+    def _run_planned(self, stage: "Stage[Any]", who: int) -> None:
+        """As `_run`. Functions of a plan are given their contexts here."""
+        following: "Optional[Stage[Any]]" = stage
+        del stage
+        while following is not None:
+            stage, begun = following, self._begin(following, who)
+            if begun is None:
+                return
+            call, args, kwargs = begun
+            try:
+                given = (call if type(call) is Within else self._within(call))(*args, **kwargs)
+            except BaseException as error:
+                error.__traceback__ = error.__traceback__ and error.__traceback__.tb_next
+                following = self._end(stage, who, THROWS, error)
+            else:
+                following = ended(stage, who, given)
+                del given
+            # An error's traceback may keep this frame, which is to keep nothing.
+            del stage, begun, call, args, kwargs
+
+
+def ended(stage: "Stage[Any]", who: int, given: Any) -> "Optional[Stage[Any]]":
+    """Finishes a stage with what its function gave."""
+    if stage._form in COMPOSE_FORMS:
+        return stage.request._link(stage, who, given)
+    return stage.request._end(stage, who, GIVES, given)

@@ -1,0 +1,146 @@
+"""Requests that are over, and who is told of them: a hook of the service's, on a thread of its own.
+
+A request is over once it was ended (`Request.end`, `with request:`) and its stages are settled, once nobody has it or
+one of its stages any more, or when its service is shut down: whichever comes first. Its hook is told of it once.
+"""
+import atexit
+import contextvars
+import itertools
+import logging
+import os
+import threading
+import weakref
+from collections import deque
+from typing import Any, Callable, Deque, Dict, Tuple
+
+from .contexts import ContextRequest
+from .history import Describe, History
+
+LOGGER = logging.getLogger("concurrent.futures")
+MOST = 2048  # histories that wait for a hook
+SECONDS = 30.0  # for how long a service that ends waits for its hook
+
+Hook = Callable[[History], object]
+
+
+class Ends:
+    """Calls a hook with one history after another, on a thread that is there while some are left. So a hook that is
+    slow, or that raises, holds up nothing else. Each call has the context of the place where the request was opened."""
+
+    def __init__(self, hook: Hook, name: str) -> None:
+        self._hook, self._name = hook, name
+        self._reset()
+        _open.add(self)
+
+    def _reset(self) -> None:
+        """No thread is there, and nothing is left to tell."""
+        self.requests: "Dict[int, weakref.ref[EndingRequest]]" = {}  # of which nobody was told yet, by their `id`
+        self._changed = threading.Condition()  # (which the thread that has it may take again, as in a `__del__`)
+        self._left: "Deque[Tuple[History, Describe, contextvars.Context]]" = deque()
+        self._is_there = self._is_losing = False
+
+    def tell(self, history: History, describe: Describe, context: contextvars.Context) -> None:
+        """Has the hook called with a history, or drops that where too many wait."""
+        with self._changed:
+            is_full, was_losing = len(self._left) >= MOST, self._is_losing
+            self._is_losing = is_full
+            if not is_full:
+                self._left.append((history, describe, context))
+            starts = not (self._is_there or is_full)
+            self._is_there = self._is_there or starts
+        if is_full and not was_losing:
+            LOGGER.warning("%d ended requests wait for the hook of %s: further ones aren't told", MOST, self._name)
+        if starts:
+            self._start()
+
+    def _start(self) -> None:
+        try:
+            threading.Thread(target=self._run, name=self._name, daemon=True).start()
+        except RuntimeError:  # there are no more threads for now, and the next call tries again
+            with self._changed:
+                self._is_there = False
+
+    def _run(self) -> None:
+        while True:
+            with self._changed:
+                if not self._left:
+                    self._is_there = False
+                    self._changed.notify_all()
+                    return
+                history, describe, context = self._left.popleft()
+            try:
+                context.run(self._hook, history._described(describe))
+            except BaseException:
+                LOGGER.warning("exception in the hook of an ended request", exc_info=True)
+            del history, context
+
+    def end_all(self) -> None:
+        """Ends all requests as they are, and waits until the hook was told."""
+        for known in list(self.requests.values()):
+            request = known()
+            if request is not None:
+                request._tell_end()
+        with self._changed:
+            is_told = self._changed.wait_for(lambda: not self._is_there, SECONDS)
+            runs = self._is_there = not is_told or bool(self._left)
+        if not is_told:
+            LOGGER.warning("the hook of %s takes longer than %d s", self._name, SECONDS)
+        elif runs:
+            self._run()  # no thread could be started for these
+
+
+class EndingRequest(ContextRequest):
+    """A request of a service with a hook."""
+
+    __slots__ = ()
+
+    def __init__(self, *given: Any) -> None:
+        super().__init__(*given)
+        self._context = contextvars.copy_context()
+        self._ends.requests[id(self)] = weakref.ref(self)
+
+    @property
+    def _ends(self) -> Ends:
+        ends = self._works.ends
+        assert ends is not None, "a service with a hook makes these"
+        return ends
+
+    def end(self) -> None:
+        left = [stage for stage in map(self._stage, range(self._stages)) if not stage.done()]
+        count = itertools.count(len(left) - 1, -1)
+        for stage in left:
+            stage.add_done_callback(lambda _: None if next(count) else self._tell_end())
+        if not left:
+            self._tell_end()
+
+    def __del__(self) -> None:
+        if hasattr(self, "_context"):
+            self._tell_end()
+
+    def _tell_end(self) -> None:
+        """Has the hook told, if it wasn't yet. It raises nothing."""
+        try:
+            if self._ends.requests.pop(id(self), None) is not None:
+                self._ends.tell(History(self.name, self._plan, self._facts()),
+                                getattr(self, "_describe", self._works.describe), self._context)
+        except Exception:
+            LOGGER.warning("the end of a request isn't told", exc_info=True)
+
+
+_open: "weakref.WeakSet[Ends]" = weakref.WeakSet()
+
+
+@atexit.register
+def _at_exit() -> None:
+    for ends in list(_open):
+        ends.end_all()
+
+
+def _after_fork() -> None:
+    """What was opened before is the parent's to tell."""
+    for ends in list(_open):
+        ends._reset()
+
+
+if hasattr(os, "register_at_fork"):
+    os.register_at_fork(after_in_child=_after_fork)
