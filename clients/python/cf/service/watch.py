@@ -13,6 +13,7 @@ from array import array
 from typing import Any, Callable, Dict, List, Optional, Protocol, Sequence, Tuple, TypeVar, cast
 
 from ._core import be
+from .ending import Ends
 from .history import Describe, History
 from .relays import Hold, is_relay, is_release
 from .request import Request
@@ -130,6 +131,7 @@ class WatchedWorks:
 
     def __init__(self, watch: Watch, describe: Describe) -> None:
         self.watch, self.describe, self.closed = watch, describe, False
+        self.ends: Optional[Ends] = None  # (such a service has no hook)
 
     @property
     def clock(self) -> Any:
