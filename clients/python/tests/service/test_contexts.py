@@ -7,10 +7,11 @@ import contextvars
 import gc
 import threading
 import unittest
+import unittest.mock
 import weakref
 
 from case import fails, inc, Thing
-from cf.service import Flow, Service
+from cf.service import Flow, LoopService, Service
 
 tenant = contextvars.ContextVar("tenant", default="-")
 
@@ -91,6 +92,14 @@ class Contexts(unittest.TestCase):
             service.submit(threading.get_ident).result(20)
             gc.collect()
             self.assertIsNone(seen())
+
+    def test_a_watch_is_given_alone(self):
+        watch, loop = unittest.mock.Mock(), unittest.mock.Mock()
+        for more in {"contexts": True}, {"on_end": print}:
+            with self.subTest(more), self.assertRaises(ValueError):
+                Service(watch=watch, **more)
+        with self.assertRaises(ValueError):
+            LoopService(loop, watch=watch, on_end=print)
 
 
 if __name__ == "__main__":
