@@ -82,7 +82,8 @@ class InFiles(unittest.TestCase):
             yield attribute["value"]["stringValue"], scope["spans"]
 
     def test_a_line_for_each_request(self):
-        before = time.time_ns()
+        second = 10**9  # (two clocks are read, one after another)
+        before = time.time_ns() - second
         with Service(2, on_end=SpanFile(self.path, "shop")) as service:
             for _ in range(2):
                 with service.request("order 17") as request:
@@ -112,7 +113,7 @@ class InFiles(unittest.TestCase):
         times = [(int(span["startTimeUnixNano"]), int(span["endTimeUnixNano"])) for span in spans]
         self.assertEqual(sorted(times[1:]), times[1:])
         self.assertTrue(before <= times[0][0] <= times[1][0] <= times[1][1] <= times[3][1] <= times[0][1])
-        self.assertLessEqual(times[0][1], time.time_ns())
+        self.assertLessEqual(times[0][1], time.time_ns() + second)
 
     def test_what_is_told_is_described(self):
         with Service(1, on_end=SpanFile(self.path), describe=describe_types) as service:
@@ -175,9 +176,13 @@ class Statuses(unittest.TestCase):
         self.assertEqual([(span.status, span.message) for span in self.spans()], [(2, "cancelled")])
 
     def test_late(self):
-        gate = threading.Event()
-        late = self.request.supply(gate.wait, 20).or_timeout(0.001)
-        self.assertIsInstance(late.exception(20), TimeoutError)
+        def late():
+            begun.set()
+            gate.wait(20)
+        gate, begun = threading.Event(), threading.Event()
+        stage = self.request.supply(late)
+        self.assertTrue(begun.wait(20))
+        self.assertIsInstance(stage.or_timeout(0.001).exception(20), TimeoutError)
         whole, running = self.spans()
         self.assertEqual((whole.end, running.status, running.message, whole.message),
                          (running.end, 2, "timed out", "timed out"))
@@ -225,7 +230,7 @@ class AtOpenTelemetry(unittest.TestCase):
         for told, span in zip(tracing.spans, expected):
             self.assertEqual((told.name, told.attributes, told.status),
                              (span.name, span.attributes, (span.status, span.message or None)))
-            self.assertTrue(abs(told.start - span.start) < 10**9 and told.ended - told.start == span.end - span.start)
+            self.assertTrue(abs(told.start - span.start) < 10**10 and told.ended - told.start == span.end - span.start)
         self.assertEqual((whole.parent, load.parent, failed.parent), (outer, whole, whole))
         self.assertEqual((whole.links, load.links, failed.links), ([], [], [load]))
         ((name, attributes, at),) = failed.events

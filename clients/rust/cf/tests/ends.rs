@@ -5,7 +5,7 @@ use cf::{Describe, Ends, History, Inline, Pool, Request, Span, SpanFile, Status}
 use common::{comes_back, LONG, SHORT};
 use std::sync::mpsc::{channel, Receiver};
 use std::sync::{Arc, Barrier, Mutex};
-use std::time::SystemTime;
+use std::time::{Duration, SystemTime};
 
 /// Ends that send what they are told, and who receives it.
 fn told<T: Send + 'static>(of: impl Fn(&History) -> T + Send + Sync + 'static) -> (Ends, Receiver<T>) {
@@ -99,7 +99,9 @@ fn failing(describe: Describe) -> Vec<Span> {
 
 #[test]
 fn spans_tell_who_failed() {
-    let before = SystemTime::now() - SHORT;
+    // Two clocks are read, one after another.
+    let second = Duration::from_secs(1);
+    let before = SystemTime::now() - second;
     let spans = failing(Describe::All);
     let declined = || Status::Error("card declined".into());
     let told: Vec<_> = spans.iter().map(|span| (span.name.as_str(), span.status.clone(), span.failed.as_deref(), span.sources.clone())).collect();
@@ -109,7 +111,7 @@ fn spans_tell_who_failed() {
     assert_eq!(called, [None, Some((0, "supply")), Some((1, "apply"))]);
     assert!(spans[1].call.as_ref().unwrap().caller.starts_with("worker "));
     let [whole, load, charge] = [&spans[0], &spans[1], &spans[2]];
-    let times = [before, whole.start, load.start, load.end, charge.start, charge.end, whole.end, SystemTime::now() + SHORT];
+    let times = [before, whole.start, load.start, load.end, charge.start, charge.end, whole.end, SystemTime::now() + second];
     assert!(times.windows(2).all(|pair| pair[0] <= pair[1]), "{times:?}");
     let hidden = failing(Describe::Nothing);
     assert_eq!((&hidden[2].status, hidden[2].failed.as_deref()), (&Status::Error("-".into()), Some("-")));
@@ -126,6 +128,9 @@ fn a_request_has_failed_if_nobody_took_a_failure() {
     let composed = promise.clone().compose(move |_| own.try_supply(fails)).recover(|_| 7);
     promise.complete(1).unwrap();
     assert_eq!(composed.wait().unwrap(), 7);
+    assert_eq!(statuses(&request)[0], Status::Ok);
+    let own = request.clone();
+    request.supply(move || drop(own.try_supply(fails))).wait().unwrap();
     assert_eq!(statuses(&request)[0], Status::Ok);
     let below = request.try_supply(fails);
     assert_eq!(request.supply(|| 1).compose(move |_| below).recover(|_| 7).wait().unwrap(), 7);
@@ -144,9 +149,9 @@ fn a_span_ends_with_its_function() {
             inside.wait();
             inside.wait();
         };
-        let late = request.supply(twice).or_timeout(SHORT);
+        let late = request.supply(twice);
         gate.wait();
-        assert!(late.wait().unwrap_err().is_timeout());
+        assert!(late.or_timeout(SHORT).wait().unwrap_err().is_timeout());
         let open = request.history().spans();
         assert_eq!((&open[1].status, open[1].end), (&Status::Error("timed out".into()), open[0].end));
         gate.wait();

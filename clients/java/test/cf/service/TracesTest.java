@@ -207,7 +207,7 @@ final class TracesTest {
 
     /** The spans of a request, of one that recovers, and of stages that are late or never end. */
     static void spans() throws Exception {
-        long before = System.currentTimeMillis() * 1_000_000 - 1_000_000;
+        long second = 1_000_000_000, before = System.currentTimeMillis() * 1_000_000 - second; // two clocks are read, one after another
         List<Span> spans = failing(Checks.INLINE).history().spans();
         is(spans.stream().map(Span::name).collect(Collectors.toList()), Arrays.asList("order \"17\"\n", "load", "charge"));
         is(spans.stream().map(Span::stage).collect(Collectors.toList()), Arrays.asList(-1, 0, 1));
@@ -222,7 +222,7 @@ final class TracesTest {
         is(whole.thrown(), null);
         is(before <= whole.start() && whole.start() <= spans.get(1).start() && spans.get(1).end() <= charge.start()
                 && charge.start() <= charge.end() && charge.end() <= whole.end()
-                && whole.end() <= System.currentTimeMillis() * 1_000_000 + 1_000_000, true);
+                && whole.end() <= System.currentTimeMillis() * 1_000_000 + second, true);
         is(failing(Checks.INLINE.describing(Describe.NOTHING)).history().spans().get(2).thrown().toString(), "{exception.message=-}");
         Request request = Checks.INLINE.request("r");
         is(request.history().spans().size(), 0);
@@ -317,8 +317,10 @@ final class TracesTest {
         for (int k = 0; k < 3; k++) {
             io.opentelemetry.api.trace.Span shown = tracer.begun.get(k);
             is(shown.name, spans.get(k).name());
-            is(shown.end - shown.start, spans.get(k).end() - spans.get(k).start());
-            is(Math.abs(shown.start - spans.get(k).start()) < 1_000_000_000, true);
+            // How long a tick takes is known better with time.
+            is(Math.abs(shown.end - shown.start - (spans.get(k).end() - spans.get(k).start())) < 10_000_000, true);
+            is(shown.start <= shown.end && whole.start <= shown.start && shown.end <= whole.end, true);
+            is(Math.abs(shown.start - spans.get(k).start()) < 10_000_000_000L, true);
         }
     }
 }
