@@ -38,7 +38,8 @@ class LoopService:
     Args:
         loop: The loop that calls the functions, and whose clock is the clock.
         describe: As of `Service`.
-        watch: Who is told of all that is done to stages, as of `Service`. The loop runs the functions and is the clock."""
+        watch: Who is told of all that is done to stages, as of `Service`. The loop runs the functions and is the
+        clock."""
 
     def __init__(self, loop: asyncio.AbstractEventLoop, *, describe: Describe = describe_all,
                  watch: Optional[Watch] = None) -> None:
