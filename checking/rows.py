@@ -64,7 +64,7 @@ def rows_of_python(tools: Tools, made: Path) -> List[Row]:
         Row("services of Python's in every order", ["library", "python3"],
             [["env", "CF_NO_MODULE=1", python, "-m", "unittest", "discover", "-s", "clients/python/tests/testing"]]),
         Row("random orders of Python's service beside explore", ["library", "python3", "cf_look"],
-            [["env", "CF_NO_MODULE=1", python, "conformance/clients/python-orders", "short", "0", "40", tools["cf_look"]]]),
+            [["env", "CF_NO_MODULE=1", python, "conformance/clients/python-orders", "short", "0", "100", tools["cf_look"]]]),
         Row("Python's service by ctypes", ["library", "python3"],
             [["env", "CF_NO_MODULE=1", "CF_REQUESTS=2000", python, "-m", "unittest", "discover", "-s", "clients/python/tests/service"]]),
         Row("Python's service over the C module, installed", ["library", builds],

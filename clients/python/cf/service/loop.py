@@ -36,7 +36,8 @@ class LoopService:
     Args:
         loop: The loop that calls the functions, and whose clock is the clock.
         describe: As of `Service`.
-        watch: Who is told of all that is done to stages, as of `Service`. The loop runs the functions and is the clock.
+        watch: Who is told of all that is done to stages, as of `Service`. The loop runs the functions and is the
+            clock.
         on_end: As of `Service`. Requests that are still open when the interpreter ends are told then. It isn't given
             beside a watch.
 

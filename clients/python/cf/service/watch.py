@@ -1,11 +1,12 @@
 """A service that somebody else runs, move by move, and that tells all that is done to its stages.
 
-`Service(watch=..)` and `LoopService(.., watch=..)` take a `Watch`. It stands in the place of the threads and the clock: it
-decides when a ready function is claimed, called and finished, when a callback is called and when a limit passes. It is
-told of each event and of each read, and whatever would wait asks it to. `cf.testing` tries all orders so.
+`Service(watch=..)` and `LoopService(.., watch=..)` take a `Watch`. It stands in the place of the threads and the
+clock: it decides when a ready function is claimed, called and finished, when a callback is called and when a limit
+passes. It is told of each event and of each read, and whatever would wait asks it to. `cf.testing` tries all orders
+so.
 
-All methods of a watch are called on the thread that makes the change, reads or waits. Nothing here has a lock of its own,
-so one thread at a time may be within a service that is watched.
+All methods of a watch are called on the thread that makes the change, reads or waits. Nothing here has a lock of
+its own, so one thread at a time may be within a service that is watched.
 """
 import concurrent.futures
 import functools

@@ -1,4 +1,5 @@
-"""A service's own code in every order: which ready function is called next, what arrives when, whether a limit passes before.
+"""A service's own code in every order: which ready function is called next, what arrives when, whether a limit
+passes before.
 
     from cf.testing import orders
 
@@ -15,7 +16,7 @@ docs/TESTING.md leads through it. The files:
 
     run.py         one run: the moves that are possible, and making one
     world.py       what a test is given; arrivals.py, loop.py and carriers.py stand below it
-    footprints.py  what moves touch, and which are independent by that; marks.py has what a test may say of its functions
+    footprints.py  what moves touch, and which are independent by that; marks.py: what a test may say of functions
     runner.py      runs with any choice of moves
     search.py      all orders, but those that can come to nothing else; chance.py has orders by chance
     smaller.py     a failing order made smaller, and the moves that decide; report.py has what is told

@@ -1,5 +1,5 @@
-"""Threads that carry functions which may wait. One thread of a run goes on at a time: the search hands it the turn, and gets
-it back once the function waits or has ended."""
+"""Threads that carry functions which may wait. One thread of a run goes on at a time: the search hands it the
+turn, and gets it back once the function waits or has ended."""
 import threading
 from typing import Callable, List, Optional
 

@@ -1,5 +1,5 @@
-"""Orders by chance: each who moves has a priority, and a few changes of these come at random places (as PCT does it). An order
-that few switches make is so found with a likelihood that doesn't shrink as the number of orders grows."""
+"""Orders by chance: each who moves has a priority, and a few changes of these come at random places (as PCT does
+it). An order that few switches make is so found with a likelihood that doesn't shrink as the number of orders grows."""
 import random
 import time
 from typing import Dict, List, Optional, Set

@@ -1,9 +1,9 @@
 """What a move touches. Two moves that touch nothing in common come to the same in either order, so one order is enough.
 
-A footprint says of each thing whether a move reads it, changes it, or leads to it. A thing is a stage, by the numbers of its
-request and in that; what user code may share; the clock of a request; and what else a run has one of. A move *leads* to
-the stages behind one that it settles: these are settled once all others before them are, so of two moves that only lead
-to the same stage it doesn't matter which comes first, unless one of them settles it.
+A footprint says of each thing whether a move reads it, changes it, or leads to it. A thing is a stage, by the numbers
+of its request and in that; what user code may share; the clock of a request; and what else a run has one of. A move
+*leads* to the stages behind one that it settles: these are settled once all others before them are, so of two moves
+that only lead to the same stage it doesn't matter which comes first, unless one of them settles it.
 """
 from typing import Any, Callable, Dict, Iterator, List, Sequence, Set, Tuple
 

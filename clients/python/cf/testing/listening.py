@@ -78,7 +78,8 @@ class Listening(State):
             self._call_back(call)
 
     def _call_back(self, call: Callback) -> None:
-        """Calls a callback. One for relays looks at all that there ever were: it would settle those that were let go."""
+        """Calls a callback. One for relays looks at all that there ever were: it would settle those that were let
+        go."""
         if not call.is_relay:
             self.user(call, name_of(call.fn))
             return
@@ -121,7 +122,8 @@ class Listening(State):
 
     def limit(self, stage: "Stage[Any]", seconds: float, act: Callable[[], object]) -> None:
         """As `Watch.limit`."""
-        self._add_timer(self._place(stage), seconds, act, lambda: is_settled(stage), f"the limit of {stage.name} passes")
+        self._add_timer(self._place(stage), seconds, act, lambda: is_settled(stage),
+                        f"the limit of {stage.name} passes")
 
     def _add_timer(self, place: Place, seconds: float, act: Callable[[], object], is_lost: Callable[[], bool],
                    text: str) -> None:

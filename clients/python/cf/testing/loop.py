@@ -1,5 +1,5 @@
-"""An event loop whose time and whose other threads are the search's. What is ready on it comes in its own order, as on any
-loop."""
+"""An event loop whose time and whose other threads are the search's. What is ready on it comes in its own order,
+as on any loop."""
 import asyncio
 import contextvars
 import heapq
@@ -106,7 +106,9 @@ class WorldLoop(asyncio.AbstractEventLoop):
         """What its next step is called."""
         callback: Any = self._ready[0]._callback  # type: ignore[attr-defined]
         owner = getattr(callback, "__self__", None)
-        return owner.get_name() if isinstance(owner, asyncio.Task) else str(getattr(callback, "__qualname__", "a callback"))
+        if isinstance(owner, asyncio.Task):
+            return owner.get_name()
+        return str(getattr(callback, "__qualname__", "a callback"))
 
     def end(self) -> None:
         """Lets go of all that is left."""

@@ -49,7 +49,8 @@ def orders(test: Test, *, most: int = 100_000, seconds: float = 10.0, row: Optio
     settings = Settings(workers, free_clock, fine, reduce, fine)
     began = time.perf_counter()
     try:
-        report = _searched(Runner(test, settings), most, began + seconds, row, chance, seed, failures, reduce, smaller, ends)
+        report = _searched(Runner(test, settings), most, began + seconds, row, chance, seed, failures, reduce, smaller,
+                           ends)
     except NeedsThreads:
         runner = Runner(test, settings._replace(has_threads=True))
         report = _searched(runner, most, began + seconds, row, chance, seed, failures, reduce, smaller, ends)
@@ -81,8 +82,8 @@ def _searched(runner: Runner, most: int, until: float, row: Optional[str], chanc
 
 
 def _all(runner: Runner, report: Report, most: int, until: float, failures: int, tree: Tree, seed: int) -> None:
-    """Some orders in turn, and if these aren't all, some by chance: what needs the last of many to come first is met late
-    by the search in turn, and soon by chance."""
+    """Some orders in turn, and if these aren't all, some by chance: what needs the last of many to come first is
+    met late by the search in turn, and soon by chance."""
     at_first = min(AT_FIRST, most)
     tree.go(at_first, until, failures)
     if report.whole or report.failed or most <= at_first:
@@ -93,11 +94,12 @@ def _all(runner: Runner, report: Report, most: int, until: float, failures: int,
 
 
 def every_order(test: Optional[Callable[..., Any]] = None, **options: Any) -> Any:
-    """Makes a test of pytest or unittest that is run in every order, and fails with the story of the first order that fails.
+    """Makes a test of pytest or unittest that is run in every order, and fails with the story of the first order
+    that fails.
 
     Args:
-        test: A function whose last parameter is a `World`. What stands before it, such as `self` or fixtures of pytest, it
-            is given as any test is.
+        test: A function whose last parameter is a `World`. What stands before it, such as `self` or fixtures of
+            pytest, it is given as any test is.
         options: As of `orders`. With `whole=True` it fails, too, where not all orders could be tried."""
     if test is None:
         return functools.partial(every_order, **options)

@@ -1,4 +1,5 @@
-"""What a search found: how many orders it tried, and those that failed, each as a value that can be told and done again."""
+"""What a search found: how many orders it tried, and those that failed, each as a value that can be told and done
+again."""
 from typing import Dict, Hashable, List, NamedTuple, Sequence
 
 from ..service.history import History
@@ -12,7 +13,8 @@ def row_of(moves: Sequence[Move]) -> str:
 
 def moves_of(row: str) -> List[Move]:
     """The moves of such a text."""
-    return [tuple(int(part) if part.lstrip("-").isdigit() else part for part in move.split(".")) for move in row.split()]
+    return [tuple(int(part) if part.lstrip("-").isdigit() else part for part in move.split("."))
+            for move in row.split()]
 
 
 class Told(NamedTuple):
@@ -80,7 +82,8 @@ class Report:
         orders: How many orders were tried to their end, those by chance too.
         by_chance: How many of them by chance.
         whole: Whether no further order can come to anything else.
-        left_out: How many moves weren't tried where they could come to nothing else. Behind each are one or more orders.
+        left_out: How many moves weren't tried where they could come to nothing else. Behind each are one or
+            more orders.
         cut: How many runs were given up on the way, since they could come to nothing else.
         seconds: How long it took.
         failed: The orders that failed.

@@ -1,7 +1,7 @@
 """One run of a test, of which a search chooses each move.
 
-A run is the `Watch` of its service: it keeps what is ready, what goes on, what may come from outside and what is due, and
-says which moves may be next (`moves`). `do` does one, and answers what it touched.
+A run is the `Watch` of its service: it keeps what is ready, what goes on, what may come from outside and what is
+due, and says which moves may be next (`moves`). `do` does one, and answers what it touched.
 
 A move is a tuple of a word and numbers:
 

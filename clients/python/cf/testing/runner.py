@@ -13,8 +13,9 @@ END, CUT, FAILED = "end", "cut", "failed"
 
 
 class NotDeterministic(AssertionError):
-    """A test that does other things when it is run again with the same row of moves, so that orders can't be tried. What
-    differs may be a clock, a random number, a set's order, a thread of its own, or something that outlives a run."""
+    """A test that does other things when it is run again with the same row of moves, so that orders can't be tried.
+    What differs may be a clock, a random number, a set's order, a thread of its own, or something that outlives a
+    run."""
 
 
 class Ran(NamedTuple):
@@ -103,8 +104,8 @@ class Runner:
         row = ran.row
         again = self.go(lambda place, keys: row[place] if place < len(row) and row[place] in keys else None)
         if (again.row, again.how, again.why) != (row, ran.how, ran.why) or _words(again.run) != _words(ran.run):
-            raise NotDeterministic(f"done again, the order\n    {row_of(row)}\nwas\n    {row_of(again.row)}\nand came to "
-                                   f"{again.why or again.how}, before to {ran.why or ran.how}")
+            raise NotDeterministic(f"done again, the order\n    {row_of(row)}\nwas\n    {row_of(again.row)}\nand came "
+                                   f"to {again.why or again.how}, before to {ran.why or ran.how}")
 
 
 def failure_of(ran: Ran) -> Failure:

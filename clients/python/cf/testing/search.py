@@ -1,11 +1,11 @@
 """All orders, but those that can come to nothing else.
 
-The search is stateless: each order is a run from the start. It goes through a tree of moves, depth first, of which it has
-the path to the last run. What is left out stands on what moves touched (footprints.py):
+The search is stateless: each order is a run from the start. It goes through a tree of moves, depth first, of which
+it has the path to the last run. What is left out stands on what moves touched (footprints.py):
 
-- *Races.* Two moves of a run race if they touch the same thing, and nothing between them makes them wait for one another. At
-  the earlier one a move is added that leads to the other order, unless one of those that do so is there already (source
-  sets). What no race asks for isn't tried.
+- *Races.* Two moves of a run race if they touch the same thing, and nothing between them makes them wait for one
+  another. At the earlier one a move is added that leads to the other order, unless one of those that do so is there
+  already (source sets). What no race asks for isn't tried.
 - *Sleep sets.* A move that was tried at a place isn't tried again behind a sibling that is independent of it.
 - A move that takes another one away races with it, though that one was never made: both are tried.
 
@@ -34,7 +34,8 @@ class _Node:
 class Tree:
     """A search that can be stopped and gone on with."""
 
-    def __init__(self, runner: Runner, report: Report, ends: Optional[Callable[[Any], Hashable]], reduces: bool) -> None:
+    def __init__(self, runner: Runner, report: Report, ends: Optional[Callable[[Any], Hashable]],
+                 reduces: bool) -> None:
         self.runner, self.report, self._ends, self._reduces = runner, report, ends, reduces
         self._races = reduces and not runner.settings.workers
         self._stack: List[_Node] = []
@@ -99,7 +100,8 @@ class Tree:
         node = self._stack[self._place]
         self._place += 1
         if self._place < len(self._stack):
-            if {**(node.footprint or {}), CHECKED: ""} != {**footprint, CHECKED: ""}:  # (checks may look at more by now)
+            # (Checks may look at more by now.)
+            if {**(node.footprint or {}), CHECKED: ""} != {**footprint, CHECKED: ""}:
                 raise NotDeterministic(f"at the end of\n    {row_of([it.chosen for it in self._stack[:self._place]])}\n"
                                        f"it touched {node.footprint} before, and now {footprint}")
             return
@@ -108,7 +110,8 @@ class Tree:
         node.footprint = footprint
         if self._reduces:
             known = (*node.sleep.items(), *node.done.items())
-            self._sleep = {other: touched for other, touched in known if other != key and independent(touched, footprint)}
+            self._sleep = {other: touched for other, touched in known
+                           if other != key and independent(touched, footprint)}
 
     def _race(self, footprint: Footprint) -> None:
         """Finds with which moves before the last one races, and has the other orders tried, too."""

@@ -26,8 +26,8 @@ LEAVES: Tuple[Type[BaseException], ...] = (Failed, NeedsThreads, Gone)
 
 
 class Settings(NamedTuple):
-    """How runs go. `is_clock_free` says that limits need not pass, and that those of settled stages pass like others, as
-    `cf_look explore` has it."""
+    """How runs go. `is_clock_free` says that limits need not pass, and that those of settled stages pass like
+    others, as `cf_look explore` has it."""
 
     workers: int = 0  # any number
     is_clock_free: bool = False

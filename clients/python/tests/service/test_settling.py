@@ -63,8 +63,8 @@ class Settling(Case):
         seen = set()
         report = orders(test)
         self.assertEqual((report.whole, list(map(str, report.failed))), (True, []))
-        self.assertEqual(seen, {("cancelled", False), ("cancelled", True), (2, False), (2, True), (None, True), ("late", False),
-                                ("late", True)})
+        self.assertEqual(seen, {("cancelled", False), ("cancelled", True), (2, False), (2, True), (None, True),
+                                ("late", False), ("late", True)})
 
     def test_promise_of_somebody_else(self):
         settling = self.request.promise()

@@ -1,6 +1,8 @@
-"""Twenty services with a fault of order, and the same twenty without it. Each is a test of `cf.testing`: called with a world.
+"""Twenty services with a fault of order, and the same twenty without it. Each is a test of `cf.testing`: called
+with a world.
 
-`FAULTY` has of each the service, what is told where it fails, and options of `orders`. `SOUND` has the service and options.
+`FAULTY` has of each the service, what is told where it fails, and options of `orders`. `SOUND` has the service and
+options.
 """
 import asyncio
 
@@ -429,7 +431,8 @@ def refunded_before(world, waits=False):
         told = limited.recover_compose(lambda error: charge.handle(lambda *_: refund(error)))
     else:
         told = limited.recover(refund)
-    world.at_end(lambda: told.result() == "paid" or moved.count("refund") == moved.count("charge"), "what isn't paid is refunded")
+    world.at_end(lambda: told.result() == "paid" or moved.count("refund") == moved.count("charge"),
+                 "what isn't paid is refunded")
     return told
 
 
@@ -462,7 +465,8 @@ def handled_once(world):
 DEADLOCK = "deadlock"
 FAULTY = [
     (charged_twice, "charged at most once", {}), (loser_keeps_connection, "no connection is left", {}),
-    (stale_cache, "the cache isn't stale", {}), (cancelled_and_shipped, "what is told to be cancelled isn't shipped", {}),
+    (stale_cache, "the cache isn't stale", {}),
+    (cancelled_and_shipped, "what is told to be cancelled isn't shipped", {}),
     (lost_count, "both are counted", {}), (lost_wake, "a reader that waits is woken", {}),
     (closed_by_winner, "AssertionError('the file is closed')", {}), (opposite_locks, DEADLOCK, {}),
     (waits_in_pool, DEADLOCK, {"workers": 1}), (told_otherwise, "what is told is what is written", {}),
@@ -473,8 +477,10 @@ FAULTY = [
     (refunded_before, "what isn't paid is refunded", {}), (handled_twice, "handled once", {}),
 ]
 SOUND = [
-    (charged_by_key, {}), (loser_gives_back, {}), (cache_by_version, {}), (cancelled_if_so, {}), (counted_in_one, {}), (looks_again, {}),
+    (charged_by_key, {}), (loser_gives_back, {}), (cache_by_version, {}), (cancelled_if_so, {}),
+    (counted_in_one, {}), (looks_again, {}),
     (closed_by_last, {}), (locks_in_order, {}), (waits_behind, {"workers": 1}), (told_as_written, {}), (falls_back, {}),
-    (written_together, {}), (made_once, {}), (newest_stands, {}), (never_overdrawn, {}), (told_before_end, {}), (locked_on_loop, {}),
+    (written_together, {}), (made_once, {}), (newest_stands, {}), (never_overdrawn, {}),
+    (told_before_end, {}), (locked_on_loop, {}),
     (released, {}), (refunded_behind, {}), (handled_once, {}),
 ]

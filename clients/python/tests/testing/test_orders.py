@@ -36,7 +36,8 @@ class Services(unittest.TestCase):
             with self.subTest(service.__name__):
                 failure = orders(service, seconds=SECONDS, **options).failed[0]
                 again = orders(service, row=failure.row, **options)
-                self.assertEqual((again.orders, again.failed[0].why, again.failed[0].row), (1, failure.why, failure.row))
+                self.assertEqual((again.orders, again.failed[0].why, again.failed[0].row),
+                                 (1, failure.why, failure.row))
 
     def test_each_sound_service_is_sound_in_all_orders(self):
         for service, options in services.SOUND:
@@ -61,7 +62,8 @@ class Failures(unittest.TestCase):
 
     def test_the_pair_that_decides_is_named(self):
         self.assertEqual([tuple(pair) for pair in self.failure.pairs], [(1, 3)])
-        self.assertIn("It is so if 4 (the limit of charge passes) comes before 2 (charge is claimed).", str(self.failure))
+        self.assertIn("It is so if 4 (the limit of charge passes) comes before 2 (charge is claimed).",
+                      str(self.failure))
 
     def test_its_row_is_printed(self):
         self.assertIn(f'row="{self.failure.row}"', str(self.failure))
@@ -100,7 +102,8 @@ class Bounds(unittest.TestCase):
         self.assertEqual((report.orders, report.whole), (0, False))
 
     def test_a_seed_decides_what_comes_by_chance(self):
-        rows = [[failure.row for failure in orders(charged, chance=50, seed=seed, failures=50, smaller=False).failed] for seed in (1, 1, 2)]
+        found = [orders(charged, chance=50, seed=seed, failures=50, smaller=False).failed for seed in (1, 1, 2)]
+        rows = [[failure.row for failure in failed] for failed in found]
         self.assertEqual(rows[0], rows[1])
         self.assertNotEqual(rows[0], rows[2])
 
@@ -251,7 +254,8 @@ class Faults(unittest.TestCase):
     def test_what_outlives_a_run_is_told(self):
         numbers = itertools.count()
         with self.assertRaises(NotDeterministic):
-            orders(lambda world: world.service.submit(next, numbers).then(lambda number: number and world.service.submit(int)))
+            orders(lambda world: world.service.submit(next, numbers).then(
+                lambda number: number and world.service.submit(int)))
 
 
 class LeftOut(unittest.TestCase):
