@@ -1,12 +1,12 @@
 -- What an engine makes of a row.
-use Rattle.std.proofs.Common.{◌≡◌, ℕ, zero, suc, ◌+◌, ◌<◌, ◌≤◌, List, [], ◌∷◌, ◌++◌, length, length-append, All, Contains, get_or, refl, ap, sym, ◌∙◌, subst, append-nil, append_assoc, inl, inr, arith}
+use Rattle.std.proofs.Common.{◌≡◌, ℕ, ◌+◌, ◌<◌, List, [], ◌∷◌, ◌++◌, length, length-append, All, get_or, refl, ap, sym, ◌∙◌, subst, append-nil, append_assoc, inl, inr, arith}
 use Rattle.std.specs.Prelude.{◌≢◌, ◌⊎◌}
 use Rattle.std.proofs.lemmas.List.Elements.{All-nil, All-append, All-head, All-tail}
-use Rattle.cf_forms.specs.Plans.{Planned, with_room}
+use Rattle.cf_forms.specs.Plans.{Planned}
 use Rattle.cf_row.specs.declared.entry.Entry.{Entry}
 use Rattle.cf_row.specs.Rows.{BeginsWith}
 use Rattle.cf_row.specs.Puts.{IsOnceOrNever, NoneStands, StandsOnce}
-use Rattle.cf_row.specs.Engines.{AreBehind, Group, HaveOwnTokens, IsAsked, IsBehind, Puts, Runs, joined}
+use Rattle.cf_row.specs.Engines.{AreBehind, Group, IsAsked, Puts, Runs, joined}
 use Rattle.cf_row.specs.Laws.{LandedPutsStandOnce, PutsKeepOnceOrNever, PutsStandOnceOrNever, RowsOnlyGrow}
 
 -- ---- rows only grow

@@ -1,12 +1,12 @@
 -- Words that a graph takes one after another.
-use Rattle.std.proofs.Common.{◌≡◌, ℕ, zero, suc, ◌+◌, ◌-◌, ◌<◌, ◌≤◌, Bool, true, false, List, [], ◌∷◌, ◌++◌, length, length-append, map, drop, get_or, All, refl, ap, sym, ◌∙◌, subst, arith}
+use Rattle.std.proofs.Common.{◌≡◌, ℕ, zero, suc, ◌+◌, ◌-◌, ◌<◌, ◌≤◌, Bool, List, [], ◌∷◌, ◌++◌, length, length-append, drop, get_or, All, refl, ap, sym, ◌∙◌, subst, arith}
 use Rattle.std.specs.Prelude.{Option, Some, None, ◌≢◌}
 use Rattle.std.proofs.lemmas.List.{drop_more}
 use Rattle.std.proofs.lemmas.List.Elements.{All-nil, All-cons}
 use Rattle.cf_forms.specs.Plans.{Planned, PlannedStage, attached_stage}
 use Rattle.cf_model.specs.declared.events.Event.{Event}
 use Rattle.cf_model.specs.declared.events.Event.TheVariants.{Complete as Completes, Fail as Fails, FailAs as FailsAs, Cancel as Cancels, Claim as Claims, Finish as Finishes, Tick as Ticks, Attach as Attaches}
-use Rattle.cf_model.specs.States.{State, start}
+use Rattle.cf_model.specs.States.{State}
 use Rattle.cf_model.specs.Events.{answered, attached_by as attached_as, state_after}
 use Rattle.cf_model.specs.Ranges.{EventFits}
 use Rattle.cf_model.proofs.Shape.{answered-shape}
@@ -156,11 +156,6 @@ all_more who there left there2 left2 k more words l one is up down h =
       subst (λ (n : ℕ). AreWordsFor who n (left - attached_by (event_of w)) (drop (k + 1) words)) (up ∙ ap (λ (m : ℕ). there + m) is)
           (subst (λ (n : ℕ). AreWordsFor who there2 n (drop (k + 1) words)) (down ∙ ap (λ (m : ℕ). left - m) is) h),
     )
-
-pub first_of_rest : (who there left k : ℕ) (words : List ℕ) → k < length words → AreWordsFor who there left (drop k words) → IsWordFor who there left (get_or words k 0)
-first_of_rest who there left k words l h =
-    let both : AreWordsFor who there left (get_or words k 0 ∷ drop (k + 1) words) = subst (AreWordsFor who there left) (drop_more words k 0 l) h in
-    both.0
 
 -- ---- by what the code's steps say
 

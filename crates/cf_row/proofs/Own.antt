@@ -1,7 +1,7 @@
 -- A session's own entries of a row, and its records of them.
-use Rattle.std.proofs.Common.{◌≡◌, ℕ, zero, suc, ◌+◌, ◌-◌, ◌<◌, ◌≤◌, Bool, true, false, cond, eqb, List, [], ◌∷◌, ◌++◌, length, map, take, All, refl, ap, sym, ◌∙◌, subst, append-nil, append_assoc, length-append, arith}
+use Rattle.std.proofs.Common.{◌≡◌, ℕ, suc, ◌+◌, ◌-◌, ◌<◌, ◌≤◌, Bool, true, false, cond, eqb, List, [], ◌∷◌, ◌++◌, length, map, take, All, refl, ap, sym, ◌∙◌, subst, append-nil, length-append, arith}
 use Rattle.std.specs.Prelude.{Option, Some, None}
-use Rattle.std.proofs.lemmas.List.{length-map, map_push, map-append, take-append-le, take_at}
+use Rattle.std.proofs.lemmas.List.{length-map, map_push, map-append, take_at}
 use Rattle.std.proofs.Math.Seq.{take-append_seam}
 use Rattle.std.proofs.lemmas.List.Elements.{All-nil, All-cons, All-head, All-tail, All-push}
 use Rattle.cf_outcome.specs.declared.outcome.Outcome.{Outcome}
@@ -21,10 +21,10 @@ use Rattle.cf_event.specs.Words.{word_of}
 use Rattle.cf_event.specs.Decoding.{decoded, decoded_with, event_of}
 use Rattle.cf_event.specs.Histories.{InOrder, IsAnswered, dids}
 use Rattle.cf_event.proofs.Histories.{at_still, take_all}
-use Rattle.cf_ledger.specs.Ledgers.{AreTaken, Does, IsTaken, Ledger, state_of}
+use Rattle.cf_ledger.specs.Ledgers.{AreTaken, Does, IsTaken, Ledger}
 use Rattle.cf_ledger.proofs.Words.{decoded_push, taken_push}
 use Rattle.cf_row.specs.declared.entry.Entry.{Entry}
-use Rattle.cf_row.specs.Rows.{BeginsWith, FitsEachRow, FitsUpTo, IsKept, Replays, Replica, Takes, history_of, own_from, own_in, session_of, words_in}
+use Rattle.cf_row.specs.Rows.{BeginsWith, FitsUpTo, IsKept, history_of, own_from, own_in, session_of, words_in}
 
 -- ---- records, of which those of cf_event are private there
 
@@ -172,26 +172,6 @@ fits_row l s seen row rs kept begins =
       answers = subst (λ (es : List Event). All (IsAnswered l.plan es) rs) (sym history) (all_still l.plan (history_of seen) (history_of begins.rest) rs kept.answers);
       order = kept.order;
       taken = subst (λ (r : List Entry). AreTaken (start l.plan) (history_of r)) (sym front) kept.taken;
-    }
-
--- ---- one entry after another
-
-pub replays_none : (r : Replica) → Replays r [] r
-replays_none r = record { plan = refl; session = refl; seen = sym (append-nil r.seen); more = []; records = sym (append-nil r.records); free = omega arith }
-
-pub replays_more : (old now new : Replica) (entries : List Entry) (x : Entry) (reply : Reply) → Replays old entries now → Takes now x reply new → Replays old (entries ++ x ∷ []) new
-replays_more old now new entries x reply h one =
-    let more = cond (eqb (session_of x.token) now.session) (Did (length now.seen + 1) one.event reply ∷ []) [] in
-    let free = h.free in
-    let less = one.free in
-    let size = length-append entries (x ∷ []) in
-    record {
-      plan = one.plan ∙ h.plan;
-      session = one.session ∙ h.session;
-      seen = one.seen ∙ ap (λ (l : List Entry). l ++ x ∷ []) h.seen ∙ append_assoc old.seen entries (x ∷ []);
-      more = h.more ++ more;
-      records = one.records ∙ ap (λ (l : List Record). l ++ more) h.records ∙ append_assoc old.records h.more more;
-      free = omega (arith, free, less, size);
     }
 
 -- ---- by what the code's steps say

@@ -1,18 +1,18 @@
 -- What tokens tell of a put, and what is kept of one.
-use Rattle.std.proofs.Common.{◌≡◌, ℕ, zero, suc, ◌+◌, ◌*◌, ◌-◌, ◌/◌, ◌<◌, ◌≤◌, Bool, true, false, eqb, List, [], ◌∷◌, ◌++◌, length, length-append, map, take, drop, All, Contains, get_or, refl, ap, sym, ◌∙◌, subst, inl, inr, arith, append_assoc}
-use Rattle.std.specs.Prelude.{◌≢◌, ◌⊎◌, max}
+use Rattle.std.proofs.Common.{◌≡◌, ℕ, ◌+◌, ◌-◌, ◌<◌, ◌≤◌, Bool, true, false, eqb, List, [], ◌∷◌, ◌++◌, length, length-append, drop, All, Contains, get_or, refl, ap, sym, ◌∙◌, subst, inl, inr, arith, append_assoc}
+use Rattle.std.specs.Prelude.{◌≢◌, max}
 use Rattle.std.proofs.Common.{Result, Ok, Err}
 use Rattle.std.specs.Result.{OnErr, OnOk}
 use Rattle.std.proofs.lemmas.Bool.{eqb-true, eqb-false}
 use Rattle.std.proofs.lemmas.List.{drop_at, get_or_at}
-use Rattle.std.proofs.lemmas.List.Elements.{All-nil, All-cons, All-head, All-map, All-weaker}
+use Rattle.std.proofs.lemmas.List.Elements.{All-nil, All-head, All-map}
 use Rattle.cf_forms.specs.Plans.{Planned}
 use Rattle.cf_model.specs.States.{State, start}
 use Rattle.cf_model.specs.Events.{state_after}
 use Rattle.cf_ledger.specs.Ledgers.{AreTaken}
 use Rattle.cf_row.specs.declared.entry.Entry.{Entry}
 use Rattle.cf_row.specs.Rows.{BeginsWith, Replica, history_of, session_of, state_of, with_memory, words_in}
-use Rattle.cf_row.specs.Numbers.{FollowsRule, IsNewcomer, numbers_in}
+use Rattle.cf_row.specs.Numbers.{FollowsRule, numbers_in}
 use Rattle.cf_row.specs.Puts.{AreWordsBehind, AreWordsFor, HasTokens, IsOnceOrNever, IsPutOf, IsPutOrNone, MayPut, NoneStands, Row, StandsOnce, TellsOf, pair_of, pairs_of, stamped, who_at}
 use Rattle.cf_row.proofs.Tokens.{planned, stamped_count, stamped_words}
 

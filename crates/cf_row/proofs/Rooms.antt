@@ -1,6 +1,6 @@
 -- Records that fit by a graph with some room fit by one with more.
-use Rattle.std.proofs.Common.{◌≡◌, ℕ, zero, suc, ◌+◌, ◌-◌, ◌<◌, ◌≤◌, Bool, true, false, cond, eqb, List, [], ◌∷◌, ◌++◌, length, take, All, refl, ap, sym, ◌∙◌, subst, arith}
-use Rattle.std.specs.Prelude.{Option, Some, None, slice_get}
+use Rattle.std.proofs.Common.{◌≡◌, ℕ, zero, suc, ◌+◌, ◌-◌, ◌<◌, ◌≤◌, Bool, true, false, cond, eqb, List, [], ◌∷◌, length, take, All, refl, ap, sym, ◌∙◌, subst, arith}
+use Rattle.std.specs.Prelude.{Some, slice_get}
 use Rattle.std.proofs.Common.{Result, Ok, Err}
 use Rattle.std.specs.Result.{OnErr, OnOk}
 use Rattle.std.proofs.lemmas.Option.{none-some}
@@ -11,7 +11,7 @@ use Rattle.cf_model.specs.declared.asks.Ask.{Ask}
 use Rattle.cf_model.specs.declared.asks.Ask.TheVariants.{Now as AsksNow, Outcome as AsksOutcome}
 use Rattle.cf_model.specs.declared.events.Event.{Event}
 use Rattle.cf_model.specs.States.{State, start}
-use Rattle.cf_model.specs.Events.{answered, state_after, state_at, told}
+use Rattle.cf_model.specs.Events.{answered, state_after, told}
 use Rattle.cf_model.specs.Ranges.{AskFits}
 use Rattle.cf_event.specs.declared.record.Record.{Record}
 use Rattle.cf_event.specs.declared.record.Record.TheVariants.{Did, Saw}

@@ -1,5 +1,5 @@
 -- All sessions' records together.
-use Rattle.std.proofs.Common.{◌≡◌, ℕ, zero, suc, ◌+◌, cond, eqb, List, [], ◌∷◌, ◌++◌, length, map, take, drop, All, refl, ap, sym, ◌∙◌, subst, arith}
+use Rattle.std.proofs.Common.{◌≡◌, ℕ, suc, ◌+◌, cond, eqb, List, [], ◌∷◌, ◌++◌, length, map, drop, All, refl, ap, sym, ◌∙◌, subst, arith}
 use Rattle.std.specs.List.{filter, Contains}
 use Rattle.std.proofs.lemmas.List.{length-map, take_all, drop_at, append_assoc}
 use Rattle.std.proofs.lemmas.List.Elements.{All-map, All-weaker}
@@ -8,10 +8,10 @@ use Rattle.cf_model.specs.States.{start}
 use Rattle.cf_model.specs.Calls.{who_of}
 use Rattle.cf_model.specs.declared.events.Event.{Event}
 use Rattle.cf_event.specs.declared.record.Record.{Record}
-use Rattle.cf_event.specs.Events.{AreEventsOf, events_of, placed}
+use Rattle.cf_event.specs.Events.{AreEventsOf, placed}
 use Rattle.cf_event.specs.Histories.{AreRecordsOf, AreRecordsOfOne, IsOneHistory}
 use Rattle.cf_row.specs.declared.entry.Entry.{Entry}
-use Rattle.cf_row.specs.Rows.{BeginsWith, FitsUpTo, StandsAt, history_of, own_from, own_in, session_of}
+use Rattle.cf_row.specs.Rows.{history_of, own_from, own_in}
 use Rattle.cf_row.specs.Accounts.{Account, IsAccountOf, IsNumberOf, records_of}
 use Rattle.cf_row.specs.Laws.{ToldIsTrue}
 

@@ -1,25 +1,22 @@
 -- The whole row: its puts, one behind another.
-use Rattle.std.proofs.Common.{◌≡◌, ℕ, zero, suc, ◌+◌, ◌-◌, ◌<◌, ◌≤◌, Bool, true, false, eqb, List, [], ◌∷◌, ◌++◌, length, length-append, map, take, drop, cond, All, Contains, get_or, refl, ap, sym, ◌∙◌, subst, append-nil, append_assoc, inl, inr, arith}
-use Rattle.std.specs.Prelude.{Option, Some, None, ◌⊎◌, unwrap_or, is_some}
-use Rattle.std.proofs.lemmas.Bool.{eqb-true, eqb-false, eq-eqb, ne_eqb}
+use Rattle.std.proofs.Common.{◌≡◌, ℕ, suc, ◌+◌, ◌-◌, ◌<◌, ◌≤◌, true, false, eqb, List, [], ◌∷◌, ◌++◌, length, length-append, map, take, drop, cond, All, Contains, get_or, refl, ap, sym, ◌∙◌, subst, append-nil, append_assoc, inl, inr, arith}
+use Rattle.std.specs.Prelude.{Option, Some, None, ◌⊎◌, unwrap_or}
+use Rattle.std.proofs.lemmas.Bool.{eq-eqb, ne_eqb}
 use Rattle.std.proofs.lemmas.Bool.Decides.{eqb_tells}
 use Rattle.std.proofs.lemmas.List.{drop_at, get_or-map, length-map, map-append, take_all}
 use Rattle.std.proofs.lemmas.List.Elements.{All-contains, All-nil, All-cons, All-head, All-map, All-tail, All-weaker, Contains-get_or, Contains-push}
-use Rattle.cf_forms.specs.Plans.{Planned, PlannedStage, sources_of, with_room}
+use Rattle.cf_forms.specs.Plans.{Planned, with_room}
 use Rattle.cf_model.specs.declared.events.Event.{Event}
 use Rattle.cf_model.specs.declared.events.Event.TheVariants.{Complete as Completes, Fail as Fails, FailAs as FailsAs, Cancel as Cancels, Claim as Claims, Finish as Finishes, Tick as Ticks, Attach as Attaches}
 use Rattle.cf_model.specs.States.{State, start}
 use Rattle.cf_model.specs.Events.{answered, state_after}
 use Rattle.cf_model.specs.Calls.{who_of}
-use Rattle.cf_model.specs.Ranges.{EventFits}
 use Rattle.cf_model.proofs.Moves.{grants_once}
 use Rattle.cf_event.specs.Words.{IsEvent, word_of}
-use Rattle.cf_event.specs.Decoding.{decoded, decoded_with, event_of}
 use Rattle.cf_event.specs.Events.{AreEventsOf, IsFunctionBelow, NamesFunction}
 use Rattle.cf_event.specs.declared.record.Record.{Record}
-use Rattle.cf_event.specs.Histories.{IsOneHistory}
 use Rattle.cf_row.specs.declared.entry.Entry.{Entry}
-use Rattle.cf_row.specs.Rows.{BeginsWith, FitsUpTo, IsKept, Replica, history_of, own_in, session_of, state_of, words_in}
+use Rattle.cf_row.specs.Rows.{BeginsWith, FitsUpTo, IsKept, history_of, own_in, session_of, state_of, words_in}
 use Rattle.cf_row.specs.Numbers.{AllFollow, AreOneToOne, FollowsRule, HaveNoGaps, numbers_in}
 use Rattle.cf_row.specs.Puts.{pair_of, pairs_of, who_at, who_by}
 use Rattle.cf_row.specs.Engines.{AreBehind, Group, IsBehind, joined}

@@ -1,5 +1,5 @@
 -- What an engine makes of a row when sessions put to it.
-use Rattle.std.specs.Prelude.{◌≡◌, ◌⊎◌, ℕ, ◌≤◌, List, [], ◌∷◌, ◌++◌, All, Contains, length}
+use Rattle.std.specs.Prelude.{◌≡◌, ◌⊎◌, ◌≤◌, List, [], ◌∷◌, ◌++◌, All, length}
 use Rattle.cf_forms.specs.Plans.{Planned, with_room}
 use Rattle.cf_row.specs.declared.entry.Entry.{Entry}
 use Rattle.cf_row.specs.Rows.{BeginsWith, Replica}

@@ -1,5 +1,5 @@
 -- A request's row, and what one session has seen of it and was answered.
-use Rattle.std.specs.Prelude.{◌≡◌, ◌≢◌, ℕ, suc, ◌+◌, ◌-◌, ◌*◌, ◌/◌, ◌<◌, ◌≤◌, max, cond, eqb, Option, List, [], ◌∷◌, ◌++◌, All, length, map, slice_get, take, drop, Some}
+use Rattle.std.specs.Prelude.{◌≡◌, ◌≢◌, ℕ, suc, ◌+◌, ◌-◌, ◌/◌, ◌<◌, ◌≤◌, max, cond, eqb, Option, List, [], ◌∷◌, ◌++◌, All, length, map, slice_get, take, drop, Some}
 use Rattle.std.specs.declared.vec.Vec.{Vec}
 use Rattle.std.specs.Vec.{vec_capacity}
 use Rattle.cf_forms.specs.Plans.{Planned}

@@ -1,4 +1,4 @@
-use Rattle.std.proofs.Common.{◌≡◌, All, take}
+use Rattle.std.proofs.Common.{All, take}
 use Rattle.std.specs.Prelude.{◌≢◌}
 use Rattle.cf_row.specs.declared.entry.Entry.{Entry}
 use Rattle.cf_row.specs.Rows.{session_of}

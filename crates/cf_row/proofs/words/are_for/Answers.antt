@@ -1,7 +1,7 @@
-use Rattle.std.proofs.Common.{◌≡◌, ◌+◌, ◌-◌, ℕ, List, [], drop, get_or, length, refl, sym, subst, arith}
+use Rattle.std.proofs.Common.{◌+◌, ◌-◌, refl, sym, subst, arith}
 use Rattle.std.proofs.lemmas.List.{drop_all}
 use Rattle.cf_row.specs.Puts.{AreWordsFor}
-use Rattle.cf_row.proofs.Fitting.{all_more, first_of_rest, rest_more}
+use Rattle.cf_row.proofs.Fitting.{all_more, rest_more}
 use Rattle.cf_row.proofs.words.are_for.Goals as goal
 
 pub loop-word-preserved : goal.loop-word-preserved

@@ -1,11 +1,7 @@
-use Rattle.std.proofs.Common.{◌≡◌, ◌+◌, ◌-◌, ◌≤◌, [], ◌∷◌, ◌++◌, Bool, List, cond, eqb, length, length-append, refl, ap, sym, ◌∙◌, subst, arith, rules}
-use Rattle.std.specs.Prelude.{Some}
-use Rattle.cf_event.specs.declared.record.Record.{Record}
+use Rattle.std.proofs.Common.{◌≡◌, ◌+◌, ◌-◌, [], ◌∷◌, ◌++◌, eqb, length, length-append, ap, ◌∙◌, arith, rules}
 use Rattle.cf_event.specs.declared.record.Record.TheVariants.{Did}
-use Rattle.cf_ledger.specs.Ledgers.{Ledger}
-use Rattle.cf_row.specs.declared.entry.Entry.{Entry}
-use Rattle.cf_row.specs.Rows.{Replica, Takes, session_of}
-use Rattle.cf_row.proofs.Memory.{not_short, note_count, spends}
+use Rattle.cf_row.specs.Rows.{Replica, session_of}
+use Rattle.cf_row.proofs.Memory.{note_count, spends}
 use Rattle.cf_row.proofs.Own.{kept_take}
 use Rattle.cf_row.proofs.replica.Replica.take.Goals as goal
 

@@ -1,4 +1,4 @@
-use Rattle.std.proofs.Common.{◌≡◌, ◌+◌, length, ap, sym, ◌∙◌, arith}
+use Rattle.std.proofs.Common.{◌≡◌, length, ap, sym, ◌∙◌, arith}
 use Rattle.cf_row.specs.Rows.{with_memory}
 use Rattle.cf_row.specs.Puts.{Row}
 use Rattle.cf_row.proofs.Puts.{put_planned}
