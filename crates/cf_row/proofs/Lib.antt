@@ -1,0 +1,12 @@
+pub mod Own
+pub mod Memory
+pub mod Fitting
+pub mod Landing
+pub mod Tokens
+pub mod Puts
+pub mod Engines
+pub mod Sessions
+pub mod Pigeons
+pub mod OneToOne
+pub mod Rooms
+pub mod Whole

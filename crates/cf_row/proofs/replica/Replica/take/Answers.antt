@@ -1,0 +1,28 @@
+use Rattle.std.proofs.Common.{◌≡◌, ◌+◌, ◌-◌, [], ◌∷◌, ◌++◌, eqb, length, length-append, ap, ◌∙◌, arith, rules}
+use Rattle.cf_event.specs.declared.record.Record.TheVariants.{Did}
+use Rattle.cf_row.specs.Rows.{Replica, session_of}
+use Rattle.cf_row.proofs.Memory.{note_count, spends}
+use Rattle.cf_row.proofs.Own.{kept_take}
+use Rattle.cf_row.proofs.replica.Replica.take.Goals as goal
+
+pub invariant_of-self-2 : goal.invariant_of-self-2
+invariant_of-self-2 c =
+    let r = c.self.inside in
+    let seen : c.push_reserved.new.self.items ≡ r.seen.items ++ c.args.entry ∷ [] = cc in
+    let is_own : c.is_of-is_own.result ≡ eqb (session_of c.args.entry.token) r.session = cc in
+    let one = spends c.args.entry.word r.ledger c.apply.new.self c.in_ok-reply.reply c.in_ok-reply.ensures.done in
+    let memory = c.self.invariant.memory in
+    let some = c.requires.memory in
+    let free : r.free ≡ c.args.self.now.free = ap (λ (v : Replica). v.free) c.self.view_is in
+    let size = ap length seen ∙ length-append r.seen.items (c.args.entry ∷ []) in
+    let count = note_count c.is_of-is_own.result r.records.items c.note.new.records.items (Did (c.len-place.result + 1) c.in-Some.event c.in_ok-reply.reply) c.note.ensures.items in
+    record {
+      kept = kept_take r.ledger c.apply.new.self r.session r.seen.items c.push_reserved.new.self.items r.records.items c.note.new.records.items c.args.entry c.in-Some.event c.in_ok-reply.reply c.is_of-is_own.result (c.len-place.result + 1)
+          c.self.invariant.kept (search rules) c.in_ok-reply.ensures.done seen (search rules) is_own (search rules);
+      memory = record {
+        same = one ∙ ap (λ n. n - 1) memory.same;
+        few = omega (arith, memory.few);
+        of_seen = omega (arith, size, c.push_reserved.ensures.capacity, memory.of_seen, some, free);
+        of_records = omega (arith, count, c.note.ensures.kept, memory.of_records, some, free);
+      };
+    }

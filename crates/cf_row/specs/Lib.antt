@@ -1,0 +1,6 @@
+pub mod Rows
+pub mod Numbers
+pub mod Puts
+pub mod Engines
+pub mod Accounts
+pub mod Laws

@@ -1,0 +1,48 @@
+//! Laws of rows: the contract of each function is the statement, and its body is empty. A host uses a law by calling it
+//! before it concludes something.
+ghost use Rattle.cf_row.specs.Laws.{LandedPutsStandOnce, NumbersAreOneToOne, PutsKeepOnceOrNever, PutsStandOnceOrNever, RowsAreOneHistory, RowsOnlyGrow, ToldIsTrue, TokensAreApart};
+
+/// A row of which a session's view is true, and in which more entries stand behind it, has the longer view, too.
+pub fn told_is_true()
+    ensures { ToldIsTrue }
+{}
+
+/// What stands in a row stays, whatever an engine is asked for. So no word is missing that a session was told stands.
+pub fn rows_only_grow()
+    ensures { RowsOnlyGrow }
+{}
+
+/// No token is given to two puts: those of two sessions differ, and a session never gives one again.
+pub fn tokens_are_apart()
+    ensures { TokensAreApart }
+{}
+
+/// A put that lands stands once, also if it was asked for before.
+pub fn landed_puts_stand_once()
+    ensures { LandedPutsStandOnce }
+{}
+
+/// Whatever put an engine does, a put whose tokens are its own stands once at its place or never anywhere, if it did so
+/// before.
+pub fn puts_keep_once_or_never()
+    ensures { PutsKeepOnceOrNever }
+{}
+
+/// A put that an engine is asked for, once or often, in time or late, stands once at its place or never anywhere,
+/// whether it was answered or not.
+pub fn puts_stand_once_or_never()
+    ensures { PutsStandOnceOrNever }
+{}
+
+/// Where each session takes the lowest number that nobody has, no number is two sessions', no session has two, and
+/// below a number that is taken all are.
+pub fn numbers_are_one_to_one()
+    ensures { NumbersAreOneToOne }
+{}
+
+/// Whatever puts an engine was asked for, how often and how late, and whatever it answered: the accounts of all
+/// sessions and the row's words are one history of one graph. Replies that nobody was there for, as of a session that
+/// died, are the graph's. Of all claims of a stage one at most is granted, over all sessions.
+pub fn rows_are_one_history()
+    ensures { RowsAreOneHistory }
+{}
