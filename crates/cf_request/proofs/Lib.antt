@@ -6,5 +6,6 @@ pub mod Turns
 pub mod Moments
 pub mod Memory
 pub mod Later
+pub mod Restarts
 pub mod Rows
 pub mod Machines

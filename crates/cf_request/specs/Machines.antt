@@ -1,7 +1,7 @@
 -- A request as a machine, and what its calls do.
-use Rattle.std.specs.Prelude.{◌≡◌, ℕ, ◌+◌, ◌<◌, ◌≤◌, Option, List, [], ◌∷◌, ◌++◌, length}
+use Rattle.std.specs.Prelude.{◌≡◌, ℕ, ◌+◌, ◌<◌, ◌≤◌, Option, List, [], ◌∷◌, ◌++◌, length, take}
 use Rattle.cf_model.specs.declared.events.Reply.{Reply}
-use Rattle.cf_model.specs.States.{State}
+use Rattle.cf_model.specs.States.{State, start}
 use Rattle.cf_ledger.specs.Ledgers.{LedgerRefuses, state_of}
 use Rattle.cf_ledger.specs.Steps.{IsNoStep}
 use Rattle.cf_ledger.specs.declared.faults.LedgerFault.{LedgerFault}
@@ -15,7 +15,7 @@ use Rattle.cf_request.specs.Ready.{with_lane}
 use Rattle.cf_request.specs.Refusals.{AllSettled, IsCancelled, IsRefused, NoneToRefuse, open_below}
 use Rattle.cf_request.specs.Relays.{AreThere, IsRelayDue, IsRelayOr, NoneBehind}
 use Rattle.cf_request.specs.Settling.{SettlesDue}
-use Rattle.cf_request.specs.Telling.{Teller, Tells, with_memory}
+use Rattle.cf_request.specs.Telling.{AreFresh, Teller, Tells, with_memory}
 use Rattle.cf_request.specs.declared.deadlines.Deadline.{Deadline}
 use Rattle.cf_request.specs.declared.faults.MachineFault.{MachineFault}
 use Rattle.cf_request.specs.declared.faults.MachineFault.TheVariants.{NoMemory, NoStage, Past}
@@ -153,3 +153,17 @@ IsNoCancel who m NoMemoryForStep = free_in m < open_in m
 IsNoCancel who m NoCaller = 63 < who
 IsNoCancel who m NoStageForStep = ⊥
 IsNoCancel who m NotHeld = ⊥
+
+-- ---- starting again
+
+-- It is as it was opened: nothing is done, follows or is due, and told is what is settled from the start. The plan with its room, the lanes of
+-- the plan's stages, its own caller, and the memory that was found stay.
+pub record Restarts (old new : Machine) : Type 0 where
+  pub ledger : new.teller.ledger ≡ record old.teller.ledger { events = [] }
+  pub taken : new.teller.taken ≡ []
+  pub told : AreFresh [] (start old.teller.ledger.plan).stages new.teller.told
+  pub lanes : new.teller.lanes ≡ record old.teller.lanes { of = take (length old.teller.ledger.plan.stages) old.teller.lanes.of }
+  pub follows : new.follows ≡ []
+  pub deadlines : new.deadlines ≡ []
+  pub moment : new.moment ≡ 0
+  pub own : new.own ≡ old.own

@@ -5,7 +5,7 @@ ghost use Rattle.cf_model.specs.States.{start};
 ghost use Rattle.cf_request.specs.Deadlines.{AreInOrder, Forgets, IsNextOpen, NoneOpen};
 ghost use Rattle.cf_request.specs.Lanes.{NoneReadyIn, ready_below};
 ghost use Rattle.cf_request.specs.Ready.{IsLaneCount};
-ghost use Rattle.cf_request.specs.Machines.{AppliesWord, CancelsAll, GoesOn, IsNoCancel, IsNoDeadline, IsNoFollow, IsNoNext, IsNoPass, IsNoWord, OnlyFinds, Passes, Refuses, SetsDeadline, SetsFollow, free_in, open_in, state_in};
+ghost use Rattle.cf_request.specs.Machines.{AppliesWord, CancelsAll, GoesOn, IsNoCancel, IsNoDeadline, IsNoFollow, IsNoNext, IsNoPass, IsNoWord, OnlyFinds, Passes, Refuses, Restarts, SetsDeadline, SetsFollow, free_in, open_in, state_in};
 ghost use Rattle.cf_request.specs.Relays.{NoneBehind};
 ghost use Rattle.cf_request.specs.Rows.{unclaimed};
 ghost use Rattle.cf_request.specs.Telling.{AreFresh, AreSettled, IsOnce};
@@ -261,6 +261,17 @@ impl Machine {
         }
         end_all(&mut self.teller, &self.follows, Ending::OfAll, who);
         Ok(())
+    }
+
+    /// Starts again, as it was opened: nothing is done, follows or is due, and the moment is 0. The lanes of the plan's
+    /// stages, the room and the memory stay. It takes no memory.
+    pub fn restart(&mut self)
+        ensures { Restarts self.old self.new }
+    {
+        self.teller.restart();
+        self.follows.clear();
+        self.deadlines.clear();
+        self.moment = 0;
     }
 
     /// The stages that were settled and not yet taken, in the order of the events that settled them. With those that

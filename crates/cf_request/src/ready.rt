@@ -1,5 +1,5 @@
 //! The ready stages of each lane.
-ghost use Rattle.std.specs.Prelude.{◌≡◌, ◌+◌, ◌<◌, ◌≤◌, ◌∷◌, ◌++◌, [], All, IfOk, false, length, position, replicate, slice_index_or, slice_set, vec_capacity};
+ghost use Rattle.std.specs.Prelude.{◌≡◌, ◌+◌, ◌<◌, ◌≤◌, ◌∷◌, ◌++◌, [], All, IfOk, false, length, position, replicate, slice_index_or, slice_set, take, vec_capacity};
 ghost use Rattle.cf_request.specs.Ready.{AreSets, IsLaneCount, count_of, lane_of, lanes_of, none_ready};
 
 use cf_bits::BitSet;
@@ -37,6 +37,15 @@ impl ReadySet {
             set: BitSet::new(alloc, places)?,
             count: 0,
         })
+    }
+
+    /// Makes it the empty set of stages below a number. It takes no memory.
+    fn empty(&mut self, places: u16)
+        requires { places ≤ 4096 }
+        ensures { self.new ≡ replicate places false }
+    {
+        self.set.reset(places);
+        self.count = 0;
     }
 
     /// Puts a stage in that is ready, and takes one out that isn't.
@@ -153,6 +162,15 @@ impl ReadySets {
         }
     }
 
+    /// The lanes of the first so many stages alone, none of which is ready. It takes no memory.
+    pub(crate) fn begin_anew(&mut self, stages: u16)
+        requires { stages ≤ length self.old.of }
+        ensures { self.new ≡ none_ready (take stages self.old.of) (length self.old.sets) self.old.places }
+    {
+        self.of.truncate(stages as usize);
+        empty_all(&mut self.sets, self.places);
+    }
+
     /// The lowest ready stage of a lane, if there is one.
     pub(crate) fn lowest(&self, lane: u8) -> Option<u16>
         requires { lane < length self.now.sets }
@@ -197,4 +215,15 @@ fn empty(alloc: Global, lanes: u8, places: u16) -> Result<Vec<ReadySet>, AllocEr
         sets.push_reserved(set);
     }
     Ok(sets)
+}
+
+/// Makes all of these the empty sets of stages below a number.
+fn empty_all(sets: &mut Vec<ReadySet>, places: u16)
+    requires { places ≤ 4096 }
+    ensures { sets.new.items ≡ replicate (length sets.old.items) (replicate places false) }
+{
+    for k in 0..sets.len() {
+        let set = &mut sets[k];
+        set.empty(places);
+    }
 }

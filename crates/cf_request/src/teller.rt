@@ -209,6 +209,23 @@ impl Teller {
     {
         self.count += count.min(self.order.len() - self.count);
     }
+
+    /// Starts again, as it was opened. It takes no memory.
+    pub fn restart(&mut self)
+        ensures ledger { self.new.ledger ≡ record self.old.ledger { events = [] } }
+        ensures taken { self.new.taken ≡ [] }
+        ensures told { AreFresh [] (start self.old.ledger.plan).stages self.new.told }
+        ensures lanes { self.new.lanes
+            ≡ record self.old.lanes { of = take (length self.old.ledger.plan.stages) self.old.lanes.of } }
+    {
+        self.ledger.restart();
+        let stages = self.ledger.stages();
+        self.count = 0;
+        self.order.clear();
+        note_all(&self.ledger, stages, &mut self.order);
+        self.lanes.begin_anew(stages);
+        mark_all(&self.ledger, stages, &mut self.lanes);
+    }
 }
 
 /// The outcome of a stage, if it is settled.
