@@ -6,6 +6,7 @@ ghost use Rattle.cf_c_handles.specs.Replies.{as_reply, finish_number, reply_with
 ghost use Rattle.cf_c_handles.specs.Values.{answer_of, answer_with, args_with, as_answer, as_args, as_fault, as_now, as_outcome, as_value, cause_of, no_fault, outcome_of, value_of};
 
 pub mod attaching;
+pub mod call;
 pub mod event;
 pub mod request;
 pub mod stage;

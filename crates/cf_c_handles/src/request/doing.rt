@@ -1,5 +1,5 @@
 //! What is done to a request behind a handle, and what it tells then.
-ghost use Rattle.cf_c_handles.specs.RequestCalls.{AppliesIn, FollowsIn, GoesOnIn, PassesIn, RefusesIn, SetsDeadlineIn, TellsIn};
+ghost use Rattle.cf_c_handles.specs.RequestCalls.{AppliesIn, CancelsIn, FollowsIn, GoesOnIn, PassesIn, RefusesIn, RestartsIn, SetsDeadlineIn, TellsIn};
 
 use crate::code::Code;
 use crate::handle::object::Object;
@@ -126,6 +126,22 @@ pub fn refuse(
     }
 }
 
+/// Cancels all stages that are open by words of a caller.
+pub fn cancel_all(held: &mut Object, who: u8, row: &mut [CfTold], n: &mut usize) -> Result<(), Code>
+    ensures { CancelsIn who held.old (row.old, n.old) result held.new (row.new, n.new) }
+{
+    let Object::Request(machine) = held else {
+        return Err(Code::WrongKind);
+    };
+    match machine.cancel_all(who) {
+        Err(fault) => Err(step_code(fault)),
+        Ok(()) => {
+            *n = tell_into(machine, row);
+            Ok(())
+        }
+    }
+}
+
 /// Tells what was settled and wasn't told yet.
 pub fn told(held: &mut Object, row: &mut [CfTold], n: &mut usize) -> Result<(), Code>
     ensures { TellsIn held.old (row.old, n.old) result held.new (row.new, n.new) }
@@ -148,4 +164,15 @@ pub fn set_deadline(held: &mut Object, deadline: Deadline) -> Result<(), Code>
         Ok(()) => Ok(()),
         Err(fault) => Err(machine_code(fault)),
     }
+}
+
+/// Starts the request again.
+pub fn restart(held: &mut Object) -> Result<(), Code>
+    ensures { RestartsIn held.old result held.new }
+{
+    let Object::Request(machine) = held else {
+        return Err(Code::WrongKind);
+    };
+    machine.restart();
+    Ok(())
 }
