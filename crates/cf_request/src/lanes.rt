@@ -1,18 +1,30 @@
 //! A caller's step: it finishes what it holds, and claims what its lane has.
-ghost use Rattle.std.specs.Prelude.{◌≡◌, ◌<◌, ◌≤◌, IfErr, OnOk, Some, length, true};
+ghost use Rattle.std.specs.Prelude.{◌≡◌, ◌↔◌, ◌<◌, ◌≤◌, IfErr, IsTrue, OnOk, Some, length, true};
 ghost use Rattle.cf_event.specs.Words.{word_of};
 ghost use Rattle.cf_forms.specs.Plans.{function_at};
 ghost use Rattle.cf_ledger.specs.Ledgers.{state_of};
 ghost use Rattle.cf_ledger.specs.Steps.{IsHeld};
 ghost use Rattle.cf_model.specs.Graphs.{stage_in};
 ghost use Rattle.cf_model.specs.States.{claim_at, is_ready};
-ghost use Rattle.cf_request.specs.Lanes.{FinishesHeld, FinishesStage, IsNoFinish, TakesIn};
+ghost use Rattle.cf_request.specs.Lanes.{FinishesHeld, FinishesStage, IsIdle, IsNoFinish, TakesIn};
 ghost use Rattle.cf_request.specs.Telling.{TellsEvent};
 
 use crate::teller::Teller;
 use cf_event::{LAST_CALLER, encode};
 use cf_ledger::{Event, Finish, Held, Reply, StepFault, Taken};
 use cf_model::{Claimed, Finished};
+
+/// Whether nothing is held and no stage of the lane is ready. It looks at no stage.
+#[inline(always)]
+pub(crate) fn is_idle(teller: &Teller, lane: u8, held: Option<Held>) -> bool
+    requires { lane < teller.now.lanes.count }
+    ensures { IsTrue result ↔ IsIdle lane held teller.now }
+{
+    match held {
+        None => teller.ready(lane) == 0,
+        Some(_) => false,
+    }
+}
 
 /// Whether a caller can finish what it holds, if it holds a stage. It is refused for the first of: its caller's number,
 /// the stage, its claim.
