@@ -126,7 +126,7 @@ pub record HasGoneOn (old : Machine) (r : Result (Unit {0}) Code) (new : Object)
 pub record IsNotGone (old : Machine) (r : Result (Unit {0}) Code) (new : Object) (had has : CfRequestStep × CfTask × List CfTold) : Type 0 where
   pub code : Code
   pub is : r ≡ Err code
-  pub refused : IsDueAs step_code (IsNoNext had.0.who (held_by had.1) old) code
+  pub refused : IsDueAs step_code (IsNoNext had.0.who had.0.lane (held_by had.1) old) code
   pub stays : StaysButFinds old new
   pub same : has ≡ had
 

@@ -88,7 +88,7 @@ pub relay_waits : (follows : List Follow) (s : State) (d : Due) → IsOpen s d.s
 relay_waits follows s d waits due =
     some (λ (f : Follow). not (is_settled_in s.stages f.relay)) follows due.follow due.is (ap not (ap (is_settled_in s.stages) due.relay ∙ waits.1))
 
-relays_stay : (follows : List Follow) (old new : List Stage) → StaySettled old new → length (waiting_of new follows) ≤ length (waiting_of old follows)
+pub relays_stay : (follows : List Follow) (old new : List Stage) → StaySettled old new → length (waiting_of new follows) ≤ length (waiting_of old follows)
 relays_stay follows old new stay =
     no_more (λ (f : Follow). not (is_settled_in old f.relay)) (λ (f : Follow). not (is_settled_in new f.relay)) (λ f e. still_open (is_settled_in old f.relay) (is_settled_in new f.relay) (stay f.relay) e) follows
 
@@ -109,7 +109,7 @@ few_limits stages deadlines =
     let few = count_by-le-length (λ (d : Deadline). not (is_settled_in stages d.stage)) deadlines in
     omega (arith, size, few)
 
-limits_stay : (deadlines : List Deadline) (old new : List Stage) → StaySettled old new → length (open_of new deadlines) ≤ length (open_of old deadlines)
+pub limits_stay : (deadlines : List Deadline) (old new : List Stage) → StaySettled old new → length (open_of new deadlines) ≤ length (open_of old deadlines)
 limits_stay deadlines old new stay =
     no_more (λ (d : Deadline). not (is_settled_in old d.stage)) (λ (d : Deadline). not (is_settled_in new d.stage)) (λ d e. still_open (is_settled_in old d.stage) (is_settled_in new d.stage) (stay d.stage) e) deadlines
 

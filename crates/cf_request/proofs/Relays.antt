@@ -90,7 +90,7 @@ behind_more follows f stages h =
 pub looked_none : (seen : ℕ) (told : List ℕ) (follows : List Follow) (stages : List Stage) → seen ≡ length told → NoneBehind follows stages → AreLookedAt seen told follows stages
 looked_none seen told follows stages is h = record { within = omega (arith, is); rest = behind_by (drop seen told) follows stages h }
 
-stay_word : (old new : Teller) (word : ℕ) (reply : Reply) → Tells word old reply new → (i : ℕ) → is_settled_in (state_of old.ledger).stages i ≡ true → is_settled_in (state_of new.ledger).stages i ≡ true
+pub stay_word : (old new : Teller) (word : ℕ) (reply : Reply) → Tells word old reply new → (i : ℕ) → is_settled_in (state_of old.ledger).stages i ≡ true → is_settled_in (state_of new.ledger).stages i ≡ true
 stay_word old new word reply h i is =
     ap (λ (t : State). is_settled_in t.stages i) (next_is old.ledger new.ledger word reply h.does) ∙ ap is_some (stays (state_of old.ledger) h.does.event i is) ∙ is
 

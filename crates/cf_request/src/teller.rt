@@ -1,5 +1,5 @@
 //! A ledger that keeps which stages were settled and not yet taken.
-ghost use Rattle.std.specs.Prelude.{◌≡◌, ℕ, ◌+◌, ◌≤◌, ◌<◌, ◌++◌, [], All, Contains, IfErr, IfNone, IfOk, IfSome, OnErr, OnOk, drop, false, length, take, true, vec_capacity};
+ghost use Rattle.std.specs.Prelude.{◌≡◌, ℕ, ◌+◌, ◌≤◌, ◌<◌, ◌∷◌, ◌++◌, [], All, Contains, cond, IfErr, IfNone, IfOk, IfSome, OnErr, OnOk, drop, false, length, take, true, vec_capacity};
 ghost use Rattle.std.specs.List.{filter};
 ghost use Rattle.cf_forms.specs.Plans.{has_place, with_room};
 ghost use Rattle.cf_model.specs.Calls.{is_attach};
@@ -256,13 +256,24 @@ fn note(ledger: &Ledger, news: &[u16], order: &mut Vec<u16>, sets: &mut ReadySet
     ensures same { sets.new ≡ record sets.old { sets = sets.new.sets } }
 {
     for i in news {
-        let stage = ledger.stage(*i);
+        let ready = is_ready(ledger.stage(*i));
+        let settled = outcome(ledger, *i).is_some();
         // The lane of each stage is there.
         let _known = sets.lanes();
-        sets.write(*i, is_ready(stage));
-        if outcome_of(stage).is_some() {
-            order.push_reserved(*i);
-        }
+        sets.write(*i, ready);
+        put(order, *i, settled);
+    }
+}
+
+/// Writes a stage behind others, if it is settled.
+#[inline(always)]
+fn put(order: &mut Vec<u16>, i: u16, settled: bool)
+    requires room { length order.old.items + cond settled 1 0 ≤ vec_capacity order.old }
+    ensures items { order.new.items ≡ order.old.items ++ cond settled (i ∷ []) [] }
+    ensures room { vec_capacity order.new ≡ vec_capacity order.old }
+{
+    if settled {
+        order.push_reserved(i);
     }
 }
 
