@@ -120,6 +120,7 @@ impl Teller {
     }
 
     /// Does an event that fits and attaches nothing, by its word, where memory was found for one.
+    #[inline(always)]
     #[tactic(auto, using(crate::proofs::Words::event_told))]
     pub fn apply_event(&mut self, event: &Event) -> Reply
         requires is { IsEvent event.now }
@@ -173,6 +174,7 @@ impl Teller {
     }
 
     /// The lowest ready stage of a lane, if there is one. It looks at no stage.
+    #[inline(always)]
     pub fn lowest(&self, lane: u8) -> Option<u16>
         requires { lane < self.now.lanes.count }
         ensures lowest { IfSome result (λ i. IsLowestIn (state_of self.now.ledger) self.now.lanes.of lane i) }
