@@ -2,6 +2,7 @@
 use Rattle.std.proofs.Common.{◌≡◌, ℕ, zero, suc, ◌+◌, ◌-◌, ◌<◌, ◌≤◌, Bool, true, false, arith, replicate, cond, inl, inr, Option, Some, None, List, [], ◌∷◌, ◌++◌, length, length-append, refl, ap, set, sym, ◌∙◌, subst}
 use Rattle.std.specs.Prelude.{◌==◌, ◌&&◌, Err, IfNone, IfOk, Ok, Result, is_some, not, slice_get, unwrap_or}
 use Rattle.std.specs.List.{filter}
+use Rattle.std.proofs.Math.Nat.{le-max_left}
 use Rattle.std.proofs.lemmas.Bool.{cases_lt, eq-eqb}
 use Rattle.std.proofs.lemmas.List.{length-replicate, length-set}
 use Rattle.std.proofs.lemmas.List.Elements.{All-nil, All-push, All-weaker}
@@ -15,14 +16,16 @@ use Rattle.cf_model.specs.Graphs.{stage_in}
 use Rattle.cf_model.specs.States.{State, is_ready, outcome_in, outcome_of, stage_at}
 use Rattle.cf_model.specs.declared.stage.Stage.{Stage}
 use Rattle.cf_model.specs.declared.stage.Stage.TheVariants.{Pending, Ready, Claimed, Linked, Settled}
-use Rattle.cf_ledger.specs.Ledgers.{state_of}
+use Rattle.cf_ledger.specs.Ledgers.{IsShort, LedgerRefuses, state_of}
+use Rattle.cf_ledger.specs.declared.faults.LedgerFault.{LedgerFault}
+use Rattle.cf_ledger.specs.declared.faults.LedgerFault.TheVariants.{NoMemory, NoEvent, NoStage, NoRoom}
 use Rattle.cf_ledger.specs.Steps.{finished_as}
 use Rattle.cf_ledger.specs.declared.step.Finish.{Finish}
 use Rattle.cf_ledger.specs.declared.step.Held.{Held}
 use Rattle.cf_ledger.specs.declared.step.Taken.{Taken}
 use Rattle.cf_request.specs.Deadlines.{Forgets, Sets}
 use Rattle.cf_request.specs.Lanes.{FinishesHeld, IsIdle, NoneReadyIn, TakesIn, ready_below}
-use Rattle.cf_request.specs.Machines.{CancelsAll, CatchesUp, GoesOn, IsMachine, Machine, Refuses, open_in, state_in}
+use Rattle.cf_request.specs.Machines.{CancelsAll, CatchesUp, GoesOn, IsMachine, IsNoWord, Machine, Refuses, open_in, state_in}
 use Rattle.cf_request.specs.Ready.{Lanes, lane_of}
 use Rattle.cf_request.specs.Refusals.{AllSettled, IsCancelled, IsRefused}
 use Rattle.cf_request.specs.Relays.{AreBehindBy, AreLookedAt, AreMarked, AreRelays, AreThere, IsRelayDue, IsRelayOr, NoneBehind, is_in_flags, waiting_of}
@@ -98,7 +101,7 @@ none_found : (words : ℕ) (a r : Teller) (follows : List Follow) → r ≡ with
 none_found words a r follows is h = subst (λ (t : Teller). NoneBehind follows (state_of t.ledger).stages) (sym is) h
 
 pub may_word : (words : ℕ) (a r b : Teller) (word : ℕ) (reply : Reply) (row follows : List Follow) (deadlines : List Deadline) (own : ℕ) (flags : List Bool) (waiting seen : ℕ) → row ≡ follows → IsMachine a follows deadlines own →
-    NoneBehind follows (state_of a.ledger).stages → AreRelays (state_of a.ledger).stages follows flags waiting → r ≡ with_memory words a → seen ≡ length r.told → 1 + waiting ≤ r.ledger.free → Tells word r reply b → MayCatchUp b row flags waiting seen 0
+    NoneBehind follows (state_of a.ledger).stages → AreRelays (state_of a.ledger).stages follows flags waiting → r ≡ with_memory words a → seen ≡ length r.told → waiting ≤ r.ledger.free - 1 → Tells word r reply b → MayCatchUp b row flags waiting seen 0
 may_word words a r b word reply row follows deadlines own flags waiting seen rows machine none relays found at enough tells =
     let first = relays_later (state_of a.ledger).stages (state_of r.ledger).stages follows flags waiting (keeps_memory words a r found).settled relays in
     let last = relays_later (state_of r.ledger).stages (state_of b.ledger).stages follows flags waiting (stay_word r b word reply tells) first in
@@ -111,6 +114,16 @@ may_word words a r b word reply row follows deadlines own flags waiting seen row
       open_few = most;
       memory = omega (arith, most, one, enough);
     })
+
+free_found : (words : ℕ) (a r : Teller) → r ≡ with_memory words a → a.ledger.free ≤ r.ledger.free
+free_found words a r is = let same = ap (λ (t : Teller). t.ledger.free) is in let more = le-max_left a.ledger.free words in omega (arith, same, more)
+
+-- why a word isn't done, where no memory was found for it
+pub no_word : (words word : ℕ) (m : Machine) (r : Teller) (fault : LedgerFault) → r ≡ with_memory words m.teller → LedgerRefuses (state_of r.ledger) word fault → IsShort r.ledger.free fault → IsNoWord word m fault
+no_word words word m r NoMemory is refused short = let found = free_found words m.teller r is in omega (arith, found, short)
+no_word words word m r NoEvent is refused short = subst (λ (t : Teller). LedgerRefuses (state_of t.ledger) word NoEvent) is refused
+no_word words word m r NoStage is refused short = subst (λ (t : Teller). LedgerRefuses (state_of t.ledger) word NoStage) is refused
+no_word words word m r NoRoom is refused short = subst (λ (t : Teller). LedgerRefuses (state_of t.ledger) word NoRoom) is refused
 
 -- what is kept, once relays are settled
 pub kept_all : (P : State → Due → Type 0) (who : ℕ) (a b : Teller) (row follows : List Follow) (deadlines : List Deadline) (own : ℕ) (flags : List Bool) (waiting now : ℕ) (stages : List Stage) → row ≡ follows → SettlesDue P who a b →

@@ -106,9 +106,9 @@ looked_word seen follows old new word reply t h =
           let f = get_or follows k d in
           elim (tests (is_settled_in before f.stage)) [
             | inl was ↦ elim (h.rest k d l was) [
-                | inl relay ↦ inl (stay_word old new word reply t f.relay relay)
-                | inr among ↦ inr (subst (λ (xs : List ℕ). Contains xs f.stage) (sym rest) (Contains-append_left (drop seen old.told) t.fresh f.stage among))
-              ]
+              | inl relay ↦ inl (stay_word old new word reply t f.relay relay)
+              | inr among ↦ inr (subst (λ (xs : List ℕ). Contains xs f.stage) (sym rest) (Contains-append_left (drop seen old.told) t.fresh f.stage among))
+            ]
             | inr not ↦ inr (subst (λ (xs : List ℕ). Contains xs f.stage) (sym rest) (Contains-append_right (drop seen old.told) t.fresh f.stage (t.are.all f.stage not on)))
           ];
     }

@@ -1,5 +1,5 @@
 //! The machine.
-ghost use Rattle.std.specs.Prelude.{◌≡◌, ◌<◌, ◌≤◌, ◌++◌, [], All, IfErr, IfNone, IfOk, IfSome, None, OnErr, OnOk, drop, length, take, true};
+ghost use Rattle.std.specs.Prelude.{◌≡◌, ◌+◌, ◌-◌, ◌^◌, ◌<◌, ◌≤◌, ◌++◌, [], All, IfErr, IfNone, IfOk, IfSome, None, OnErr, OnOk, drop, length, take, true};
 ghost use Rattle.cf_forms.specs.Plans.{has_place, with_room};
 ghost use Rattle.cf_model.specs.States.{start};
 ghost use Rattle.cf_request.specs.Deadlines.{AreInOrder, Forgets, IsNextOpen, NoneOpen};
@@ -120,7 +120,8 @@ impl Machine {
     }
 
     /// Does a word as a ledger does; a stage that it attaches is this lane's. Then it settles the relays whose stages
-    /// are settled. It is refused for the first of: memory for all of that, and a ledger's reasons.
+    /// are settled. It is refused for the first of: memory for all of that, and a ledger's reasons. Where no relay can be
+    /// open, want of memory is looked for last, as by a ledger.
     #[inline(always)]
     pub fn apply(&mut self, word: u64, lane: u8) -> Result<Reply, LedgerFault>
         requires { lane < self.old.teller.lanes.count }
@@ -128,7 +129,7 @@ impl Machine {
         ensures refused { OnErr result (OnlyFinds self.old self.new) }
         ensures why { IfErr result (λ fault. IsNoWord word self.old fault) }
     {
-        self.teller.reserve(1 + self.waiting)?;
+        self.teller.reserve(words_beside(self.waiting))?;
         let seen = self.teller.told().len();
         let reply = self.teller.apply(word, lane)?;
         catch_up(
@@ -159,7 +160,7 @@ impl Machine {
         ensures why { IfErr result (λ fault. IsNoNext who lane held self.old fault) }
     {
         if is_idle(&self.teller, lane, held) {
-            if who > LAST_CALLER {
+            if LAST_CALLER < who {
                 return Err(StepFault::NoCaller);
             }
             return Ok(Next {
@@ -264,8 +265,7 @@ impl Machine {
         ensures refused { OnErr result (OnlyFinds self.old self.new) }
         ensures why { IfErr result (λ fault. IsNoPass moment self.old fault) }
     {
-        self.teller
-            .reserve(self.waiting + self.deadlines.len())?;
+        self.teller.reserve(self.waiting + self.deadlines.len())?;
         if moment < self.moment {
             return Err(MachineFault::Past);
         }
@@ -365,4 +365,15 @@ impl Machine {
     {
         self.teller.ledger()
     }
+}
+
+/// For how many words memory is found before a word, where so many relays may be open: its own, and one for each of
+/// these. Where none is open, the word finds its own.
+#[inline(always)]
+fn words_beside(waiting: usize) -> usize
+    requires { waiting < 2 ^ 63 }
+    ensures enough { waiting ≤ result - 1 }
+    ensures few { result ≤ 1 + waiting }
+{
+    if waiting == 0 { 0 } else { waiting + 1 }
 }

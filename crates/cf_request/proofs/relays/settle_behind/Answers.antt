@@ -26,13 +26,13 @@ loop-due-preserved c =
     let one = spends_settle c.args.who d b e c.settle.ensures in
     let kept = c.loop-due.invariant.memory in
     let enough = c.requires.memory in
-    let open = c.loop-due.invariant.waiting in
+    let most = c.loop-due.invariant.waiting in
     let few = c.loop-due.invariant.fewer in
     let left = c.saturating_sub.ensures in
     record {
       settles = dues_more (IsRelayDue follows) c.args.who c.args.teller.now b e d c.loop-due.invariant.settles c.in-Some.ensures.is_open c.in-Some.ensures.due c.settle.ensures;
       there = follows_kept b e follows (keeps_settle c.args.who d b e c.settle.ensures) c.loop-due.invariant.there;
-      waiting = omega (arith, fewer, open, left);
+      waiting = omega (arith, fewer, most, left);
       fewer = omega (arith, few, left);
       memory = omega (arith, some, fewer, one, kept, enough);
     }

@@ -1,4 +1,4 @@
-use Rattle.std.proofs.Common.{◌≡◌, ◌+◌, ◌∙◌, ℕ, List, ap, arith, length, refl, subst, sym}
+use Rattle.std.proofs.Common.{◌≡◌, ◌+◌, ◌-◌, ◌≤◌, ◌∙◌, ℕ, List, ap, arith, length, refl, subst, sym}
 use Rattle.cf_ledger.specs.Ledgers.{state_of}
 use Rattle.cf_request.specs.Machines.{AppliesWord, Machine}
 use Rattle.cf_request.specs.Ready.{with_lane}
@@ -12,8 +12,9 @@ use Rattle.cf_request.proofs.machine.Machine.apply.Goals as goal
 given : (c : goal.After-deref) → MayCatchUp c.apply.new.self c.deref.result.now c.self.inside.followed c.self.inside.waiting c.len-seen.result 0
 given c =
     let m = c.self.inside in
+    let enough : m.waiting ≤ c.reserve.new.self.ledger.free - 1 = omega (arith, c.in_ok-reserve.ensures.enough, c.words_beside.ensures.enough) in
     may_word _ m.teller c.reserve.new.self c.apply.new.self c.args.word c.in_ok-reply.reply c.deref.result.now m.follows.items m.deadlines.items m.own m.followed m.waiting c.len-seen.result c.deref.ensures.value
-    c.self.invariant.0 c.self.invariant.1 c.self.invariant.2 c.in_ok-reserve.ensures.found (c.len-seen.ensures ∙ ap (λ (l : List ℕ). length l) c.told.ensures.told) c.in_ok-reserve.ensures.enough c.in_ok-reply.ensures.done
+    c.self.invariant.0 c.self.invariant.1 c.self.invariant.2 c.in_ok-reserve.ensures.found (c.len-seen.ensures ∙ ap (λ (l : List ℕ). length l) c.told.ensures.told) enough c.in_ok-reply.ensures.done
 
 pub catch_up-requires-clause-there : goal.catch_up-requires-clause-there
 catch_up-requires-clause-there c = (given c).there
@@ -49,7 +50,7 @@ returns-clause-done c =
     subst (λ (old : Machine). AppliesWord c.args.word c.args.lane old c.in_ok-reply.reply new) c.self.view_is
     (record {
       found = c.reserve.new.self;
-      finds = record { words = 1 + m.waiting; enough = omega (arith, most); few = omega (arith, few); is = c.in_ok-reserve.ensures.found };
+      finds = record { words = c.words_beside.result; enough = omega (arith, most, c.words_beside.ensures.enough); few = omega (arith, few, c.words_beside.ensures.few); is = c.in_ok-reserve.ensures.found };
       between = b;
       tells = c.in_ok-reply.ensures.done;
       lanes = c.in_ok-reply.ensures.lanes ∙ ap (λ (t : Teller). with_lane (length (state_of b.ledger).plan.stages) c.args.lane t.lanes) c.in_ok-reserve.ensures.found;
