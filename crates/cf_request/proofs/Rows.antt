@@ -210,7 +210,7 @@ effect old new out (sets_deadline deadline none h) = quiet old.teller new.teller
 effect old new out (forgets none same) = quiet old.teller new.teller out none (onward_is old.teller new.teller (ap (λ (m : Machine). m.teller) same))
 effect old new out (passes moment none h) =
     quiet old.teller new.teller out none
-    (settles_found (IsRelayOr old.follows (IsOverdue moment old.deadlines)) old.own (waiting_in old + length (open_of (state_in old).stages old.deadlines)) (length old.follows + length old.deadlines) old.teller h.found new.teller h.finds h.settles)
+    (settles_found (IsRelayOr old.follows (IsOverdue moment old.deadlines)) old.own (waiting_in old + length (open_of (state_in old).stages (take h.come old.deadlines))) (length old.follows + h.come) old.teller h.found new.teller h.finds h.settles)
 effect old new out (refuses lane code none h) =
     let found = with_memory (open_in old) old.teller in
     quiet old.teller new.teller out none (settles (IsRelayOr old.follows (IsRefused old.teller.lanes.of lane code)) old.own found.ledger.free old.teller new.teller h.settles)

@@ -1,5 +1,5 @@
 -- A request as a machine, and what its calls do.
-use Rattle.std.specs.Prelude.{◌≡◌, ◌⊎◌, ℕ, ◌+◌, ◌<◌, ◌≤◌, Option, List, [], ◌∷◌, ◌++◌, length}
+use Rattle.std.specs.Prelude.{◌≡◌, ◌⊎◌, ℕ, ◌+◌, ◌<◌, ◌≤◌, Option, List, [], ◌∷◌, ◌++◌, length, take}
 use Rattle.cf_model.specs.declared.events.Reply.{Reply}
 use Rattle.cf_model.specs.States.{State}
 use Rattle.cf_ledger.specs.Ledgers.{LedgerRefuses, state_of}
@@ -9,7 +9,7 @@ use Rattle.cf_ledger.specs.declared.faults.LedgerFault.TheVariants.{NoMemory as 
 use Rattle.cf_ledger.specs.declared.faults.StepFault.{StepFault}
 use Rattle.cf_ledger.specs.declared.faults.StepFault.TheVariants.{NoMemory as NoMemoryForStep, NoCaller, NoStage as NoStageForStep, NotHeld}
 use Rattle.cf_ledger.specs.declared.step.Held.{Held}
-use Rattle.cf_request.specs.Deadlines.{AreSet, Forgets, IsOverdue, NoneLeft, Sets, open_of}
+use Rattle.cf_request.specs.Deadlines.{AreCome, AreSet, Forgets, IsOverdue, NoneLeft, Sets, open_of}
 use Rattle.cf_request.specs.Lanes.{FinishesHeld, IsIdle, TakesIn}
 use Rattle.cf_request.specs.Ready.{with_lane}
 use Rattle.cf_request.specs.Refusals.{AllSettled, IsCancelled, IsRefused, NoneToRefuse, open_below}
@@ -139,8 +139,10 @@ IsNoDeadline d s Past = ⊥
 -- stages whose moment had come are settled, and relays before them, until none is left
 pub record Passes (moment : ℕ) (old new : Machine) : Type 0 where
   pub onward : old.moment ≤ moment
+  pub come : ℕ
+  pub are_come : AreCome moment old.deadlines come
   pub found : Teller
-  pub finds : Finds (waiting_in old + length (open_of (state_in old).stages old.deadlines)) (length old.follows + length old.deadlines) old.teller found
+  pub finds : Finds (waiting_in old + length (open_of (state_in old).stages (take come old.deadlines))) (length old.follows + come) old.teller found
   pub settles : SettlesDue (IsRelayOr old.follows (IsOverdue moment old.deadlines)) old.own found new.teller
   pub none : NoneLeft old.follows moment old.deadlines (state_in new).stages
   pub forgets : Forgets (state_in new).stages old.deadlines new.deadlines
@@ -148,7 +150,7 @@ pub record Passes (moment : ℕ) (old new : Machine) : Type 0 where
 
 -- why time doesn't pass: too little memory was found before, or else the moment is before the last one
 abbrev pub IsNoPass : ℕ → Machine → MachineFault → Type 0
-IsNoPass moment m NoMemory = free_in m < length m.follows + length m.deadlines
+IsNoPass moment m NoMemory = (come : ℕ) × AreCome moment m.deadlines come × (free_in m < length m.follows + come)
 IsNoPass moment m NoStage = ⊥
 IsNoPass moment m Past = moment < m.moment
 

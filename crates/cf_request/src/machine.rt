@@ -10,7 +10,7 @@ ghost use Rattle.cf_request.specs.Relays.{NoneBehind};
 ghost use Rattle.cf_request.specs.Rows.{unclaimed};
 ghost use Rattle.cf_request.specs.Telling.{AreFresh, AreSettled, IsOnce};
 
-use crate::deadlines::{Deadline, next_open, pass, set};
+use crate::deadlines::{Deadline, come_by, next_open, pass, set};
 use crate::faults::MachineFault;
 use crate::lanes::{check_held, finish_held, is_idle, take};
 use crate::refusals::{Ending, end_all, open_stages};
@@ -258,7 +258,7 @@ impl Machine {
 
     /// Lets time pass up to a moment. It settles all open stages whose moment has come, in order of moment and then of
     /// setting, and before each of them, and at last, the relays whose stages are settled. It is refused for the first
-    /// of: memory for all relays and deadlines, a moment before the last one.
+    /// of: memory for all relays that may be open and for all deadlines that have come, a moment before the last one.
     pub fn pass(&mut self, moment: u64) -> Result<(), MachineFault>
         ensures passes { OnOk result (Passes moment self.old self.new) }
         ensures order { AreInOrder self.old.deadlines }
@@ -276,6 +276,7 @@ impl Machine {
             &self.followed,
             &mut self.deadlines,
             moment,
+            come,
             self.own,
         );
         Ok(())

@@ -42,6 +42,9 @@ pub(crate) fn catch_up(
     ensures memory { teller.old.ledger.free
         ≤ teller.new.ledger.free + length (waiting_of (state_of teller.old.ledger).stages follows.now) }
 {
+    if *waiting == 0 {
+        return;
+    }
     if none_followed(followed, &teller.told()[seen..]) {
         return;
     }

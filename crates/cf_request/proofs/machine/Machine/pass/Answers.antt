@@ -1,4 +1,4 @@
-use Rattle.std.proofs.Common.{◌+◌, ◌≤◌, List, ap, arith, length, refl, subst, sym}
+use Rattle.std.proofs.Common.{◌+◌, ◌≤◌, List, ap, arith, length, length-take, refl, subst, sym, take}
 use Rattle.cf_ledger.specs.Ledgers.{state_of}
 use Rattle.cf_request.specs.Deadlines.{IsOverdue, NoneOverdue}
 use Rattle.cf_request.specs.Machines.{Machine, Passes}
@@ -16,6 +16,9 @@ pass-requires-clause-marked c = let m = c.self.inside in marked_row c.deref.resu
 pub pass-requires-clause-behind : goal.pass-requires-clause-behind
 pass-requires-clause-behind c = let m = c.self.inside in none_row _ m.teller c.reserve.new.self c.deref.result.now m.follows.items c.deref.ensures.value c.in_ok-reserve.ensures.found c.self.invariant.1
 
+pub pass-requires-clause-later : goal.pass-requires-clause-later
+pass-requires-clause-later c = c.come_by-come.ensures.behind
+
 pub pass-requires-clause-memory : goal.pass-requires-clause-memory
 pass-requires-clause-memory c =
     let m = c.self.inside in
@@ -23,9 +26,10 @@ pass-requires-clause-memory c =
     let stages = (state_of r.ledger).stages in
     let first = relays_later (state_of m.teller.ledger).stages stages m.follows.items m.followed m.waiting (keeps_memory _ m.teller r c.in_ok-reserve.ensures.found).settled c.self.invariant.2 in
     let most = subst (λ (l : List Follow). length (waiting_of stages l) ≤ m.waiting) (sym c.deref.ensures.value) first.most in
-    let limits = few_limits stages m.deadlines.items in
+    let limits = few_limits stages (take c.come_by-come.result m.deadlines.items) in
+    let size = length-take c.come_by-come.result m.deadlines.items in
     let enough = c.in_ok-reserve.ensures.enough in
-    omega (arith, most, limits, enough, c.len.ensures, m.deadlines.ok.0)
+    omega (arith, most, limits, size, enough)
 
 pub invariant_of-self-2 : goal.invariant_of-self-2
 invariant_of-self-2 c =
@@ -44,13 +48,16 @@ returns-clause-passes c =
     let e = c.pass.new.teller in
     let most = c.self.invariant.2.most in
     let few = c.self.invariant.2.few in
-    let limits = few_limits (state_of m.teller.ledger).stages m.deadlines.items in
+    let limits = few_limits (state_of m.teller.ledger).stages (take c.come_by-come.result m.deadlines.items) in
+    let size = length-take c.come_by-come.result m.deadlines.items in
     let new : Machine = record { teller = e; follows = m.follows.items; deadlines = c.pass.new.deadlines.items; moment = c.args.moment; own = m.own } in
     subst (λ (old : Machine). Passes c.args.moment old new) c.self.view_is
     (record {
       onward = omega arith;
+      come = c.come_by-come.result;
+      are_come = c.come_by-come.ensures;
       found = r;
-      finds = record { words = m.waiting + c.len.result; enough = omega (arith, most, limits, c.len.ensures, m.deadlines.ok.0); few = omega (arith, few, c.len.ensures, m.deadlines.ok.0); is = c.in_ok-reserve.ensures.found };
+      finds = record { words = m.waiting + c.come_by-come.result; enough = omega (arith, most, limits, size); few = omega (arith, few); is = c.in_ok-reserve.ensures.found };
       settles = subst (λ (l : List Follow). SettlesDue (IsRelayOr l (IsOverdue c.args.moment m.deadlines.items)) m.own r e) c.deref.ensures.value c.pass.ensures.settles;
       none = (subst (λ (l : List Follow). NoneBehind l (state_of e.ledger).stages) c.deref.ensures.value c.pass.ensures.none.0, c.pass.ensures.none.1);
       forgets = c.pass.ensures.forgets;
