@@ -8,7 +8,7 @@ use crate::handle::object::Object;
 use crate::ledger::stepping::{late_number, step_code, take};
 use crate::ledger::word_code;
 use crate::request::{machine_code, tell_into};
-use crate::values::as_reply;
+use crate::values::put_reply;
 use crate::values::request::{CfApplied, CfRequestStep, CfTold};
 use crate::values::task::{CfTask, held_by};
 use cf_request::{Deadline, Machine};
@@ -33,7 +33,7 @@ pub fn apply(
     match machine.apply(word, lane) {
         Err(fault) => Err(word_code(fault)),
         Ok(reply) => {
-            applied.reply = as_reply(reply);
+            put_reply(&mut applied.reply, reply);
             applied.told = tell_into(machine, row);
             Ok(())
         }
