@@ -3,7 +3,7 @@ pub mod Telling
 pub mod Words
 pub mod Sets
 pub mod Turns
-pub mod Relays
+pub mod Behind
 pub mod Moments
 pub mod Memory
 pub mod Later

@@ -41,6 +41,9 @@ filter_from p (x ∷ xs) (suc k) d l =
     let next : suc (k + 1) ≡ suc k + 1 = omega arith in
     subst (λ (m : ℕ). filter p (drop k xs) ≡ cond (p (get_or xs k d)) (get_or xs k d ∷ filter p (drop m (x ∷ xs))) (filter p (drop m (x ∷ xs)))) next (filter_from p xs k d (omega (arith, l)))
 
+abbrev pub weigh : Bool → ℕ
+weigh b = cond b 1 0
+
 -- how long either is
 pub length_cond : (b : Bool) (x : ℕ) (xs : List ℕ) → length (cond b (x ∷ xs) xs) ≡ cond b 1 0 + length xs
 length_cond true x xs = omega arith

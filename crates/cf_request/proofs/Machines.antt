@@ -35,9 +35,10 @@ use Rattle.cf_request.specs.declared.deadlines.Deadline.{Deadline}
 use Rattle.cf_request.specs.declared.machine.Next.{Next}
 use Rattle.cf_request.specs.declared.relays.Follow.{Follow}
 use Rattle.cf_request.specs.declared.settling.Due.{Due}
+use Rattle.cf_request.proofs.Lists.{weigh}
 use Rattle.cf_request.proofs.Memory.{relays_stay, spends_held, spends_word}
 use Rattle.cf_request.proofs.Moments.{set_left, set_more}
-use Rattle.cf_request.proofs.Relays.{behind_more, looked_held, looked_none, looked_word, marked_more, stay_word}
+use Rattle.cf_request.proofs.Behind.{behind_more, looked_held, looked_none, looked_word, marked_more, stay_word}
 use Rattle.cf_request.proofs.Turns.{Keeps, StaySettled, after_event, dues_none, follows_kept, follows_word, keeps_dues, keeps_event, keeps_memory, keeps_same, keeps_then, limits_kept, limits_word}
 use Rattle.cf_request.proofs.Words.{none_lost}
 
@@ -72,12 +73,12 @@ kept_dues P who a b follows deadlines own h m = kept_by a b follows deadlines ow
 -- ---- relays that are open
 
 pub relays_first : (stages : List Stage) (follows : List Follow) (flags : List Bool) (waiting : ℕ) → follows ≡ [] → flags ≡ replicate 4096 false → waiting ≡ 0 → AreRelays stages follows flags waiting
-relays_first stages follows flags waiting none clear zero =
+relays_first stages follows flags waiting none clear first =
     subst (λ (l : List Follow). AreRelays stages l flags waiting) (sym none) (record {
       flags = ap (λ (l : List Bool). length l) clear ∙ length-replicate 4096 false;
       marked = All-nil (λ (f : Follow). is_in_flags flags f.stage ≡ true);
-      most = omega (arith, zero);
-      few = omega (arith, zero);
+      most = omega (arith, first);
+      few = omega (arith, first);
     })
 
 -- what is settled stays so, and then no more relays are open
@@ -330,7 +331,7 @@ cancels_is m b e follows who words rows enough found caller none settles = recor
 
 -- ---- a step that finds nothing
 
-one_more : (a b : Bool) → a ≡ true → b ≡ true → cond (a && b) 1 0 ≡ 1
+one_more : (a b : Bool) → a ≡ true → b ≡ true → weigh (a && b) ≡ 1
 one_more true true h k = refl
 one_more true false h k = cc
 one_more false b h k = cc

@@ -265,7 +265,8 @@ impl Machine {
         ensures refused { OnErr result (OnlyFinds self.old self.new) }
         ensures why { IfErr result (λ fault. IsNoPass moment self.old fault) }
     {
-        self.teller.reserve(self.waiting + self.deadlines.len())?;
+        let come = come_by(&self.deadlines, moment);
+        self.teller.reserve(self.waiting + come)?;
         if moment < self.moment {
             return Err(MachineFault::Past);
         }

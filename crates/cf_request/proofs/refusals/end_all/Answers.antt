@@ -1,10 +1,10 @@
-use Rattle.std.proofs.Common.{◌∙◌, ℕ, List, ap, arith, length, subst, sym}
+use Rattle.std.proofs.Common.{ℕ, List, ap, arith, length, subst, sym}
 use Rattle.cf_ledger.specs.Ledgers.{state_of}
 use Rattle.cf_request.specs.Ready.{Lanes}
 use Rattle.cf_request.specs.Refusals.{HasLane, IsEnded}
 use Rattle.cf_request.specs.Relays.{IsRelayOr}
 use Rattle.cf_request.proofs.Memory.{spends_settle, stage_waits, stages_fewer}
-use Rattle.cf_request.proofs.Relays.{looked_none, looked_settle}
+use Rattle.cf_request.proofs.Behind.{looked_none, looked_settle}
 use Rattle.cf_request.proofs.Turns.{dues_more, dues_none, follows_kept, keeps_settle}
 use Rattle.cf_request.proofs.refusals.end_all.Goals as goal
 
@@ -12,7 +12,7 @@ pub loop-due-init : goal.loop-due-init
 loop-due-init c = record {
   settles = dues_none (IsRelayOr c.args.follows.now (IsEnded c.args.teller.now.lanes.of c.args.ending)) c.args.who c.args.teller.now;
   relays = c.requires.relays;
-  seen = looked_none c.len-seen.result c.args.teller.now.told c.args.follows.now (state_of c.args.teller.now.ledger).stages (c.len-seen.ensures ∙ ap (λ (l : List ℕ). length l) c.told.ensures.told) c.requires.none_behind;
+  seen = looked_none _ c.args.teller.now.told c.args.follows.now (state_of c.args.teller.now.ledger).stages (ap (λ (l : List ℕ). length l) c.told.ensures.told) c.requires.none_behind;
   lane = c.requires.lane;
   memory = c.requires.memory;
 }

@@ -3,7 +3,7 @@ use Rattle.std.specs.Prelude.{is_some}
 use Rattle.cf_ledger.specs.Ledgers.{state_of}
 use Rattle.cf_request.specs.Relays.{IsRelayDue}
 use Rattle.cf_request.proofs.Moments.{none_is}
-use Rattle.cf_request.proofs.Relays.{none_behind_open}
+use Rattle.cf_request.proofs.Behind.{none_behind_open}
 use Rattle.cf_request.proofs.Turns.{dues_none}
 use Rattle.cf_request.proofs.relays.catch_up_with.Goals as goal
 

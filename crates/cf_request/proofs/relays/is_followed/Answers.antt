@@ -1,6 +1,6 @@
-use Rattle.std.proofs.Common.{◌≡◌, ◌∙◌, arith, sym, false}
+use Rattle.std.proofs.Common.{arith, sym, false}
 use Rattle.std.proofs.lemmas.Option.{get_or_from_slice_get}
-use Rattle.cf_request.proofs.Relays.{flag_past}
+use Rattle.cf_request.proofs.Behind.{flag_past}
 use Rattle.cf_request.proofs.relays.is_followed.Goals as goal
 
 pub returns-then-i-bound : goal.returns-then-i-bound

@@ -1,11 +1,11 @@
-use Rattle.std.proofs.Common.{◌≡◌, ◌+◌, ◌≤◌, ◌∙◌, ◌++◌, ◌∷◌, [], ℕ, Bool, List, Contains, ap, append_assoc, arith, cond, drop, get_or, length, length-append, sym, take}
+use Rattle.std.proofs.Common.{◌≡◌, ◌+◌, ◌∙◌, ◌++◌, ◌∷◌, [], ℕ, Bool, List, Contains, ap, append_assoc, arith, cond, drop, get_or, length, length-append, sym, take}
 use Rattle.std.specs.Prelude.{is_some}
 use Rattle.std.specs.List.{filter}
 use Rattle.std.proofs.lemmas.List.Elements.{filter_more}
 use Rattle.cf_model.specs.States.{is_ready}
 use Rattle.cf_ledger.specs.Ledgers.{state_of}
 use Rattle.cf_request.specs.Telling.{is_settled_in}
-use Rattle.cf_request.proofs.Lists.{filter_from, length_cond, length_one}
+use Rattle.cf_request.proofs.Lists.{filter_from, length_cond, length_one, weigh}
 use Rattle.cf_request.proofs.Sets.{Marks, left_next, marks_more}
 use Rattle.cf_request.proofs.teller.note.Goals as goal
 
@@ -16,7 +16,7 @@ put-requires c =
     let k = c.loop-i.i-index in
     let i = get_or news k 0 in
     let is : c.is_some-settled.result ≡ p i = c.is_some-settled.ensures ∙ ap is_some c.outcome.ensures in
-    let one = ap (λ (b : Bool). cond b 1 0) is in
+    let one = ap weigh is in
     let more = ap (λ (l : List ℕ). length l) (filter_from p news k 0 (omega arith)) ∙ length_cond (p i) i (filter p (drop (k + 1) news)) in
     let room = c.loop-i.invariant.room in
     record { room = omega (arith, one, more, room) }
@@ -33,7 +33,7 @@ loop-i-preserved c =
     let now = c.put.new.order.items in
     let first = c.args.order.now.items in
     let is : settled ≡ p i = c.is_some-settled.ensures ∙ ap is_some c.outcome.ensures in
-    let one = ap (λ (b : Bool). cond b 1 0) is in
+    let one = ap weigh is in
     let more = ap (λ (l : List ℕ). length l) (filter_from p news k 0 (omega arith)) ∙ length_cond (p i) i (filter p (drop (k + 1) news)) in
     let room = c.loop-i.invariant.room in
     let size = ap (λ (l : List ℕ). length l) c.put.ensures.items ∙ length-append was (cond settled (i ∷ []) []) in

@@ -1,20 +1,19 @@
-use Rattle.std.proofs.Common.{◌≡◌, ◌+◌, ◌-◌, ◌≤◌, ◌∙◌, ℕ, List, ap, arith, length, refl, subst, sym}
+use Rattle.std.proofs.Common.{◌-◌, ◌≤◌, ◌∙◌, ℕ, List, ap, arith, length, refl, subst}
 use Rattle.cf_ledger.specs.Ledgers.{state_of}
 use Rattle.cf_request.specs.Machines.{AppliesWord, Machine}
 use Rattle.cf_request.specs.Ready.{with_lane}
 use Rattle.cf_request.specs.Relays.{IsRelayDue}
 use Rattle.cf_request.specs.Telling.{Teller}
-use Rattle.cf_request.specs.declared.relays.Follow.{Follow}
 use Rattle.cf_request.proofs.Machines.{MayCatchUp, caught_up, kept_all, kept_word, may_word}
 use Rattle.cf_request.proofs.machine.Machine.apply.Goals as goal
 
 -- what is given where relays are settled
-given : (c : goal.After-deref) → MayCatchUp c.apply.new.self c.deref.result.now c.self.inside.followed c.self.inside.waiting c.len-seen.result 0
+given : (c : goal.After-catch_up-arg-3-1) → MayCatchUp c.apply.new.self c.deref.result.now c.self.inside.followed c.self.inside.waiting (length c.told-seen.result.now) 0
 given c =
     let m = c.self.inside in
     let enough : m.waiting ≤ c.reserve.new.self.ledger.free - 1 = omega (arith, c.in_ok-reserve.ensures.enough, c.words_beside.ensures.enough) in
-    may_word _ m.teller c.reserve.new.self c.apply.new.self c.args.word c.in_ok-reply.reply c.deref.result.now m.follows.items m.deadlines.items m.own m.followed m.waiting c.len-seen.result c.deref.ensures.value
-    c.self.invariant.0 c.self.invariant.1 c.self.invariant.2 c.in_ok-reserve.ensures.found (c.len-seen.ensures ∙ ap (λ (l : List ℕ). length l) c.told.ensures.told) enough c.in_ok-reply.ensures.done
+    may_word _ m.teller c.reserve.new.self c.apply.new.self c.args.word c.in_ok-reply.reply c.deref.result.now m.follows.items m.deadlines.items m.own m.followed m.waiting (length c.told-seen.result.now) c.deref.ensures.value
+    c.self.invariant.0 c.self.invariant.1 c.self.invariant.2 c.in_ok-reserve.ensures.found (ap (λ (l : List ℕ). length l) c.told-seen.ensures.told) enough c.in_ok-reply.ensures.done
 
 pub catch_up-requires-clause-there : goal.catch_up-requires-clause-there
 catch_up-requires-clause-there c = (given c).there

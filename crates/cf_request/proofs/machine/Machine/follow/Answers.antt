@@ -1,4 +1,4 @@
-use Rattle.std.proofs.Common.{◌≡◌, ◌∙◌, ◌∷◌, ◌++◌, [], ◌+◌, ◌<◌, List, ap, arith, length, length-append, refl, subst, sym}
+use Rattle.std.proofs.Common.{◌∙◌, ◌∷◌, ◌++◌, [], ◌+◌, List, ap, arith, length, refl, subst}
 use Rattle.cf_ledger.specs.Ledgers.{state_of}
 use Rattle.cf_request.specs.Machines.{IsMachine, Machine, SetsFollow}
 use Rattle.cf_request.specs.Relays.{AreRelays, IsRelayDue, NoneBehind}
@@ -8,17 +8,22 @@ use Rattle.cf_request.specs.declared.relays.Follow.{Follow}
 use Rattle.cf_request.proofs.Machines.{MayFollow, kept_all, may_follow}
 use Rattle.cf_request.proofs.machine.Machine.follow.Goals as goal
 
-new_row : (c : goal.After-push_reserved) → c.push_reserved.new.self.items ≡ c.self.inside.follows.items ++ (let f : Follow = record { relay = c.args.relay; stage = c.args.stage } in f ∷ [])
-new_row c =
-    let f : Follow = record { relay = c.args.relay; stage = c.args.stage } in
-    c.push_reserved.ensures.items ∙ ap (λ (l : List Follow). l ++ f ∷ []) c.in_ok-reserve-2.ensures.items
-
 -- what is given where relays are settled
-given : (c : goal.After-deref) → MayFollow c.reserve.new.self c.deref.result.now c.insert.new.self (c.self.inside.waiting + 1) c.args.stage c.self.inside.deadlines.items c.self.inside.own
+given : (c : goal.After-catch_up_with-arg-2-1) → MayFollow c.reserve.new.self c.deref.result.now c.insert.new.self (c.self.inside.waiting + 1) c.args.stage c.self.inside.deadlines.items c.self.inside.own
 given c =
     let m = c.self.inside in
     let f : Follow = record { relay = c.args.relay; stage = c.args.stage } in
-    may_follow _ m.teller c.reserve.new.self c.deref.result.now m.follows.items m.deadlines.items m.own m.followed c.insert.new.self m.waiting f (c.deref.ensures.value ∙ new_row c)
+    may_follow _ m.teller c.reserve.new.self c.deref.result.now m.follows.items m.deadlines.items m.own m.followed c.insert.new.self m.waiting f (c.deref.ensures.value ∙ c.push_reserved.ensures.items ∙ ap (λ (l : List Follow). l ++ f ∷ []) c.in_ok-reserve-2.ensures.items)
+    c.self.invariant.0 c.self.invariant.1 c.self.invariant.2 c.in_ok-reserve.ensures.found c.in_ok-reserve.ensures.enough c.insert.ensures
+    (omega (arith, c.stages-stages.ensures.count, c.if-relay-stages.false)) (omega (arith, c.stages-stages.ensures.count, c.if-stage-stages.false))
+    (let flags = c.self.invariant.2.flags in let count = c.stages-stages.ensures.count in let most = c.stages-stages.ensures.most in omega (arith, flags, count, most, c.if-stage-stages.false))
+
+-- the same, once they are
+given_then : (c : goal.After-catch_up_with) → MayFollow c.reserve.new.self c.deref.result.now c.insert.new.self (c.self.inside.waiting + 1) c.args.stage c.self.inside.deadlines.items c.self.inside.own
+given_then c =
+    let m = c.self.inside in
+    let f : Follow = record { relay = c.args.relay; stage = c.args.stage } in
+    may_follow _ m.teller c.reserve.new.self c.deref.result.now m.follows.items m.deadlines.items m.own m.followed c.insert.new.self m.waiting f (c.deref.ensures.value ∙ c.push_reserved.ensures.items ∙ ap (λ (l : List Follow). l ++ f ∷ []) c.in_ok-reserve-2.ensures.items)
     c.self.invariant.0 c.self.invariant.1 c.self.invariant.2 c.in_ok-reserve.ensures.found c.in_ok-reserve.ensures.enough c.insert.ensures
     (omega (arith, c.stages-stages.ensures.count, c.if-relay-stages.false)) (omega (arith, c.stages-stages.ensures.count, c.if-stage-stages.false))
     (let flags = c.self.invariant.2.flags in let count = c.stages-stages.ensures.count in let most = c.stages-stages.ensures.most in omega (arith, flags, count, most, c.if-stage-stages.false))
@@ -48,8 +53,8 @@ invariant_of-self-2 c =
     let r = c.reserve.new.self in
     let row = c.deref.result.now in
     kept_all (IsRelayDue row) m.own r c.catch_up_with.new.teller row c.push_reserved.new.self.items m.deadlines.items m.own c.insert.new.self (m.waiting + 1) c.catch_up_with.new.waiting (state_of r.ledger).stages c.deref.ensures.value
-    c.catch_up_with.ensures.settles (subst (λ (l : List Follow). IsMachine r l m.deadlines.items m.own) c.deref.ensures.value (given c).machine)
-    (subst (λ (l : List Follow). AreRelays (state_of r.ledger).stages l c.insert.new.self (m.waiting + 1)) c.deref.ensures.value (given c).relays)
+    c.catch_up_with.ensures.settles (subst (λ (l : List Follow). IsMachine r l m.deadlines.items m.own) c.deref.ensures.value (given_then c).machine)
+    (subst (λ (l : List Follow). AreRelays (state_of r.ledger).stages l c.insert.new.self (m.waiting + 1)) c.deref.ensures.value (given_then c).relays)
     c.catch_up_with.ensures.none c.catch_up_with.ensures.waiting c.catch_up_with.ensures.fewer
 
 pub returns-clause-set : goal.returns-clause-set
@@ -57,6 +62,7 @@ returns-clause-set c =
     let m = c.self.inside in
     let r = c.reserve.new.self in
     let e = c.catch_up_with.new.teller in
+    let f : Follow = record { relay = c.args.relay; stage = c.args.stage } in
     let most = c.self.invariant.2.most in
     let few = c.self.invariant.2.few in
     let count = c.stages-stages.ensures.count in
@@ -65,7 +71,7 @@ returns-clause-set c =
     subst (λ (old : Machine). SetsFollow c.args.relay c.args.stage old new) c.self.view_is
     (record {
       there = (omega (arith, count, same, c.if-relay-stages.false), omega (arith, count, same, c.if-stage-stages.false));
-      set = new_row c;
+      set = c.push_reserved.ensures.items ∙ ap (λ (l : List Follow). l ++ f ∷ []) c.in_ok-reserve-2.ensures.items;
       found = r;
       finds = record { words = 1 + m.waiting; enough = omega (arith, most); few = omega (arith, few); is = c.in_ok-reserve.ensures.found };
       catches_up = record {

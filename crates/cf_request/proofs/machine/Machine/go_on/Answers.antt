@@ -1,20 +1,18 @@
-use Rattle.std.proofs.Common.{◌≡◌, ◌+◌, ◌<◌, ◌∙◌, ℕ, List, ap, arith, inr, length, refl, subst, sym}
+use Rattle.std.proofs.Common.{◌+◌, ◌<◌, ℕ, List, ap, arith, inr, length, refl, subst, sym}
 use Rattle.cf_ledger.specs.Ledgers.{state_of}
 use Rattle.cf_request.specs.Lanes.{IsIdle}
 use Rattle.cf_request.specs.Machines.{GoesOn, Machine}
-use Rattle.cf_request.specs.Relays.{AreRelays, IsRelayDue, NoneBehind}
-use Rattle.cf_request.specs.Telling.{Teller}
-use Rattle.cf_request.specs.declared.relays.Follow.{Follow}
+use Rattle.cf_request.specs.Relays.{IsRelayDue}
 use Rattle.cf_request.proofs.Machines.{MayCatchUp, caught_up, keeps_held, keeps_takes, kept_all, kept_by, kept_finish, may_held, none_takes, relays_later}
 use Rattle.cf_request.proofs.Turns.{keeps_dues, keeps_memory, lane_kept}
 use Rattle.cf_request.proofs.machine.Machine.go_on.Goals as goal
 
 -- what is given where relays are settled
-given : (c : goal.After-deref) → MayCatchUp c.finish_held-finish.new.teller c.deref.result.now c.self.inside.followed c.self.inside.waiting c.len-seen.result 1
+given : (c : goal.After-catch_up-arg-3-1) → MayCatchUp c.finish_held-finish.new.teller c.deref.result.now c.self.inside.followed c.self.inside.waiting (length c.told-seen.result.now) 1
 given c =
     let m = c.self.inside in
-    may_held _ m.teller c.reserve.new.self c.finish_held-finish.new.teller c.args.who c.args.held c.finish_held-finish.result c.deref.result.now m.follows.items m.deadlines.items m.own m.followed m.waiting c.len-seen.result c.deref.ensures.value
-    c.self.invariant.0 c.self.invariant.1 c.self.invariant.2 c.in_ok-reserve.ensures.found (c.len-seen.ensures ∙ ap (λ (l : List ℕ). length l) c.told.ensures.told) c.in_ok-reserve.ensures.enough c.finish_held-finish.ensures
+    may_held _ m.teller c.reserve.new.self c.finish_held-finish.new.teller c.args.who c.args.held c.finish_held-finish.result c.deref.result.now m.follows.items m.deadlines.items m.own m.followed m.waiting (length c.told-seen.result.now) c.deref.ensures.value
+    c.self.invariant.0 c.self.invariant.1 c.self.invariant.2 c.in_ok-reserve.ensures.found (ap (λ (l : List ℕ). length l) c.told-seen.ensures.told) c.in_ok-reserve.ensures.enough c.finish_held-finish.ensures
 
 pub catch_up-requires-clause-there : goal.catch_up-requires-clause-there
 catch_up-requires-clause-there c = (given c).there
@@ -43,7 +41,11 @@ take-taken-requires-clause-lane c =
 
 pub take-taken-requires-clause-memory : goal.take-taken-requires-clause-memory
 take-taken-requires-clause-memory c =
-    let enough = (given c).memory in
+    let m = c.self.inside in
+    let given =
+    may_held _ m.teller c.reserve.new.self c.finish_held-finish.new.teller c.args.who c.args.held c.finish_held-finish.result c.deref.result.now m.follows.items m.deadlines.items m.own m.followed m.waiting (length c.told-seen.result.now) c.deref.ensures.value
+    c.self.invariant.0 c.self.invariant.1 c.self.invariant.2 c.in_ok-reserve.ensures.found (ap (λ (l : List ℕ). length l) c.told-seen.ensures.told) c.in_ok-reserve.ensures.enough c.finish_held-finish.ensures in
+    let enough = given.memory in
     let left = c.catch_up.ensures.memory in
     omega (arith, enough, left)
 

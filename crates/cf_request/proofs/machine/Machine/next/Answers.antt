@@ -1,4 +1,4 @@
-use Rattle.std.proofs.Common.{◌≡◌, ◌<◌, ◌∙◌, length, subst, sym}
+use Rattle.std.proofs.Common.{length, subst}
 use Rattle.std.specs.Prelude.{None}
 use Rattle.cf_request.specs.Lanes.{NoneReadyIn}
 use Rattle.cf_request.specs.Machines.{GoesOn, Machine, state_in}

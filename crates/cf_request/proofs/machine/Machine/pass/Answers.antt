@@ -1,6 +1,6 @@
-use Rattle.std.proofs.Common.{◌+◌, ◌≤◌, List, ap, arith, length, length-take, refl, subst, sym, take}
+use Rattle.std.proofs.Common.{◌+◌, ◌≤◌, List, arith, length, length-take, refl, subst, sym, take}
 use Rattle.cf_ledger.specs.Ledgers.{state_of}
-use Rattle.cf_request.specs.Deadlines.{IsOverdue, NoneOverdue}
+use Rattle.cf_request.specs.Deadlines.{IsOverdue}
 use Rattle.cf_request.specs.Machines.{Machine, Passes}
 use Rattle.cf_request.specs.Relays.{IsRelayOr, NoneBehind, waiting_of}
 use Rattle.cf_request.specs.Settling.{SettlesDue}
