@@ -132,13 +132,16 @@ pub record HasGoneOn (old : Machine) (r : Result (Unit {0}) Code) (new : Object)
 pub record IsNotGone (old : Machine) (r : Result (Unit {0}) Code) (new : Object) (had has : CfRequestStep × CfTask × List CfTold) : Type 0 where
   pub code : Code
   pub is : r ≡ Err code
-  pub refused : IsDueAs step_code (IsNoNext had.0.who (held_by had.1) old) code
+  pub refused : IsDueAs step_code (IsNoNext had.0.who had.0.lane (held_by had.1) old) code
   pub stays : StaysButFinds old new
   pub same : has ≡ had
 
 -- it is done, also if nothing was claimed, or refused for a fault that is due
+abbrev pub GoesOnOrNot : Machine → CfRequestStep × CfTask × List CfTold → Result (Unit {0}) Code → Object → CfRequestStep × CfTask × List CfTold → Type 0
+GoesOnOrNot m had r new has = HasGoneOn m r new had has ⊎ IsNotGone m r new had has
+
 abbrev pub GoesOnIn : Object → CfRequestStep × CfTask × List CfTold → Result (Unit {0}) Code → Object → CfRequestStep × CfTask × List CfTold → Type 0
-GoesOnIn (Request m) had r new has = IfLane had.0.lane m r new (has ≡ had) (HasGoneOn m r new had has ⊎ IsNotGone m r new had has)
+GoesOnIn (Request m) had r new has = IfLane had.0.lane m r new (has ≡ had) (GoesOnOrNot m had r new has)
 GoesOnIn held had r new has = (r ≡ Err WrongKind) × (new ≡ held) × (has ≡ had)
 
 -- ---- calls that tell no stages

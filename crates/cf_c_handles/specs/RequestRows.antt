@@ -66,7 +66,7 @@ InLane m had r new has Goes = ((lanes_in m ≤ had.lane) × (r ≡ Err NoLane) �
 -- the call that a row asks for, each as it is done alone
 abbrev pub DoesAs : Option Call → Machine → CfRequestCall → Result (Unit {0}) Code → Machine → CfRequestCall → Type 0
 DoesAs (Some Apply) m had r new has = InLane m had r new has (DoesOr word_code HasReply (IsNoWord had.word m) m had r new has)
-DoesAs (Some TakeNext) m had r new has = InLane m had r new has (DoesOr step_code HasNext (IsNoNext had.who (held_by had.task) m) m had r new has)
+DoesAs (Some TakeNext) m had r new has = InLane m had r new has (DoesOr step_code HasNext (IsNoNext had.who had.lane (held_by had.task) m) m had r new has)
 DoesAs (Some Follow) m had r new has = DoesOr machine_code (JustDoes (SetsFollow had.relay had.stage)) (IsNoFollow had.relay had.stage (state_in m)) m had r new has
 DoesAs (Some SetDeadline) m had r new has = DoesOr machine_code (JustDoes (SetsDeadline (deadline_of had))) (IsNoDeadline (deadline_of had) (state_in m)) m had r new has
 DoesAs (Some Pass) m had r new has = DoesOr machine_code (JustDoes (Passes had.moment)) (IsNoPass had.moment m) m had r new has

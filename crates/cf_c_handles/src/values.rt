@@ -356,6 +356,17 @@ pub(crate) fn put_claim(reply: &mut CfReply, told: Claimed)
     }
 }
 
+/// Writes a reply, and that of a claim as `put_claim` does.
+#[inline(always)]
+pub(crate) fn put_reply(out: &mut CfReply, reply: Reply)
+    ensures { out.new ≡ as_reply reply }
+{
+    match reply {
+        Reply::Claim(told) => put_claim(out, told),
+        other => *out = as_reply(other),
+    }
+}
+
 /// A reply for C. A desk's call stands in its callers' code only as long as this stays small.
 #[inline(always)]
 pub(crate) fn as_reply(reply: Reply) -> CfReply

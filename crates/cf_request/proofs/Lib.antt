@@ -3,6 +3,7 @@ pub mod Telling
 pub mod Words
 pub mod Sets
 pub mod Turns
+pub mod Behind
 pub mod Moments
 pub mod Memory
 pub mod Later

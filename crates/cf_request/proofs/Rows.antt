@@ -1,5 +1,5 @@
 -- Rows of a machine's calls.
-use Rattle.std.proofs.Common.{◌≡◌, ◌≢◌, ℕ, zero, suc, ◌+◌, ◌<◌, ◌≤◌, Bool, true, false, cond, nat_lt, Option, Some, None, List, [], ◌∷◌, ◌++◌, All, length, length-append, map, drop, take, refl, ap, sym, ◌∙◌, arith, subst, append_assoc, append-nil, take-append-drop}
+use Rattle.std.proofs.Common.{◌≡◌, ◌≢◌, ℕ, zero, suc, ◌+◌, ◌<◌, ◌≤◌, Bool, true, false, cond, nat_lt, Option, Some, None, List, [], ◌∷◌, ◌++◌, All, length, length-append, map, drop, take, refl, ap, sym, ◌∙◌, arith, subst, append_assoc, append-nil, take-append-drop, inl, inr}
 use Rattle.std.specs.Prelude.{IfSome}
 use Rattle.std.proofs.lemmas.List.{map-append}
 use Rattle.std.proofs.lemmas.List.Elements.{All-append, All-cons, All-contains, All-nil, All-weaker}
@@ -18,9 +18,9 @@ use Rattle.cf_ledger.specs.Steps.{finished_as}
 use Rattle.cf_ledger.specs.declared.step.Finish.{Finish}
 use Rattle.cf_ledger.specs.declared.step.Held.{Held}
 use Rattle.cf_ledger.specs.declared.step.Taken.{Taken}
-use Rattle.cf_request.specs.Deadlines.{IsOverdue}
+use Rattle.cf_request.specs.Deadlines.{IsOverdue, open_of}
 use Rattle.cf_request.specs.Lanes.{FinishesHeld, TakesIn}
-use Rattle.cf_request.specs.Machines.{GoesOn, Machine, Restarts, open_in, state_in}
+use Rattle.cf_request.specs.Machines.{GoesOn, Machine, Restarts, open_in, state_in, Finds, FindsForStep, waiting_in}
 use Rattle.cf_request.specs.Ready.{HasLanes, Lanes, with_lane}
 use Rattle.cf_request.specs.Refusals.{IsCancelled, IsRefused}
 use Rattle.cf_request.specs.Relays.{IsRelayDue, IsRelayOr}
@@ -90,6 +90,13 @@ onward_is old new same = subst (Onward old) (sym same) (onward_same old)
 
 onward_free : (t : Teller) (n : ℕ) → Onward t (record t { ledger = record t.ledger { free = n } })
 onward_free t n = record { lanes = lanes_same t.lanes; later = later_free t.ledger (record t.ledger { free = n }) refl refl; settled = settled_free t.ledger (record t.ledger { free = n }) (t.taken ++ t.told) refl refl; taken = refl }
+
+onward_found : (least most : ℕ) (old found : Teller) → Finds least most old found → Onward old found
+onward_found least most old found h = subst (Onward old) (sym h.is) (onward_free old (with_memory h.words old).ledger.free)
+
+onward_step : (lane : ℕ) (held : Option Held) (m : Machine) (found : Teller) → FindsForStep lane held m found → Onward m.teller found
+onward_step lane held m found (inl idle) = onward_is m.teller found idle.1
+onward_step lane held m found (inr busy) = onward_found (2 + waiting_in m) (2 + length m.follows) m.teller found busy.1
 
 onward_then : (a b c : Teller) → Onward a b → Onward b c → Onward a c
 onward_then a b c h k = record { lanes = lanes_then a.lanes b.lanes c.lanes h.lanes k.lanes; later = later_then a.ledger b.ledger c.ledger h.later k.later; settled = λ s. k.settled (h.settled s); taken = k.taken ∙ h.taken }
@@ -207,30 +214,34 @@ takes_told count old new h =
     }
 
 -- memory is found, and then due stages are settled
+settles_found : (P : State → Due → Type 0) (who least most : ℕ) (old found new : Teller) → Finds least most old found → SettlesDue P who found new → Onward old new
+settles_found P who least most old found new h k = onward_then old found new (onward_found least most old found h) (onward_dues P who found new k)
+
 settles : (P : State → Due → Type 0) (who n : ℕ) (old new : Teller) → SettlesDue P who (record old { ledger = record old.ledger { free = n } }) new → Onward old new
 settles P who n old new h = let found : Teller = record old { ledger = record old.ledger { free = n } } in onward_then old found new (onward_free old n) (onward_dues P who found new h)
 
 effect : (old new : Machine) (out : Out) → IsCall old out new → Effect old.teller out new.teller
 effect old new out (applies word lane reply none h) =
-    let found = with_memory (1 + length old.follows) old.teller in
+    let found = h.found in
+    let n = length (state_of h.between.ledger).plan.stages in
+    let lanes = lanes_word n lane found.lanes h.between.lanes (h.lanes ∙ ap (λ (t : Teller). with_lane n lane t.lanes) (sym h.finds.is)) in
     quiet old.teller new.teller out none
-    (onward_then old.teller found new.teller (onward_free old.teller found.ledger.free)
-    (onward_then found h.between new.teller (onward_word found h.between word reply h.tells (lanes_word (length (state_of h.between.ledger).plan.stages) lane found.lanes h.between.lanes h.lanes)) (onward_dues (IsRelayDue old.follows) old.own h.between new.teller h.catches_up.settles)))
+    (onward_then old.teller found new.teller (onward_found (waiting_in old) (1 + length old.follows) old.teller found h.finds)
+    (onward_then found h.between new.teller (onward_word found h.between word reply h.tells lanes) (onward_dues (IsRelayDue old.follows) old.own h.between new.teller h.catches_up.settles)))
 effect old new out (goes_on who lane held next is h) =
-    let found = with_memory (2 + length old.follows) old.teller in
+    let found = h.found in
     subst (λ (o : Out). Effect old.teller o new.teller) (sym is)
     (takes who lane old.teller h.between next.taken new.teller
-    (onward_then old.teller found h.between (onward_free old.teller found.ledger.free)
+    (onward_then old.teller found h.between (onward_step lane held old found h.finds)
     (onward_then found h.finished h.between (onward_held who held found next.finish h.finished h.finishes) (onward_dues (IsRelayDue old.follows) old.own h.finished h.between h.catches_up.settles)))
     h.takes)
 effect old new out (sets_follow relay stage none h) =
-    let found = with_memory (1 + length old.follows) old.teller in
-    quiet old.teller new.teller out none (settles (IsRelayDue new.follows) old.own found.ledger.free old.teller new.teller h.catches_up.settles)
+    quiet old.teller new.teller out none (settles_found (IsRelayDue new.follows) old.own (1 + waiting_in old) (1 + length old.follows) old.teller h.found new.teller h.finds h.catches_up.settles)
 effect old new out (sets_deadline deadline none h) = quiet old.teller new.teller out none (onward_is old.teller new.teller (ap (λ (m : Machine). m.teller) h.same))
 effect old new out (forgets none same) = quiet old.teller new.teller out none (onward_is old.teller new.teller (ap (λ (m : Machine). m.teller) same))
 effect old new out (passes moment none h) =
-    let found = with_memory (length old.follows + length old.deadlines) old.teller in
-    quiet old.teller new.teller out none (settles (IsRelayOr old.follows (IsOverdue moment old.deadlines)) old.own found.ledger.free old.teller new.teller h.settles)
+    quiet old.teller new.teller out none
+    (settles_found (IsRelayOr old.follows (IsOverdue moment old.deadlines)) old.own (waiting_in old + length (open_of (state_in old).stages (take h.come old.deadlines))) (length old.follows + h.come) old.teller h.found new.teller h.finds h.settles)
 effect old new out (refuses lane code none h) =
     let found = with_memory (open_in old) old.teller in
     quiet old.teller new.teller out none (settles (IsRelayOr old.follows (IsRefused old.teller.lanes.of lane code)) old.own found.ledger.free old.teller new.teller h.settles)

@@ -49,6 +49,7 @@ impl ReadySet {
     }
 
     /// Puts a stage in that is ready, and takes one out that isn't.
+    #[inline(always)]
     fn write(&mut self, i: u16, ready: bool)
         requires there { i < length self.old }
         requires few { length self.old ≤ 4096 }
@@ -67,6 +68,7 @@ impl ReadySet {
     }
 
     /// The lowest stage, if there is one.
+    #[inline(always)]
     fn lowest(&self) -> Option<u16>
         ensures { result ≡ position (λ b. b) self.now }
     {
@@ -74,6 +76,7 @@ impl ReadySet {
     }
 
     /// How many stages are in.
+    #[inline(always)]
     fn count(&self) -> u16
         ensures { result ≡ count_of self.now }
     {
@@ -130,6 +133,7 @@ impl ReadySets {
     }
 
     /// How many lanes there are.
+    #[inline(always)]
     pub(crate) fn lanes(&self) -> u8
         ensures count { result ≡ length self.now.sets }
         ensures few { IsLaneCount result }
@@ -139,6 +143,7 @@ impl ReadySets {
     }
 
     /// Writes whether a stage is ready.
+    #[inline(always)]
     pub(crate) fn write(&mut self, i: u16, ready: bool)
         requires { i < length self.old.of }
         ensures { self.new ≡ record self.old {
@@ -152,6 +157,7 @@ impl ReadySets {
     }
 
     /// There are so many stages now, the last of which may be new, and is this lane's then.
+    #[inline(always)]
     pub(crate) fn reach(&mut self, stages: u16, lane: u8)
         requires room { stages ≤ self.old.places }
         requires lane { lane < length self.old.sets }
@@ -172,6 +178,7 @@ impl ReadySets {
     }
 
     /// The lowest ready stage of a lane, if there is one.
+    #[inline(always)]
     pub(crate) fn lowest(&self, lane: u8) -> Option<u16>
         requires { lane < length self.now.sets }
         ensures { result ≡ position (λ b. b) (slice_index_or self.now.sets lane []) }
@@ -181,6 +188,7 @@ impl ReadySets {
     }
 
     /// How many stages of a lane are ready.
+    #[inline(always)]
     pub(crate) fn ready(&self, lane: u8) -> u16
         requires { lane < length self.now.sets }
         ensures count { result ≡ count_of (slice_index_or self.now.sets lane []) }
