@@ -152,6 +152,7 @@ impl Machine {
     pub fn next(&mut self, who: u8, lane: u8, held: Option<Held>) -> Result<Next, StepFault>
         requires { lane < self.old.teller.lanes.count }
         ensures done { IfOk result (λ next. GoesOn who lane held self.old next self.new) }
+        ensures caller { OnOk result (who ≤ 63) }
         ensures none { IfOk result (λ next. IfNone next.taken
             (NoneReadyIn (state_in self.new) self.new.teller.lanes.of lane (length (state_in self.new).plan.stages))) }
         ensures fewer { IfOk result (λ next. IfSome next.taken (λ t.
@@ -177,6 +178,7 @@ impl Machine {
         requires lane { lane < self.old.teller.lanes.count }
         requires busy { ¬ IsIdle lane held self.old.teller }
         ensures done { IfOk result (λ next. GoesOn who lane held self.old next self.new) }
+        ensures caller { OnOk result (who ≤ 63) }
         ensures refused { OnErr result (OnlyFinds self.old self.new) }
         ensures why { IfErr result (λ fault. IsNoNext who lane held self.old fault) }
     {
