@@ -36,8 +36,8 @@ def rows_of_c(tools: Tools, made: Path) -> List[Row]:
         build, prints = [tools["clang"], *rest, plain], ("clients/c", name)
         under = [tools["valgrind"], *UNDER]
         rows.append(Row(name, ["library", "clang"], [build, [plain]], prints))
-        sanitized = [tools["address sanitizer"], "-fsanitize=address", *rest, checked]
-        rows.append(Row(name + " with the address sanitizer", ["library", "address sanitizer"], [sanitized, [checked]], prints))
+        sanitized = [tools["address sanitizer"], "-fsanitize=address,undefined", "-fno-sanitize-recover=undefined", *rest, checked]
+        rows.append(Row(name + " with the sanitizers", ["library", "address sanitizer"], [sanitized, [checked]], prints))
         rows.append(Row(name + " under valgrind", ["library", "clang", "valgrind"], [build, [*under, plain]], prints))
     return rows
 

@@ -25,7 +25,7 @@ class Tools:
         self.found["clang"] = self.first(compilers, "#include <stdbool.h>\n" + NOTHING, "-fsyntax-only")
         self.found["C compiler"] = self.first(["clang", "gcc"], "#include <stdlib.h>\n" + NOTHING, "-shared")
         self.found["binutils"] = shutil.which("ar") and shutil.which("nm") and shutil.which("objcopy")
-        self.found["address sanitizer"] = self.first([*compilers, "gcc"], "#include <stdbool.h>\n" + NOTHING, "-fsanitize=address")
+        self.found["address sanitizer"] = self.first([*compilers, "gcc"], "#include <stdbool.h>\n" + NOTHING, "-fsanitize=address,undefined")
         javac = shutil.which("javac")
         version = subprocess.run([javac, "-version"], stdout=subprocess.PIPE, universal_newlines=True).stdout if javac else ""
         number = re.match(r"javac (\d+)", version)

@@ -13,7 +13,7 @@ static const uint16_t NEVER = UINT16_MAX;
 /* What calls write. Each is filled with one byte before, and has to be so afterwards. */
 static struct {
   cf_reply reply; cf_task task; cf_outcome outcome; cf_now now; cf_record record; cf_event event; cf_stage stage; cf_step step;
-  cf_applied applied; cf_request_step turn; cf_told told[2]; cf_deadline deadline;
+  cf_applied applied; cf_request_step turn; cf_told told[2]; cf_deadline deadline; cf_request_done done; cf_request_call call;
   cf_news news[2]; uint64_t words[2]; uint16_t stages[2]; uint8_t text[TEXT]; uint16_t number; uint8_t small; uint32_t calls; uint64_t word;
   size_t n;
 } out;
@@ -113,6 +113,9 @@ static void request_calls(cf_handle *h, uint32_t wanted) {
   ROW(cf_request_refuse(h, 0, 1, out.told, 2, &out.n), wanted);
   ROW(cf_request_told(h, out.told, 2, &out.n), wanted);
   ROW(cf_request_ready(h, 0, &out.number), wanted);
+  ROW(cf_request_cancel_all(h, 0, out.told, 2, &out.n), wanted);
+  ROW(cf_request_restart(h), wanted);
+  ROW(cf_request_do(h, &out.call, 1, &out.done, out.told, 2), wanted);
 }
 
 static void caller_calls(cf_handle *h, uint32_t wanted) {
@@ -315,6 +318,11 @@ static void by_pointers(void) {
   ROW(cf_request_told(asked, NULL, 2, &out.n), CF_NULL);
   ROW(cf_request_told(asked, out.told, 2, NULL), CF_NULL);
   ROW(cf_request_ready(asked, 0, NULL), CF_NULL);
+  ROW(cf_request_cancel_all(asked, 0, NULL, 2, &out.n), CF_NULL);
+  ROW(cf_request_cancel_all(asked, 0, out.told, 2, NULL), CF_NULL);
+  ROW(cf_request_do(asked, NULL, 1, &out.done, out.told, 2), CF_NULL);
+  ROW(cf_request_do(asked, &out.call, 1, NULL, out.told, 2), CF_NULL);
+  ROW(cf_request_do(asked, &out.call, 1, &out.done, NULL, 2), CF_NULL);
   ROW(cf_desk_complete(caller, SOURCE, value, NULL), CF_NULL);
   ROW(cf_desk_fail(caller, SOURCE, 1, NULL), CF_NULL);
   ROW(cf_desk_fail_as(caller, SOURCE, CF_TIMED_OUT, NULL), CF_NULL);
@@ -420,6 +428,8 @@ static void by_other_numbers(void) {
   cf_task task = {.held = 1, .stage = TWICE};
   cf_step step = {.who = 64};
   cf_request_step turn = {.who = 64};
+  cf_request_call calls[] = {{.call = CF_DO_PASS}, {.call = 7}};
+  cf_request_done done;
   cf_handle *asked = &held[REQUEST];
   fill();
   ROW(cf_builder_new(&held[GRAPH], 0, 0), CF_FULL);
@@ -472,6 +482,9 @@ static void by_other_numbers(void) {
   ROW(cf_request_apply(asked, 0, 2, &out.applied, out.told, 2), CF_NO_LANE);
   ROW(cf_request_refuse(asked, 2, 1, out.told, 2, &out.n), CF_NO_LANE);
   ROW(cf_request_ready(asked, 2, &out.number), CF_NO_LANE);
+  ROW(cf_request_cancel_all(asked, 64, out.told, 2, &out.n), CF_NO_WORD);
+  ROW(cf_request_do(asked, calls, 2, &done, out.told, 2), CF_NO_SUCH_NUMBER);
+  HOLDS(done.calls == 1 && done.told == 0);
   ROW(cf_apply(graph, UINT64_MAX, &out.reply), CF_NO_WORD);
   ROW(cf_event_of(0, &out.event), CF_NO_WORD);
   ROW(cf_word_of_event(&event, &out.word), CF_NO_SUCH_NUMBER);

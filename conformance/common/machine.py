@@ -276,6 +276,16 @@ class Machine:
                 self.settle(who, stage, model.CANCELLED)
                 self.settle_relays(who)
 
+    def do_all(self, made: Sequence[Tuple[str, Tuple[Any, ...]]]) -> Tuple[List[Any], Optional[str]]:
+        """Makes calls one after another, up to the first that is refused: what they answer, and why the next one is refused, if one is."""
+        answers: List[Any] = []
+        for name, given in made:
+            try:
+                answers.append(getattr(self, name)(*given))
+            except Refused as refused:
+                return answers, str(refused)
+        return answers, None
+
     def tell(self, room: int) -> Told:
         """Tells the first so many stages that were settled, in the order of the events that settled them, and those of one event rising.
         The host has taken them then."""

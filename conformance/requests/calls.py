@@ -13,9 +13,10 @@ import random_runs
 
 Request = Any  # a `machine.Machine`, or what has the same methods: a `library.Library`
 KINDS = {"next": 36.0, "apply": 26, "pass_to": 5, "deadline": 6, "follow": 8, "rest": 2, "refuse": 2, "ready": 1, "cancel_all": 0.5,
-         "restart": 0.5}
+         "restart": 0.5, "do_all": 6}
 OFTEN = ["next", "apply", "pass_to", "deadline", "follow", "rest", "refuse"]  # one of these comes more often by a seed
 EVENTS = {"complete": 9, "fail": 2, "failAs": 1.5, "cancel": 1.5, "claim": 2, "finish": 1.5, "tick": 1, "attach": 11, "word": 0.7}
+IN_ONE = {"next": 3, "apply": 5, "follow": 1, "deadline": 1, "pass_to": 0.5, "refuse": 0.1, "cancel_all": 0.05}  # calls of a `do_all`
 FORMS = model.FORMS + ["compose", "compose", "exceptionallyCompose"]  # so that more stages link
 NO_WORDS = [0, 1, 2**56, 2**63, 2**64 - 1, 7 * 2**56 + 15 * 2**32, 3 * 2**56 + 1, 9 * 2**56]
 LAST = 2**64 - 1
@@ -192,6 +193,9 @@ class Draws:
             return self.lane(), self.rng.choice(random_runs.CODES)
         if kind == "ready":
             return (self.lane(),)
+        if kind == "do_all":
+            kinds = [self.one_of(IN_ONE) for _ in range(self.rng.choice([0, 1, 2, 2, 3, 5]))]
+            return ([(it, self.given(it, who)) for it in kinds],)
         return (who,) if kind == "cancel_all" else ()
 
 

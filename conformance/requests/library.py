@@ -17,7 +17,7 @@ sys.path.insert(1, str(Path(__file__).resolve().parents[2] / "clients/python"))
 from cf._library import (CAnswer, CArgs, CHandle, COutcome, CReply, CStage, CTask, CValue, GOT, INT, NIL, NO_FUNCTION,  # noqa: E402
                          PENDING, STRUCTURES, THROWN, VALUE)
 
-TELLING = ["apply", "next", "follow", "pass_to", "refuse", "cancel_all"]  # calls with a row for told stages
+TELLING = ["apply", "next", "follow", "pass_to", "refuse", "cancel_all", "do_all"]  # calls with a row for told stages
 LONGEST = 64  # row of told stages
 MARK = 0xA5  # what a row is filled with before a call
 CAUSES = {3: "cancelled", 4: "timeout", 5: "badanswer"}
@@ -47,9 +47,22 @@ class CDeadline(c.Structure):
     _fields_ = [("stage", c.c_uint16), ("moment", c.c_uint64), ("kind", c.c_uint32), ("value", CValue)]
 
 
-OWN = {"cf_request_sizes": CSizes, "cf_told": CTold, "cf_applied": CApplied, "cf_request_step": CRequestStep, "cf_deadline": CDeadline}
+class CCall(c.Structure):
+    _fields_ = [("call", c.c_uint32), ("who", c.c_uint8), ("lane", c.c_uint8), ("stage", c.c_uint16), ("relay", c.c_uint16),
+                ("code", c.c_uint32), ("word", c.c_uint64), ("moment", c.c_uint64), ("kind", c.c_uint32), ("value", CValue),
+                ("reply", CReply), ("task", CTask)]
+
+
+class CDone(c.Structure):
+    _fields_ = [("calls", c.c_size_t), ("told", c.c_size_t)]
+
+
+OWN = {"cf_request_sizes": CSizes, "cf_told": CTold, "cf_applied": CApplied, "cf_request_step": CRequestStep, "cf_deadline": CDeadline,
+       "cf_request_call": CCall, "cf_request_done": CDone}
+IN_ONE = ["apply", "next", "follow", "deadline", "pass_to", "refuse", "cancel_all"]  # the calls of cf_request_do by their numbers
 H, P, U8, U16, U32, U64, SIZE = c.POINTER(CHandle), c.POINTER, c.c_uint8, c.c_uint16, c.c_uint32, c.c_uint64, c.c_size_t
 TOLD = [P(CTold), SIZE]
+ROWS = [TOLD[0], P(CCall)]  # these may be null if they are for none
 CALLS: Dict[str, List[Any]] = {
     "cf_builder_new": [H, U16, U16],
     "cf_builder_stage": [H, U32, P(U16), SIZE, U32, P(U16)],
@@ -70,8 +83,9 @@ CALLS: Dict[str, List[Any]] = {
     "cf_request_told": [H, *TOLD, P(SIZE)],
     "cf_request_ready": [H, U8, P(U16)],
     "cf_request_cancel_all": [H, U8, *TOLD, P(SIZE)],
+    "cf_request_restart": [H],
+    "cf_request_do": [H, P(CCall), SIZE, P(CDone), *TOLD],
 }
-LATER = {"cancel_all": "cf_request_cancel_all"}  # calls of a machine that the library may not have yet
 
 
 def load() -> c.CDLL:
@@ -79,8 +93,6 @@ def load() -> c.CDLL:
     loaded.cf_layout.restype, loaded.cf_layout.argtypes = SIZE, [c.c_char_p]
     loaded.cf_code_name.restype, loaded.cf_code_name.argtypes = c.c_char_p, [U32]
     loaded.cf_free.restype, loaded.cf_free.argtypes = None, [H]
-    for name in [name for name in CALLS if name in LATER.values() and not hasattr(loaded, name)]:
-        del CALLS[name]
     for name, kinds in CALLS.items():
         getattr(loaded, name).restype, getattr(loaded, name).argtypes = U32, kinds
     for name, structure in {**STRUCTURES, **OWN}.items():
@@ -90,7 +102,6 @@ def load() -> c.CDLL:
 
 
 C = load()
-LACKING = [kind for kind, name in LATER.items() if name not in CALLS]
 
 
 def name_of(code: int) -> str:
@@ -296,6 +307,15 @@ class Library:
         finished = None if held is None else FINISHES[task.finished]
         return machine.Next(finished, taken), self.told(step.told, room)
 
+    def do_all(self, room: int, made: Sequence[Tuple[str, Tuple[Any, ...]]]) -> Tuple[Any, machine.Told]:
+        calls, done = (CCall * len(made))(*[call_in(name, given) for name, given in made]), CDone()
+        before = [bytes(call) for call in calls]
+        code = C.cf_request_do(self.request, calls if made else None, len(made), done, *self.mark(room))
+        if any(bytes(call) != was for call, was in list(zip(calls, before))[done.calls:]) or (done.calls < len(made)) != bool(code):
+            raise Difference("rows that aren't done are written, or it isn't said which is refused")
+        answers = [answer_in_row(name, given, call) for (name, given), call in list(zip(made, calls))[:done.calls]]
+        return (answers, NAMES[code] if code else None), self.told(done.told, room)
+
     def follow(self, room: int, relay: int, stage: int) -> Tuple[Any, machine.Told]:
         self.checked(C.cf_request_follow(self.request, relay, stage, *self.mark(room), self.total))
         return None, self.told(self.total.value, room)
@@ -316,12 +336,43 @@ class Library:
         return None, self.told(self.total.value, room)
 
     def restart(self) -> None:
-        """The library has no call for this. So it is a new one."""
-        C.cf_free(self.request)
-        self.open()
+        check(C.cf_request_restart(self.request))
 
     def rest(self) -> None:
         """Does nothing."""
+
+
+def call_in(name: str, given: Tuple[Any, ...]) -> CCall:
+    """A call as a row of cf_request_do. What it isn't given is filled with marks."""
+    row = CCall.from_buffer_copy(bytes([MARK]) * c.sizeof(CCall))
+    row.call = IN_ONE.index(name)
+    if name == "apply":
+        row.word, row.lane = given[0] if isinstance(given[0], int) else histories.word_of(given[0]), given[1]
+    elif name == "next":
+        row.who, row.lane, held = given
+        row.task = CTask() if held is None else CTask(held=1, stage=held[0], answer=answer_in(held[1]))
+    elif name == "follow":
+        row.relay, row.stage = given
+    elif name == "deadline":
+        row.stage, row.moment = given[0].stage, given[0].moment
+        row.kind, row.value = limit_in(given[0].outcome)
+    elif name == "pass_to":
+        row.moment = given[0]
+    elif name == "refuse":
+        row.lane, row.code = given
+    else:
+        row.who = given[0]
+    return row
+
+
+def answer_in_row(name: str, given: Tuple[Any, ...], row: CCall) -> Any:
+    """What a call answers that was done as a row."""
+    if name == "apply":
+        return reply_of(histories.event_of(row.word)[0], row.reply)
+    if name != "next":
+        return None
+    taken = machine.Taken(row.task.stage, row.task.function, args_of(row.task.args)) if row.task.held else None
+    return machine.Next(None if given[2] is None else FINISHES[row.task.finished], taken)
 
 
 def is_pointer(kind: Any) -> bool:
@@ -337,7 +388,7 @@ def check_handles() -> int:
         given = [kind._type_() if is_pointer(kind) else kind() for kind in kinds]
         wanted: List[Tuple[int, Any, str]] = [(0, plan, "WRONG_KIND"), (0, CHandle(), "EMPTY")]
         # a row for no stages may be null
-        wanted += [(place, None, "NULL") for place, kind in enumerate(kinds) if is_pointer(kind) and kind is not TOLD[0]]
+        wanted += [(place, None, "NULL") for place, kind in enumerate(kinds) if is_pointer(kind) and kind not in ROWS]
         for place, pointer, why in wanted:
             told = NAMES[getattr(C, name)(*given[:place], pointer, *given[place + 1:])]
             if told != why:

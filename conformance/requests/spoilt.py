@@ -1,5 +1,5 @@
 """Plain machines, each with one mistake. The random hosts have to tell each of them from the library's machine."""
-from typing import List, Optional, Tuple, Union
+from typing import Any, List, Optional, Sequence, Tuple, Union
 
 import model
 from machine import Answer, Deadline, Event, Follow, Machine, Next, Outcome, Reply, Taken, Told
@@ -199,6 +199,19 @@ class LanesOutliveAStart(Machine):
         kept = getattr(self, "lanes", self.planned)
         super().restart()
         self.lanes = kept
+
+
+class ARefusedCallIsPassedOver(Machine):
+    def do_all(self, made: Sequence[Tuple[str, Tuple[Any, ...]]]) -> Tuple[List[Any], Optional[str]]:
+        answers, why = super().do_all(made)
+        if why is not None:
+            super().do_all(made[len(answers) + 1:])
+        return answers, why
+
+
+class OneCallIsLeftOut(Machine):
+    def do_all(self, made: Sequence[Tuple[str, Tuple[Any, ...]]]) -> Tuple[List[Any], Optional[str]]:
+        return super().do_all(made[:4])
 
 
 MISTAKES = [it for it in list(globals().values()) if isinstance(it, type) and issubclass(it, Machine) and it is not Machine]

@@ -59,8 +59,8 @@
  * answer CF_NO_MEMORY if it is refused: cf_builder_new, cf_builder_stage, cf_builder_limit, cf_build, cf_graph_new,
  * cf_plan_of, cf_desk_open, cf_desk_open_with, cf_desk_notice, cf_close_begin, cf_ledger_new, cf_ledger_of,
  * cf_ledger_apply, cf_ledger_step, cf_ledger_apply_all, cf_ledger_grow, cf_request_new, cf_request_apply,
- * cf_request_next, cf_request_follow, cf_request_deadline, cf_request_pass, cf_request_refuse and cf_run_script. No
- * other call takes any.
+ * cf_request_next, cf_request_follow, cf_request_deadline, cf_request_pass, cf_request_refuse, cf_request_cancel_all,
+ * cf_request_do and cf_run_script. No other call takes any.
  *
  * Codes. Each call answers a cf_code, except cf_free and the last four calls of this header. The code is CF_OK (0)
  * if the call did what it was asked. The comments list the other codes of each call. If several apply, the call
@@ -78,8 +78,8 @@
  *   - cf_next, cf_round, cf_sweep_next, cf_ledger_step and cf_request_next have done their work also if they answer
  *     CF_NOTHING. This code says that no ready stage was left to claim.
  *   - cf_desk_next may have done a part of its work.
- *   - cf_work, cf_desk_complete_many and cf_ledger_apply_all have done their work up to the point where they stopped,
- *     and tell how far they came.
+ *   - cf_work, cf_desk_complete_many, cf_ledger_apply_all and cf_request_do have done their work up to the point where
+ *     they stopped, and tell how far they came.
  *   - cf_build leaves an empty builder behind the handle if it answers CF_NO_MEMORY.
  *   - cf_ledger_of tells the place of a word that can't be done.
  *   - cf_run_script writes the report also if it answers CF_BAD_SCRIPT.
@@ -117,7 +117,7 @@ typedef enum {
   CF_EMPTY = 10,              /* nothing stands behind the handle */
   CF_FULL = 11,               /* something stands behind a handle that has to be empty */
   CF_WRONG_KIND = 12,         /* something of another kind stands behind the handle */
-  CF_NO_SUCH_NUMBER = 13,     /* no form, call of an event, kind of failure or code has this number */
+  CF_NO_SUCH_NUMBER = 13,     /* no form, call of an event or a request, kind of failure or code has this number */
   CF_NO_STAGE = 14,           /* a stage that the call names isn't there */
   CF_BAD_ATTACH = 15,         /* an attached stage doesn't fit its form, or its function isn't one of the desk's */
   CF_ROOM = 16,               /* stages plus room would be over 4,096, or edges plus twice the room over 16,384 */
@@ -1064,6 +1064,48 @@ uint32_t cf_request_told(cf_handle *request, cf_told *told, size_t room, size_t 
  * Code: CF_NO_LANE if there is no such lane. */
 uint32_t cf_request_ready(cf_handle *request, uint8_t lane, uint16_t *ready);
 
+/* Cancels all stages that are open, from the lowest on, by words of a caller.
+ *   - who: the caller, 0 to 63.
+ *   - told, room, n: a row, as said above.
+ *
+ * Codes: CF_NO_MEMORY, and CF_NO_WORD if who is above 63. */
+uint32_t cf_request_cancel_all(cf_handle *request, uint8_t who, cf_told *told, size_t room, size_t *n);
+
+/* Starts the request again, as it was opened: nothing is done, follows or is due, and the moment is 0. The lanes of the
+ * plan's stages, the room and the own caller stay. The request keeps its memory. So it costs less to keep one for the
+ * next request of the plan than to open a new one. Only the stages that are settled from the start are to be told then. */
+uint32_t cf_request_restart(cf_handle *request);
+
+/* A call of a request, as a row for cf_request_do. It asks for the call of its number:
+ *   - CF_DO_APPLY: cf_request_apply, with word and lane. It writes reply.
+ *   - CF_DO_NEXT: cf_request_next, with who, lane and task. It writes task. If no stage of the lane was ready, the task
+ *     holds nothing; that is no refusal here.
+ *   - CF_DO_FOLLOW: cf_request_follow, with relay and stage.
+ *   - CF_DO_DEADLINE: cf_request_deadline, with stage, moment, kind and value.
+ *   - CF_DO_PASS: cf_request_pass, with moment.
+ *   - CF_DO_REFUSE: cf_request_refuse, with lane and code.
+ *   - CF_DO_CANCEL_ALL: cf_request_cancel_all, with who.
+ * All other fields aren't looked at, and stay as they are. */
+enum { CF_DO_APPLY = 0, CF_DO_NEXT = 1, CF_DO_FOLLOW = 2, CF_DO_DEADLINE = 3, CF_DO_PASS = 4, CF_DO_REFUSE = 5, CF_DO_CANCEL_ALL = 6 };
+typedef struct {
+  uint32_t call; uint8_t who; uint8_t lane; uint16_t stage; uint16_t relay; uint32_t code; uint64_t word; uint64_t moment;
+  uint32_t kind; cf_value value; cf_reply reply; cf_task task;
+} cf_request_call;
+
+/* How many of its calls cf_request_do has done, and how many stages there were to tell then. */
+typedef struct { size_t calls; size_t told; } cf_request_done;
+
+/* Makes calls one after another, each as it is made alone, up to the first that is refused. Then it tells, once, the
+ * stages that are settled. So what waits in your program, such as an attach that can have no news, goes with the next
+ * call: a stage that is attached and run takes one call, with a row for cf_request_apply and one for cf_request_next.
+ *   - calls, n: the rows. A row whose call is done gets its answer, and the others stay as they are.
+ *   - done: gets how many were done.
+ *   - told, room: a row, as said above.
+ *
+ * Codes: if a call is refused, its code, or CF_NO_SUCH_NUMBER if there is no such call. The calls before it are done
+ * then, `done` and `told` are written, and the row of the refused call is calls[done->calls]. */
+uint32_t cf_request_do(cf_handle *request, cf_request_call *calls, size_t n, cf_request_done *done, cf_told *told, size_t room);
+
 /* ---- Scripts and texts ---- */
 
 /* Each of these calls writes a text into a buffer of `room` bytes, as far as there is room. It writes the length of
@@ -1095,13 +1137,13 @@ uint32_t cf_code_text(uint32_t code, uint8_t *text, size_t room, size_t *length)
 /* The version of this header. A library of a later version with the same first number has all that stands here,
  * unchanged. */
 #define CF_VERSION_MAJOR 1
-#define CF_VERSION_MINOR 5
+#define CF_VERSION_MINOR 6
 #define CF_VERSION_PATCH 0
 
 /* None of the next four calls answers a cf_code. The texts that they answer are static and end in a zero byte. Your
  * program doesn't free them. */
 
-/* Answers the version of the library, such as "1.5.0". */
+/* Answers the version of the library, such as "1.6.0". */
 const char *cf_version(void);
 
 /* Answers whether a program that was written for this version of the header runs with the library. */

@@ -1,15 +1,17 @@
 //! One request of a service as a machine, which tells each settled stage once.
 ghost use Rattle.cf_c_handles.specs.Building.{kind_of};
 ghost use Rattle.cf_c_handles.specs.Handles.{HandleDoes, HandleOpens, HandleTells, HandleWrites};
-ghost use Rattle.cf_c_handles.specs.RequestCalls.{AppliesIn, FollowsIn, GoesOnIn, OfRequest, PassesIn, RefusesIn, SetsDeadlineIn, TellsIn, TellsNextIn, TellsReadyOf};
+ghost use Rattle.cf_c_handles.specs.RequestCalls.{AppliesIn, CancelsIn, FollowsIn, GoesOnIn, OfRequest, PassesIn, RefusesIn, RestartsIn, SetsDeadlineIn, TellsIn, TellsNextIn, TellsReadyOf};
+ghost use Rattle.cf_c_handles.specs.RequestRows.{DoesCallsIn};
 ghost use Rattle.cf_c_handles.specs.Requests.{RequestOf};
 
 use crate::handle::{ask, tell};
 use cf_c_handles::code::Code;
 use cf_c_handles::handle::{CfHandle, fill};
 use cf_c_handles::plan::kind_of;
-use cf_c_handles::request::{asking, doing, request_of};
+use cf_c_handles::request::{asking, doing, request_of, row};
 use cf_c_handles::values::CfValue;
+use cf_c_handles::values::call::{CfRequestCall, CfRequestDone};
 use cf_c_handles::values::request::{CfApplied, CfDeadline, CfRequestSizes, CfRequestStep, CfTold};
 use cf_c_handles::values::task::CfTask;
 use cf_request::Deadline;
@@ -168,4 +170,41 @@ pub extern "C" fn cf_request_ready(
     ensures { HandleTells (OfRequest (TellsReadyOf lane)) h.old h.new result ready.old ready.new }
 {
     tell!(alloc, h, ready, held => asking::ready(&mut held, lane))
+}
+
+/// Cancels all stages that are open. Tells the stages that are settled.
+#[unsafe(no_mangle)]
+pub extern "C" fn cf_request_cancel_all(
+    alloc: Global,
+    h: &mut CfHandle,
+    who: u8,
+    told: &mut [CfTold],
+    n: &mut usize,
+) -> u32
+    ensures { HandleWrites (CancelsIn who) h.old h.new result (told.old, n.old) (told.new, n.new) }
+{
+    ask!(alloc, h, held => doing::cancel_all(&mut held, who, told, n))
+}
+
+/// Starts again. It takes no memory.
+#[unsafe(no_mangle)]
+pub extern "C" fn cf_request_restart(alloc: Global, h: &mut CfHandle) -> u32
+    ensures { HandleDoes RestartsIn h.old h.new result }
+{
+    ask!(alloc, h, held => doing::restart(&mut held))
+}
+
+/// Makes calls one after another, up to the first that is refused. Then it tells how many were done, and the stages that are
+/// settled.
+#[unsafe(no_mangle)]
+pub extern "C" fn cf_request_do(
+    alloc: Global,
+    h: &mut CfHandle,
+    calls: &mut [CfRequestCall],
+    done: &mut CfRequestDone,
+    told: &mut [CfTold],
+) -> u32
+    ensures { HandleWrites DoesCallsIn h.old h.new result (calls.old, done.old, told.old) (calls.new, done.new, told.new) }
+{
+    ask!(alloc, h, held => row::do_calls(&mut held, calls, done, told))
 }

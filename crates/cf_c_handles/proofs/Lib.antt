@@ -7,6 +7,7 @@ pub mod DeskSteps
 pub mod EventsBack
 pub mod LedgerSteps
 pub mod News
+pub mod RequestRows
 pub mod Requests
 pub mod Restarts
 pub mod Rounds

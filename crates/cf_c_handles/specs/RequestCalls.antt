@@ -3,7 +3,7 @@ use Rattle.std.specs.Prelude.{◌≡◌, ◌⊎◌, ℕ, ◌<◌, ◌≤◌, Res
 use Rattle.cf_model.specs.declared.events.Reply.{Reply}
 use Rattle.cf_request.specs.Deadlines.{Forgets, IsNextOpen, NoneOpen}
 use Rattle.cf_request.specs.Lanes.{ready_below}
-use Rattle.cf_request.specs.Machines.{AppliesWord, GoesOn, IsNoDeadline, IsNoFollow, IsNoNext, IsNoPass, IsNoWord, Machine, OnlyFinds, Passes, Refuses, SetsDeadline, SetsFollow, free_in, open_in, state_in}
+use Rattle.cf_request.specs.Machines.{AppliesWord, CancelsAll, GoesOn, IsNoCancel, IsNoDeadline, IsNoFollow, IsNoNext, IsNoPass, IsNoWord, Machine, OnlyFinds, Passes, Refuses, Restarts, SetsDeadline, SetsFollow, free_in, open_in, state_in}
 use Rattle.cf_request.specs.declared.deadlines.Deadline.{Deadline}
 use Rattle.cf_request.specs.declared.faults.MachineFault.{MachineFault}
 use Rattle.cf_request.specs.declared.faults.MachineFault.TheVariants as faults
@@ -84,6 +84,12 @@ abbrev pub RefusesIn : ℕ → ℕ → Object → List CfTold × ℕ → Result 
 RefusesIn lane code (Request m) had r new has = IfLane lane m r new (has ≡ had) (TellsAfter (Refuses lane code) IsNoRefusal (Request m) had r new has)
 RefusesIn lane code held had r new has = (r ≡ Err WrongKind) × (new ≡ held) × (has ≡ had)
 
+-- all that is open is cancelled, or nothing is
+abbrev pub CancelsIn : ℕ → Object → List CfTold × ℕ → Result (Unit {0}) Code → Object → List CfTold × ℕ → Type 0
+CancelsIn who (Request m) had (Ok done) new has = DoesAndTells (CancelsAll who) m new had has
+CancelsIn who (Request m) had (Err code) new has = IsDueAs step_code (IsNoCancel who m) code × StaysButFinds m new × (has ≡ had)
+CancelsIn who held had r new has = (r ≡ Err WrongKind) × (new ≡ held) × (has ≡ had)
+
 abbrev pub TellsIn : Object → List CfTold × ℕ → Result (Unit {0}) Code → Object → List CfTold × ℕ → Type 0
 TellsIn = TellsAfter (λ old new. new ≡ old) (λ m fault. ⊥)
 
@@ -126,13 +132,16 @@ pub record HasGoneOn (old : Machine) (r : Result (Unit {0}) Code) (new : Object)
 pub record IsNotGone (old : Machine) (r : Result (Unit {0}) Code) (new : Object) (had has : CfRequestStep × CfTask × List CfTold) : Type 0 where
   pub code : Code
   pub is : r ≡ Err code
-  pub refused : IsDueAs step_code (IsNoNext had.0.who (held_by had.1) old) code
+  pub refused : IsDueAs step_code (IsNoNext had.0.who had.0.lane (held_by had.1) old) code
   pub stays : StaysButFinds old new
   pub same : has ≡ had
 
 -- it is done, also if nothing was claimed, or refused for a fault that is due
+abbrev pub GoesOnOrNot : Machine → CfRequestStep × CfTask × List CfTold → Result (Unit {0}) Code → Object → CfRequestStep × CfTask × List CfTold → Type 0
+GoesOnOrNot m had r new has = HasGoneOn m r new had has ⊎ IsNotGone m r new had has
+
 abbrev pub GoesOnIn : Object → CfRequestStep × CfTask × List CfTold → Result (Unit {0}) Code → Object → CfRequestStep × CfTask × List CfTold → Type 0
-GoesOnIn (Request m) had r new has = IfLane had.0.lane m r new (has ≡ had) (HasGoneOn m r new had has ⊎ IsNotGone m r new had has)
+GoesOnIn (Request m) had r new has = IfLane had.0.lane m r new (has ≡ had) (GoesOnOrNot m had r new has)
 GoesOnIn held had r new has = (r ≡ Err WrongKind) × (new ≡ held) × (has ≡ had)
 
 -- ---- calls that tell no stages
@@ -141,6 +150,11 @@ abbrev pub SetsDeadlineIn : Deadline → Object → Result (Unit {0}) Code → O
 SetsDeadlineIn d (Request m) (Ok done) new = (now : Machine) × SetsDeadline d m now × (new ≡ Request now)
 SetsDeadlineIn d (Request m) (Err code) new = IsDueAs machine_code (IsNoDeadline d (state_in m)) code × (new ≡ Request m)
 SetsDeadlineIn d held r new = (r ≡ Err WrongKind) × (new ≡ held)
+
+-- it is as it was opened
+abbrev pub RestartsIn : Object → Result (Unit {0}) Code → Object → Type 0
+RestartsIn (Request m) r new = (r ≡ Ok tt) × ((now : Machine) × Restarts m now × (new ≡ Request now))
+RestartsIn held r new = (r ≡ Err WrongKind) × (new ≡ held)
 
 -- a request is asked this, and stays
 abbrev pub OfRequest : {X : Type 0} → (Machine → Result X Code → Type 0) → Object → Result X Code → Object → Type 0

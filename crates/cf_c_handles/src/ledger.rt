@@ -61,6 +61,7 @@ pub fn ledger_from(
 }
 
 /// The code of the fault for which a word isn't done.
+#[inline(always)]
 pub(crate) fn word_code(fault: LedgerFault) -> Code
     ensures { result ≡ word_code fault }
 {

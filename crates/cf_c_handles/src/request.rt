@@ -8,6 +8,7 @@ ghost use Rattle.cf_c_handles.specs.Requests.{AreBelow, AreLanes, RequestOf, Tel
 
 pub mod asking;
 pub mod doing;
+pub mod row;
 
 use crate::code::Code;
 use crate::handle::object::Object;
@@ -62,6 +63,7 @@ fn are_below(count: u8, lanes: &[u8]) -> bool
 }
 
 /// The code of the fault for which a machine does nothing.
+#[inline(always)]
 fn machine_code(fault: MachineFault) -> Code
     ensures { result ≡ machine_code fault }
 {
@@ -73,6 +75,7 @@ fn machine_code(fault: MachineFault) -> Code
 }
 
 /// Writes the stages that are told as far as the row reaches, and takes these. It tells how many were told.
+#[inline(always)]
 #[tactic(auto, using(crate::proofs::Requests::takes_so_many))]
 fn tell_into(machine: &mut Machine, row: &mut [CfTold]) -> usize
     ensures { TellsInto machine.old row.old row.new result machine.new }
@@ -83,6 +86,7 @@ fn tell_into(machine: &mut Machine, row: &mut [CfTold]) -> usize
 }
 
 /// Writes the stages that are told as far as the row reaches. It tells how many they are.
+#[inline(always)]
 fn write_told(machine: &Machine, row: &mut [CfTold]) -> usize
     ensures given { AreWritten (told_in (state_in machine.now)) machine.now.teller.told row.old row.new }
     ensures count { result ≡ length machine.now.teller.told }
@@ -93,6 +97,7 @@ fn write_told(machine: &Machine, row: &mut [CfTold]) -> usize
 }
 
 /// Writes these stages with their outcomes, as far as the row reaches.
+#[inline(always)]
 fn write_stages(ledger: &Ledger, stages: &[u16], row: &mut [CfTold])
     ensures { AreWritten (told_in (state_of ledger.now)) stages.now row.old row.new }
 {
@@ -103,6 +108,7 @@ fn write_stages(ledger: &Ledger, stages: &[u16], row: &mut [CfTold])
 }
 
 /// Writes a stage with its outcome; one that isn't there has none.
+#[inline(always)]
 #[tactic(auto, using(crate::proofs::Requests::none_there))]
 fn put_stage(told: &mut CfTold, ledger: &Ledger, stage: u16)
     ensures { told.new ≡ told_in (state_of ledger.now) stage }

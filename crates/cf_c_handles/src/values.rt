@@ -6,6 +6,7 @@ ghost use Rattle.cf_c_handles.specs.Replies.{as_reply, finish_number, reply_with
 ghost use Rattle.cf_c_handles.specs.Values.{answer_of, answer_with, args_with, as_answer, as_args, as_fault, as_now, as_outcome, as_value, cause_of, no_fault, outcome_of, value_of};
 
 pub mod attaching;
+pub mod call;
 pub mod event;
 pub mod request;
 pub mod stage;
@@ -352,6 +353,17 @@ pub(crate) fn put_claim(reply: &mut CfReply, told: Claimed)
         Claimed::Settled => reply.answer = 1,
         Claimed::Taken => reply.answer = 2,
         Claimed::NotReady => reply.answer = 3,
+    }
+}
+
+/// Writes a reply, and that of a claim as `put_claim` does.
+#[inline(always)]
+pub(crate) fn put_reply(out: &mut CfReply, reply: Reply)
+    ensures { out.new ≡ as_reply reply }
+{
+    match reply {
+        Reply::Claim(told) => put_claim(out, told),
+        other => *out = as_reply(other),
     }
 }
 

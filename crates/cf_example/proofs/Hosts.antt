@@ -107,7 +107,7 @@ last_turn once behind calls wakes who lane a b m f w None ts turns is turn none 
 
 -- one is refused
 pub refused_turn : {F W : Type 0} → RunsOnce → AddsBehind → (calls : CallsOf F) (wakes : WakesOf W) (who lane : ℕ) (a b : Now F W) (m : Machine) (f : F) (w : W) (fault : StepFault) (ts : List Taken) → AreTurns calls wakes who lane a ts b →
-    OnlyFinds b.machine m → f ≡ b.functions → w ≡ b.waiters → IsNoNext who b.held b.machine fault → RunsUntil calls wakes who lane a fault (record { machine = m; functions = f; waiters = w; held = b.held })
+    OnlyFinds b.machine m → f ≡ b.functions → w ≡ b.waiters → IsNoNext who lane b.held b.machine fault → RunsUntil calls wakes who lane a fault (record { machine = m; functions = f; waiters = w; held = b.held })
 refused_turn {F} {W} once behind calls wakes who lane a b m f w fault ts turns finds same_f same_w why = record {
   before = b;
   runs = runs_on once behind calls wakes who lane ts a b turns;

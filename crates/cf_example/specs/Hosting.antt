@@ -94,7 +94,7 @@ pub record RunsUntil {F W : Type 0} (calls : CallsOf F) (wakes : WakesOf W) (who
   pub runs : RunsOn calls wakes who lane a before
   pub refused : OnlyFinds before.machine b.machine
   pub same : b ≡ record before { machine = b.machine }
-  pub why : IsNoNext who before.held before.machine fault
+  pub why : IsNoNext who lane before.held before.machine fault
 
 -- what a turn gives: what is held then, if a stage was claimed
 abbrev pub Turns : {F W : Type 0} → CallsOf F → WakesOf W → ℕ → ℕ → Now F W → Now F W → Option Held → Type 0

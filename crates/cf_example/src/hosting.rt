@@ -81,7 +81,7 @@ fn turn<F: Functions, W: Waiters>(
     ensures refused { OnErr result (OnlyFinds machine.old machine.new) }
     ensures functions { OnErr result (functions.new ≡ functions.old) }
     ensures waiters { OnErr result (waiters.new ≡ waiters.old) }
-    ensures why { IfErr result (λ fault. IsNoNext who held machine.old fault) }
+    ensures why { IfErr result (λ fault. IsNoNext who lane held machine.old fault) }
 {
     let next = machine.next(who, lane, held)?;
     hand_out(machine, waiters);

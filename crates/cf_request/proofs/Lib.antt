@@ -3,8 +3,10 @@ pub mod Telling
 pub mod Words
 pub mod Sets
 pub mod Turns
+pub mod Behind
 pub mod Moments
 pub mod Memory
 pub mod Later
+pub mod Restarts
 pub mod Rows
 pub mod Machines

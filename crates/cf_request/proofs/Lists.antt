@@ -41,6 +41,18 @@ filter_from p (x ∷ xs) (suc k) d l =
     let next : suc (k + 1) ≡ suc k + 1 = omega arith in
     subst (λ (m : ℕ). filter p (drop k xs) ≡ cond (p (get_or xs k d)) (get_or xs k d ∷ filter p (drop m (x ∷ xs))) (filter p (drop m (x ∷ xs)))) next (filter_from p xs k d (omega (arith, l)))
 
+abbrev pub weigh : Bool → ℕ
+weigh b = cond b 1 0
+
+-- how long either is
+pub length_cond : (b : Bool) (x : ℕ) (xs : List ℕ) → length (cond b (x ∷ xs) xs) ≡ cond b 1 0 + length xs
+length_cond true x xs = omega arith
+length_cond false x xs = omega arith
+
+pub length_one : (b : Bool) (x : ℕ) → length (cond b (x ∷ []) []) ≡ cond b 1 0
+length_one true x = refl
+length_one false x = refl
+
 -- ---- rising
 
 pub climbing_push : (xs : List ℕ) (m : ℕ) → IsClimbing xs → All (λ x. x < m) xs → IsClimbing (xs ++ m ∷ [])

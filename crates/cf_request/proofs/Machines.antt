@@ -1,34 +1,45 @@
 -- What a machine keeps.
-use Rattle.std.proofs.Common.{◌≡◌, ℕ, zero, suc, ◌<◌, ◌≤◌, true, Option, Some, None, List, [], ◌∷◌, ◌++◌, length, refl, ap, set, sym, ◌∙◌, subst}
-use Rattle.std.specs.Prelude.{is_some, slice_get, unwrap_or}
-use Rattle.std.proofs.lemmas.List.Elements.{All-push, All-weaker}
+use Rattle.std.proofs.Common.{◌≡◌, ℕ, zero, suc, ◌+◌, ◌-◌, ◌<◌, ◌≤◌, Bool, true, false, arith, replicate, cond, inl, inr, Option, Some, None, List, [], ◌∷◌, ◌++◌, length, length-append, refl, ap, set, sym, ◌∙◌, subst}
+use Rattle.std.specs.Prelude.{◌==◌, ◌&&◌, Err, IfNone, IfOk, Ok, Result, is_some, not, slice_get, unwrap_or}
+use Rattle.std.specs.List.{filter}
+use Rattle.std.proofs.Math.Nat.{le-max_left}
+use Rattle.std.proofs.lemmas.Bool.{cases_lt, eq-eqb}
+use Rattle.std.proofs.lemmas.List.{length-replicate, length-set}
+use Rattle.std.proofs.lemmas.List.Elements.{All-nil, All-push, All-weaker}
 use Rattle.cf_forms.specs.declared.forms.Args.{Args}
 use Rattle.cf_model.specs.declared.events.Event.TheVariants.{Claim as Claims, Finish as Finishes}
 use Rattle.cf_model.specs.declared.events.Reply.{Reply}
 use Rattle.cf_model.specs.declared.events.Reply.TheVariants.{Claim as ToldClaim, Finish as ToldFinish}
 use Rattle.cf_model.specs.declared.replies.Claimed.TheVariants.{Granted}
 use Rattle.cf_model.specs.Events.{claimed_by}
-use Rattle.cf_model.specs.States.{State, outcome_in, outcome_of, stage_at}
+use Rattle.cf_model.specs.Graphs.{stage_in}
+use Rattle.cf_model.specs.States.{State, is_ready, outcome_in, outcome_of, stage_at}
 use Rattle.cf_model.specs.declared.stage.Stage.{Stage}
 use Rattle.cf_model.specs.declared.stage.Stage.TheVariants.{Pending, Ready, Claimed, Linked, Settled}
-use Rattle.cf_ledger.specs.Ledgers.{state_of}
+use Rattle.cf_ledger.specs.Ledgers.{IsShort, LedgerRefuses, state_of}
+use Rattle.cf_ledger.specs.declared.faults.LedgerFault.{LedgerFault}
+use Rattle.cf_ledger.specs.declared.faults.LedgerFault.TheVariants.{NoMemory, NoEvent, NoStage, NoRoom}
 use Rattle.cf_ledger.specs.Steps.{finished_as}
 use Rattle.cf_ledger.specs.declared.step.Finish.{Finish}
 use Rattle.cf_ledger.specs.declared.step.Held.{Held}
 use Rattle.cf_ledger.specs.declared.step.Taken.{Taken}
 use Rattle.cf_request.specs.Deadlines.{Forgets, Sets}
-use Rattle.cf_request.specs.Lanes.{FinishesHeld, NoneReadyIn, TakesIn}
-use Rattle.cf_request.specs.Machines.{CancelsAll, CatchesUp, IsMachine, Machine, Refuses, open_in}
-use Rattle.cf_request.specs.Ready.{Lanes}
+use Rattle.cf_request.specs.Lanes.{FinishesHeld, IsIdle, NoneReadyIn, TakesIn, ready_below}
+use Rattle.cf_request.specs.Machines.{CancelsAll, CatchesUp, GoesOn, IsMachine, IsNoWord, Machine, Refuses, open_in, state_in}
+use Rattle.cf_request.specs.Ready.{Lanes, lane_of}
 use Rattle.cf_request.specs.Refusals.{AllSettled, IsCancelled, IsRefused}
-use Rattle.cf_request.specs.Relays.{IsRelayDue, IsRelayOr, NoneBehind}
+use Rattle.cf_request.specs.Relays.{AreBehindBy, AreLookedAt, AreMarked, AreRelays, AreThere, IsRelayDue, IsRelayOr, NoneBehind, is_in_flags, waiting_of}
 use Rattle.cf_request.specs.Settling.{SettlesDue}
 use Rattle.cf_request.specs.Telling.{Teller, Tells, TellsEvent, is_settled_in, with_memory}
 use Rattle.cf_request.specs.declared.deadlines.Deadline.{Deadline}
+use Rattle.cf_request.specs.declared.machine.Next.{Next}
 use Rattle.cf_request.specs.declared.relays.Follow.{Follow}
 use Rattle.cf_request.specs.declared.settling.Due.{Due}
+use Rattle.cf_request.proofs.Lists.{weigh}
+use Rattle.cf_request.proofs.Memory.{relays_stay, spends_held, spends_word}
 use Rattle.cf_request.proofs.Moments.{set_left, set_more}
-use Rattle.cf_request.proofs.Turns.{Keeps, after_event, follows_kept, follows_word, keeps_dues, keeps_event, keeps_memory, keeps_same, limits_kept, limits_word}
+use Rattle.cf_request.proofs.Behind.{behind_more, looked_held, looked_none, looked_word, marked_more, stay_word}
+use Rattle.cf_request.proofs.Turns.{Keeps, StaySettled, after_event, dues_none, follows_kept, follows_word, keeps_dues, keeps_event, keeps_memory, keeps_same, keeps_then, limits_kept, limits_word}
 use Rattle.cf_request.proofs.Words.{none_lost}
 
 pub kept_by : (a b : Teller) (follows : List Follow) (deadlines : List Deadline) (own : ℕ) → Keeps a b → IsMachine a follows deadlines own → IsMachine b follows deadlines own
@@ -59,6 +70,145 @@ pub kept_dues : (P : State → Due → Type 0) (who : ℕ) (a b : Teller) (follo
     IsMachine b follows deadlines own
 kept_dues P who a b follows deadlines own h m = kept_by a b follows deadlines own (keeps_dues P who a b h) m
 
+-- ---- relays that are open
+
+pub relays_first : (stages : List Stage) (follows : List Follow) (flags : List Bool) (waiting : ℕ) → follows ≡ [] → flags ≡ replicate 4096 false → waiting ≡ 0 → AreRelays stages follows flags waiting
+relays_first stages follows flags waiting none clear first =
+    subst (λ (l : List Follow). AreRelays stages l flags waiting) (sym none) (record {
+      flags = ap (λ (l : List Bool). length l) clear ∙ length-replicate 4096 false;
+      marked = All-nil (λ (f : Follow). is_in_flags flags f.stage ≡ true);
+      most = omega (arith, first);
+      few = omega (arith, first);
+    })
+
+-- what is settled stays so, and then no more relays are open
+pub relays_later : (old new : List Stage) (follows : List Follow) (flags : List Bool) (waiting : ℕ) → StaySettled old new → AreRelays old follows flags waiting → AreRelays new follows flags waiting
+relays_later old new follows flags waiting stay h = record {
+  flags = h.flags;
+  marked = h.marked;
+  most = (let fewer = relays_stay follows old new stay in let most = h.most in omega (arith, fewer, most));
+  few = h.few;
+}
+
+-- what is to hold where relays are settled
+pub record MayCatchUp (t : Teller) (follows : List Follow) (flags : List Bool) (waiting seen words : ℕ) : Type 0 where
+  pub there : AreThere (state_of t.ledger) follows
+  pub marked : AreMarked flags follows
+  pub seen_is : AreLookedAt seen t.told follows (state_of t.ledger).stages
+  pub open_few : length (waiting_of (state_of t.ledger).stages follows) ≤ waiting
+  pub memory : words + length (waiting_of (state_of t.ledger).stages follows) ≤ t.ledger.free
+
+none_found : (words : ℕ) (a r : Teller) (follows : List Follow) → r ≡ with_memory words a → NoneBehind follows (state_of a.ledger).stages → NoneBehind follows (state_of r.ledger).stages
+none_found words a r follows is h = subst (λ (t : Teller). NoneBehind follows (state_of t.ledger).stages) (sym is) h
+
+pub may_word : (words : ℕ) (a r b : Teller) (word : ℕ) (reply : Reply) (row follows : List Follow) (deadlines : List Deadline) (own : ℕ) (flags : List Bool) (waiting seen : ℕ) → row ≡ follows → IsMachine a follows deadlines own →
+    NoneBehind follows (state_of a.ledger).stages → AreRelays (state_of a.ledger).stages follows flags waiting → r ≡ with_memory words a → seen ≡ length r.told → waiting ≤ r.ledger.free - 1 → Tells word r reply b → MayCatchUp b row flags waiting seen 0
+may_word words a r b word reply row follows deadlines own flags waiting seen rows machine none relays found at enough tells =
+    let first = relays_later (state_of a.ledger).stages (state_of r.ledger).stages follows flags waiting (keeps_memory words a r found).settled relays in
+    let last = relays_later (state_of r.ledger).stages (state_of b.ledger).stages follows flags waiting (stay_word r b word reply tells) first in
+    let most = last.most in
+    let one = spends_word word r b reply tells in
+    subst (λ (l : List Follow). MayCatchUp b l flags waiting seen 0) (sym rows) (record {
+      there = (kept_word words a r b word reply follows deadlines own machine found tells).relays;
+      marked = relays.marked;
+      seen_is = looked_word seen follows r b word reply tells (looked_none seen r.told follows (state_of r.ledger).stages at (none_found words a r follows found none));
+      open_few = most;
+      memory = omega (arith, most, one, enough);
+    })
+
+free_found : (words : ℕ) (a r : Teller) → r ≡ with_memory words a → a.ledger.free ≤ r.ledger.free
+free_found words a r is = let same = ap (λ (t : Teller). t.ledger.free) is in let more = le-max_left a.ledger.free words in omega (arith, same, more)
+
+-- why a word isn't done, where no memory was found for it
+pub no_word : (words word : ℕ) (m : Machine) (r : Teller) (fault : LedgerFault) → r ≡ with_memory words m.teller → LedgerRefuses (state_of r.ledger) word fault → IsShort r.ledger.free fault → IsNoWord word m fault
+no_word words word m r NoMemory is refused short = let found = free_found words m.teller r is in omega (arith, found, short)
+no_word words word m r NoEvent is refused short = subst (λ (t : Teller). LedgerRefuses (state_of t.ledger) word NoEvent) is refused
+no_word words word m r NoStage is refused short = subst (λ (t : Teller). LedgerRefuses (state_of t.ledger) word NoStage) is refused
+no_word words word m r NoRoom is refused short = subst (λ (t : Teller). LedgerRefuses (state_of t.ledger) word NoRoom) is refused
+
+-- what is kept, once relays are settled
+pub kept_all : (P : State → Due → Type 0) (who : ℕ) (a b : Teller) (row follows : List Follow) (deadlines : List Deadline) (own : ℕ) (flags : List Bool) (waiting now : ℕ) (stages : List Stage) → row ≡ follows → SettlesDue P who a b →
+    IsMachine a follows deadlines own → AreRelays stages follows flags waiting → NoneBehind row (state_of b.ledger).stages → length (waiting_of (state_of b.ledger).stages row) ≤ now → now ≤ waiting →
+    IsMachine b follows deadlines own × NoneBehind follows (state_of b.ledger).stages × AreRelays (state_of b.ledger).stages follows flags now
+kept_all P who a b row follows deadlines own flags waiting now stages rows h m relays none most fewer =
+    let few = relays.few in (
+      kept_dues P who a b follows deadlines own h m,
+      subst (λ (l : List Follow). NoneBehind l (state_of b.ledger).stages) rows none,
+      record { flags = relays.flags; marked = relays.marked; most = subst (λ (l : List Follow). length (waiting_of (state_of b.ledger).stages l) ≤ now) rows most; few = omega (arith, few, fewer) },
+    )
+
+pub kept_rest : (P : State → Due → Type 0) (who words : ℕ) (a r b : Teller) (row follows : List Follow) (deadlines : List Deadline) (own : ℕ) (flags : List Bool) (waiting : ℕ) → row ≡ follows → r ≡ with_memory words a → SettlesDue P who r b →
+    IsMachine a follows deadlines own → AreRelays (state_of a.ledger).stages follows flags waiting → NoneBehind row (state_of b.ledger).stages →
+    IsMachine b follows deadlines own × NoneBehind follows (state_of b.ledger).stages × AreRelays (state_of b.ledger).stages follows flags waiting
+kept_rest P who words a r b row follows deadlines own flags waiting rows found h m relays none = (
+  kept_dues P who r b follows deadlines own h (kept_memory words a r follows deadlines own found m),
+  subst (λ (l : List Follow). NoneBehind l (state_of b.ledger).stages) rows none,
+  relays_later (state_of a.ledger).stages (state_of b.ledger).stages follows flags waiting (keeps_then a r b (keeps_memory words a r found) (keeps_dues P who r b h)).settled relays,
+)
+
+-- what is to hold where stages are settled that are due
+pub marked_row : (row follows : List Follow) (flags : List Bool) → row ≡ follows → AreMarked flags follows → AreMarked flags row
+marked_row row follows flags rows h = subst (λ (l : List Follow). AreMarked flags l) (sym rows) h
+
+pub none_row : (words : ℕ) (a r : Teller) (row follows : List Follow) → row ≡ follows → r ≡ with_memory words a → NoneBehind follows (state_of a.ledger).stages → NoneBehind row (state_of r.ledger).stages
+none_row words a r row follows rows found h = subst (λ (l : List Follow). NoneBehind l (state_of r.ledger).stages) (sym rows) (none_found words a r follows found h)
+
+-- ---- one more relay
+
+pub kept_follow : (t : Teller) (follows : List Follow) (deadlines : List Deadline) (own : ℕ) (f : Follow) → IsMachine t follows deadlines own → f.relay < length (state_of t.ledger).plan.stages →
+    f.stage < length (state_of t.ledger).plan.stages → IsMachine t (follows ++ f ∷ []) deadlines own
+kept_follow t follows deadlines own f h relay stage = record {
+  relays = All-push (λ (f : Follow). (f.relay < length (state_of t.ledger).plan.stages) × (f.stage < length (state_of t.ledger).plan.stages)) follows f h.relays (relay, stage);
+  limits = h.limits;
+  caller = h.caller;
+}
+
+push_first : (b : Bool) (f : Follow) → length (cond b (f ∷ []) []) ≤ 1
+push_first true f = omega arith
+push_first false f = omega arith
+
+push_by : (b : Bool) (x : Follow) (new old : List Follow) → length new ≤ length old + 1 → length (cond b (x ∷ new) new) ≤ length (cond b (x ∷ old) old) + 1
+push_by true x new old l = omega (arith, l)
+push_by false x new old l = l
+
+filter_push : (p : Follow → Bool) (xs : List Follow) (f : Follow) → length (filter p (xs ++ f ∷ [])) ≤ length (filter p xs) + 1
+filter_push p [] f = push_first (p f) f
+filter_push p (x ∷ xs) f = push_by (p x) x (filter p (xs ++ f ∷ [])) (filter p xs) (filter_push p xs f)
+
+relays_push : (stages : List Stage) (follows : List Follow) (flags now : List Bool) (waiting : ℕ) (f : Follow) → AreRelays stages follows flags waiting → f.stage < length flags → now ≡ set flags f.stage true → AreRelays stages (follows ++ f ∷ []) now (waiting + 1)
+relays_push stages follows flags now waiting f h l is =
+    let more = filter_push (λ (g : Follow). not (is_settled_in stages g.relay)) follows f in
+    let most = h.most in
+    let few = h.few in
+    let size = length-append follows (f ∷ []) in
+    record {
+      flags = ap (λ (xs : List Bool). length xs) is ∙ length-set flags f.stage true ∙ h.flags;
+      marked = subst (λ (xs : List Bool). AreMarked xs (follows ++ f ∷ [])) (sym is) (marked_more flags follows f l h.marked);
+      most = omega (arith, more, most);
+      few = omega (arith, few, size);
+    }
+
+-- what is to hold where a stage has just got a follower
+pub record MayFollow (t : Teller) (follows : List Follow) (flags : List Bool) (waiting stage : ℕ) (deadlines : List Deadline) (own : ℕ) : Type 0 where
+  pub machine : IsMachine t follows deadlines own
+  pub seen_is : AreBehindBy (stage ∷ []) follows (state_of t.ledger).stages
+  pub relays : AreRelays (state_of t.ledger).stages follows flags waiting
+  pub memory : length (waiting_of (state_of t.ledger).stages follows) ≤ t.ledger.free
+
+pub may_follow : (words : ℕ) (a r : Teller) (row follows : List Follow) (deadlines : List Deadline) (own : ℕ) (flags now : List Bool) (waiting : ℕ) (f : Follow) → row ≡ follows ++ f ∷ [] → IsMachine a follows deadlines own →
+    NoneBehind follows (state_of a.ledger).stages → AreRelays (state_of a.ledger).stages follows flags waiting → r ≡ with_memory words a → 1 + waiting ≤ r.ledger.free → now ≡ set flags f.stage true → f.relay < length (state_of r.ledger).plan.stages →
+    f.stage < length (state_of r.ledger).plan.stages → f.stage < length flags → MayFollow r row now (waiting + 1) f.stage deadlines own
+may_follow words a r row follows deadlines own flags now waiting f rows machine none relays found enough is relay stage flag =
+    let first = relays_later (state_of a.ledger).stages (state_of r.ledger).stages follows flags waiting (keeps_memory words a r found).settled relays in
+    let last = relays_push (state_of r.ledger).stages follows flags now waiting f first flag is in
+    let most = last.most in
+    subst (λ (l : List Follow). MayFollow r l now (waiting + 1) f.stage deadlines own) (sym rows) (record {
+      machine = kept_follow r follows deadlines own f (kept_memory words a r follows deadlines own found machine) relay stage;
+      seen_is = behind_more follows f (state_of r.ledger).stages (none_found words a r follows found none);
+      relays = last;
+      memory = omega (arith, most, enough);
+    })
+
 -- ---- a step of a caller
 
 pub keeps_held : (who : ℕ) (held : Option Held) (old : Teller) (finish : Option Finish) (new : Teller) → FinishesHeld who held old finish new → Keeps old new
@@ -76,6 +226,22 @@ pub kept_finish : (words : ℕ) (a r b : Teller) (who : ℕ) (held : Option Held
     r ≡ with_memory words a → FinishesHeld who held r finish b → IsMachine b follows deadlines own
 kept_finish words a r b who held finish follows deadlines own h found done =
     kept_by r b follows deadlines own (keeps_held who held r finish b done) (kept_memory words a r follows deadlines own found h)
+
+pub may_held : (words : ℕ) (a r b : Teller) (who : ℕ) (held : Option Held) (finish : Option Finish) (row follows : List Follow) (deadlines : List Deadline) (own : ℕ) (flags : List Bool) (waiting seen : ℕ) → row ≡ follows →
+    IsMachine a follows deadlines own → NoneBehind follows (state_of a.ledger).stages → AreRelays (state_of a.ledger).stages follows flags waiting → r ≡ with_memory words a → seen ≡ length r.told → 2 + waiting ≤ r.ledger.free →
+    FinishesHeld who held r finish b → MayCatchUp b row flags waiting seen 1
+may_held words a r b who held finish row follows deadlines own flags waiting seen rows machine none relays found at enough done =
+    let first = relays_later (state_of a.ledger).stages (state_of r.ledger).stages follows flags waiting (keeps_memory words a r found).settled relays in
+    let last = relays_later (state_of r.ledger).stages (state_of b.ledger).stages follows flags waiting (keeps_held who held r finish b done).settled first in
+    let most = last.most in
+    let one = spends_held who held r finish b done in
+    subst (λ (l : List Follow). MayCatchUp b l flags waiting seen 1) (sym rows) (record {
+      there = (kept_finish words a r b who held finish follows deadlines own machine found done).relays;
+      marked = relays.marked;
+      seen_is = looked_held seen follows who held r finish b done (looked_none seen r.told follows (state_of r.ledger).stages at (none_found words a r follows found none));
+      open_few = most;
+      memory = omega (arith, most, one, enough);
+    })
 
 -- ---- no relay is behind
 
@@ -123,14 +289,6 @@ kept_none P who a b row follows deadlines own h m is none =
 
 -- ---- what is set
 
-pub kept_follow : (t : Teller) (follows : List Follow) (deadlines : List Deadline) (own : ℕ) (f : Follow) → IsMachine t follows deadlines own → f.relay < length (state_of t.ledger).plan.stages →
-    f.stage < length (state_of t.ledger).plan.stages → IsMachine t (follows ++ f ∷ []) deadlines own
-kept_follow t follows deadlines own f h relay stage = record {
-  relays = All-push (λ (f : Follow). (f.relay < length (state_of t.ledger).plan.stages) × (f.stage < length (state_of t.ledger).plan.stages)) follows f h.relays (relay, stage);
-  limits = h.limits;
-  caller = h.caller;
-}
-
 pub kept_set : (t : Teller) (follows : List Follow) (old new : List Deadline) (own : ℕ) (d : Deadline) → IsMachine t follows old own → d.stage < length (state_of t.ledger).plan.stages →
     Sets (state_of t.ledger).stages d old new → IsMachine t follows new own
 kept_set t follows old new own d h l sets = record {
@@ -170,3 +328,49 @@ cancels_is m b e follows who words rows enough found caller none settles = recor
   none = none;
   same = refl;
 }
+
+-- ---- a step that finds nothing
+
+one_more : (a b : Bool) → a ≡ true → b ≡ true → weigh (a && b) ≡ 1
+one_more true true h k = refl
+one_more true false h k = cc
+one_more false b h k = cc
+
+-- where so many are 0, none is ready
+ready_none : (s : State) (lanes : List ℕ) (lane n : ℕ) → ready_below s lanes lane n ≡ 0 → NoneReadyIn s lanes lane n
+ready_none s lanes lane zero h k l on same = absurd (omega (arith, l))
+ready_none s lanes lane (suc n) h k l on same = elim (cases_lt k n) [
+  | inl below ↦ ready_none s lanes lane n (omega (arith, h)) k below on same
+  | inr above ↦ (let here : n ≡ k = omega (arith, l, above) in
+      let one = one_more (is_ready (stage_in s.stages n)) (lane_of lanes n == lane) (ap (λ (i : ℕ). is_ready (stage_in s.stages i)) here ∙ on) (eq-eqb (lane_of lanes n) lane (ap (lane_of lanes) here ∙ same)) in
+      absurd (omega (arith, h, one)))
+]
+
+pub none_idle : (lane : ℕ) (held : Option Held) (t : Teller) → IsIdle lane held t → NoneReadyIn (state_of t.ledger) t.lanes.of lane (length (state_of t.ledger).plan.stages)
+none_idle lane None t h = ready_none (state_of t.ledger) t.lanes.of lane (length (state_of t.ledger).plan.stages) h
+none_idle lane (Some g) t h = absurd h
+
+pub goes_idle : (who lane : ℕ) (held : Option Held) (m : Machine) → IsIdle lane held m.teller → NoneBehind m.follows (state_of m.teller.ledger).stages → GoesOn who lane held m (record { finish = None; taken = None }) m
+goes_idle who lane None m idle none = record {
+  found = m.teller;
+  finds = inl (idle, refl);
+  finished = m.teller;
+  finishes = refl;
+  between = m.teller;
+  catches_up = record { settles = dues_none (IsRelayDue m.follows) m.own m.teller; none = none };
+  takes = (none_idle lane None m.teller idle, refl);
+  same = refl;
+}
+goes_idle who lane (Some g) m idle none = absurd idle
+
+none_by : (who lane : ℕ) (t : Teller) (taken : Option Taken) (e : Teller) → TakesIn who lane t taken e → IfNone taken (NoneReadyIn (state_of e.ledger) e.lanes.of lane (length (state_of e.ledger).plan.stages))
+none_by who lane t None e h = subst (λ (x : Teller). NoneReadyIn (state_of x.ledger) x.lanes.of lane (length (state_of x.ledger).plan.stages)) (sym h.1) h.0
+none_by who lane t (Some g) e h = tt
+
+-- where none is told, none is ready
+pub none_left : (who lane : ℕ) (held : Option Held) (old new : Machine) (next : Next) → GoesOn who lane held old next new → IfNone next.taken (NoneReadyIn (state_in new) new.teller.lanes.of lane (length (state_in new).plan.stages))
+none_left who lane held old new next h = none_by who lane h.between next.taken new.teller h.takes
+
+pub ok_then : {A E : Type 0} (r : Result A E) (P Q : A → Type 0) → IfOk r P → ((a : A) → P a → Q a) → IfOk r Q
+ok_then (Ok a) P Q h then = then a h
+ok_then (Err e) P Q h then = tt

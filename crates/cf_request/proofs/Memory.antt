@@ -1,8 +1,10 @@
 -- How many words may follow.
-use Rattle.std.proofs.Common.{◌≡◌, ℕ, zero, suc, ◌+◌, ◌-◌, ◌<◌, ◌≤◌, Bool, true, false, cond, not, Option, Some, None, List, [], ◌∷◌, Contains, length, refl, ap, ◌∙◌, arith, subst, sym, inl, inr}
+use Rattle.std.proofs.Common.{◌≡◌, ℕ, zero, suc, ◌+◌, ◌-◌, ◌<◌, ◌≤◌, Bool, true, false, cond, not, Option, Some, None, List, [], ◌∷◌, All, Contains, drop, take, take-append-drop, get_or, ◌⊎◌, length, refl, ap, ◌∙◌, arith, subst, sym, inl, inr}
 use Rattle.std.specs.Prelude.{is_some}
 use Rattle.std.specs.List.{filter}
 use Rattle.std.proofs.lemmas.Bool.{cases_lt}
+use Rattle.std.proofs.lemmas.List.{get_or_default}
+use Rattle.std.proofs.lemmas.List.Elements.{All-contains, Contains-append_cases}
 use Rattle.std.proofs.lemmas.List.Sums.{count_by-le-length, length-filter}
 use Rattle.cf_model.specs.declared.events.Event.TheVariants.{Finish as Finishes}
 use Rattle.cf_model.specs.declared.events.Reply.{Reply}
@@ -17,7 +19,7 @@ use Rattle.cf_ledger.specs.declared.step.Held.{Held}
 use Rattle.cf_request.specs.Deadlines.{IsOverdue, open_of}
 use Rattle.cf_request.specs.Lanes.{FinishesHeld}
 use Rattle.cf_request.specs.Refusals.{open_below}
-use Rattle.cf_request.specs.Relays.{IsRelayDue, IsRelayOr, waiting_of}
+use Rattle.cf_request.specs.Relays.{IsRelayDue, IsRelayOr, NoneBehind, waiting_of}
 use Rattle.cf_request.specs.Settling.{IsOpen, Settles, settle_event}
 use Rattle.cf_request.specs.Telling.{Teller, Tells, is_settled_in}
 use Rattle.cf_request.specs.declared.deadlines.Deadline.{Deadline}
@@ -88,9 +90,22 @@ pub relay_waits : (follows : List Follow) (s : State) (d : Due) → IsOpen s d.s
 relay_waits follows s d waits due =
     some (λ (f : Follow). not (is_settled_in s.stages f.relay)) follows due.follow due.is (ap not (ap (is_settled_in s.stages) due.relay ∙ waits.1))
 
-relays_stay : (follows : List Follow) (old new : List Stage) → StaySettled old new → length (waiting_of new follows) ≤ length (waiting_of old follows)
+pub relays_stay : (follows : List Follow) (old new : List Stage) → StaySettled old new → length (waiting_of new follows) ≤ length (waiting_of old follows)
 relays_stay follows old new stay =
     no_more (λ (f : Follow). not (is_settled_in old f.relay)) (λ (f : Follow). not (is_settled_in new f.relay)) (λ f e. still_open (is_settled_in old f.relay) (is_settled_in new f.relay) (stay f.relay) e) follows
+
+bools : (b : Bool) → (b ≡ true) ⊎ (b ≡ false)
+bools true = inl refl
+bools false = inr refl
+
+-- where no relay is open, none is behind
+pub none_waiting : (stages : List Stage) (follows : List Follow) → length (waiting_of stages follows) ≤ 0 → NoneBehind follows stages
+none_waiting stages follows h = λ k d l on.
+    let f = get_or follows k d in
+    elim (bools (is_settled_in stages f.relay)) [
+      | inl settled ↦ settled
+      | inr waits ↦ (let more = some (λ (g : Follow). not (is_settled_in stages g.relay)) follows f (k, l, get_or_default follows k f d l) (ap not waits) in absurd (omega (arith, more, h)))
+    ]
 
 pub relays_fewer : (follows : List Follow) (who : ℕ) (d : Due) (old new : Teller) → IsOpen (state_of old.ledger) d.stage → IsRelayDue follows (state_of old.ledger) d → Settles who d old new →
     length (waiting_of (state_of new.ledger).stages follows) < length (waiting_of (state_of old.ledger).stages follows)
@@ -109,40 +124,48 @@ few_limits stages deadlines =
     let few = count_by-le-length (λ (d : Deadline). not (is_settled_in stages d.stage)) deadlines in
     omega (arith, size, few)
 
-limits_stay : (deadlines : List Deadline) (old new : List Stage) → StaySettled old new → length (open_of new deadlines) ≤ length (open_of old deadlines)
+pub limits_stay : (deadlines : List Deadline) (old new : List Stage) → StaySettled old new → length (open_of new deadlines) ≤ length (open_of old deadlines)
 limits_stay deadlines old new stay =
     no_more (λ (d : Deadline). not (is_settled_in old d.stage)) (λ (d : Deadline). not (is_settled_in new d.stage)) (λ d e. still_open (is_settled_in old d.stage) (is_settled_in new d.stage) (stay d.stage) e) deadlines
 
-limit_waits : (moment : ℕ) (deadlines : List Deadline) (s : State) (d : Due) → IsOpen s d.stage → IsOverdue moment deadlines s d → 0 < length (open_of s.stages deadlines)
-limit_waits moment deadlines s d waits due =
-    some (λ (e : Deadline). not (is_settled_in s.stages e.stage)) deadlines due.deadline (next_in deadlines s.stages due.deadline due.next) (ap not due.next.waits)
+-- one that has come is among the first
+take_in : (moment come : ℕ) (ds : List Deadline) (d : Deadline) → All (λ e. moment < e.moment) (drop come ds) → Contains ds d → d.moment ≤ moment → Contains (take come ds) d
+take_in moment come ds d later h up = elim (Contains-append_cases (take come ds) (drop come ds) d (subst (λ (l : List Deadline). Contains l d) (sym (take-append-drop come ds)) h)) [
+  | inl first ↦ first
+  | inr rest ↦ (let after = All-contains (λ (e : Deadline). moment < e.moment) (drop come ds) d later rest in absurd (omega (arith, after, up)))
+]
 
-limits_fewer : (moment : ℕ) (deadlines : List Deadline) (who : ℕ) (d : Due) (old new : Teller) → IsOverdue moment deadlines (state_of old.ledger) d → Settles who d old new →
-    length (open_of (state_of new.ledger).stages deadlines) < length (open_of (state_of old.ledger).stages deadlines)
-limits_fewer moment deadlines who d old new due h =
+limit_waits : (moment come : ℕ) (deadlines : List Deadline) (s : State) (d : Due) → All (λ e. moment < e.moment) (drop come deadlines) → IsOpen s d.stage → IsOverdue moment deadlines s d → 0 < length (open_of s.stages (take come deadlines))
+limit_waits moment come deadlines s d later waits due =
+    some (λ (e : Deadline). not (is_settled_in s.stages e.stage)) (take come deadlines) due.deadline (take_in moment come deadlines due.deadline later (next_in deadlines s.stages due.deadline due.next) due.come) (ap not due.next.waits)
+
+limits_fewer : (moment come : ℕ) (deadlines : List Deadline) (who : ℕ) (d : Due) (old new : Teller) → All (λ e. moment < e.moment) (drop come deadlines) → IsOverdue moment deadlines (state_of old.ledger) d → Settles who d old new →
+    length (open_of (state_of new.ledger).stages (take come deadlines)) < length (open_of (state_of old.ledger).stages (take come deadlines))
+limits_fewer moment come deadlines who d old new later due h =
     let before = (state_of old.ledger).stages in
     let after = (state_of new.ledger).stages in
     let stay = (keeps_settle who d old new h).settled in
-    fewer (λ (e : Deadline). not (is_settled_in before e.stage)) (λ (e : Deadline). not (is_settled_in after e.stage)) (λ x e. still_open (is_settled_in before x.stage) (is_settled_in after x.stage) (stay x.stage) e) deadlines due.deadline
-    (next_in deadlines before due.deadline due.next) (ap not due.next.waits) (ap not (ap (is_settled_in after) (sym due.stage) ∙ ap is_some h.ends))
+    fewer (λ (e : Deadline). not (is_settled_in before e.stage)) (λ (e : Deadline). not (is_settled_in after e.stage)) (λ x e. still_open (is_settled_in before x.stage) (is_settled_in after x.stage) (stay x.stage) e) (take come deadlines) due.deadline
+    (take_in moment come deadlines due.deadline later (next_in deadlines before due.deadline due.next) due.come) (ap not due.next.waits) (ap not (ap (is_settled_in after) (sym due.stage) ∙ ap is_some h.ends))
 
 -- ---- relays and deadlines
 
 abbrev pub left_of : List Stage → List Follow → List Deadline → ℕ
 left_of stages follows deadlines = length (waiting_of stages follows) + length (open_of stages deadlines)
 
-pub due_waits : (follows : List Follow) (moment : ℕ) (deadlines : List Deadline) (s : State) (d : Due) → IsOpen s d.stage → IsRelayOr follows (IsOverdue moment deadlines) s d → 0 < left_of s.stages follows deadlines
-due_waits follows moment deadlines s d waits (inl relay) = let l = relay_waits follows s d waits relay in omega (arith, l)
-due_waits follows moment deadlines s d waits (inr other) = let l = limit_waits moment deadlines s d waits other.1 in omega (arith, l)
+pub due_waits : (follows : List Follow) (moment come : ℕ) (deadlines : List Deadline) (s : State) (d : Due) → All (λ e. moment < e.moment) (drop come deadlines) → IsOpen s d.stage → IsRelayOr follows (IsOverdue moment deadlines) s d →
+    0 < left_of s.stages follows (take come deadlines)
+due_waits follows moment come deadlines s d later waits (inl relay) = let l = relay_waits follows s d waits relay in omega (arith, l)
+due_waits follows moment come deadlines s d later waits (inr other) = let l = limit_waits moment come deadlines s d later waits other.1 in omega (arith, l)
 
-pub dues_fewer : (follows : List Follow) (moment : ℕ) (deadlines : List Deadline) (who : ℕ) (d : Due) (old new : Teller) → IsOpen (state_of old.ledger) d.stage → IsRelayOr follows (IsOverdue moment deadlines) (state_of old.ledger) d → Settles who d old new →
-    left_of (state_of new.ledger).stages follows deadlines < left_of (state_of old.ledger).stages follows deadlines
-dues_fewer follows moment deadlines who d old new waits (inl relay) h =
+pub dues_fewer : (follows : List Follow) (moment come : ℕ) (deadlines : List Deadline) (who : ℕ) (d : Due) (old new : Teller) → All (λ e. moment < e.moment) (drop come deadlines) → IsOpen (state_of old.ledger) d.stage →
+    IsRelayOr follows (IsOverdue moment deadlines) (state_of old.ledger) d → Settles who d old new → left_of (state_of new.ledger).stages follows (take come deadlines) < left_of (state_of old.ledger).stages follows (take come deadlines)
+dues_fewer follows moment come deadlines who d old new later waits (inl relay) h =
     let less = relays_fewer follows who d old new waits relay h in
-    let rest = limits_stay deadlines (state_of old.ledger).stages (state_of new.ledger).stages (keeps_settle who d old new h).settled in
+    let rest = limits_stay (take come deadlines) (state_of old.ledger).stages (state_of new.ledger).stages (keeps_settle who d old new h).settled in
     omega (arith, less, rest)
-dues_fewer follows moment deadlines who d old new waits (inr other) h =
-    let less = limits_fewer moment deadlines who d old new other.1 h in
+dues_fewer follows moment come deadlines who d old new later waits (inr other) h =
+    let less = limits_fewer moment come deadlines who d old new later other.1 h in
     let rest = relays_stay follows (state_of old.ledger).stages (state_of new.ledger).stages (keeps_settle who d old new h).settled in
     omega (arith, less, rest)
 

@@ -1,8 +1,9 @@
 -- Rows of a machine's calls.
-use Rattle.std.proofs.Common.{◌≡◌, ◌≢◌, ℕ, ◌+◌, ◌<◌, ◌≤◌, true, false, Option, Some, None, List, [], ◌∷◌, ◌++◌, All, length, length-append, map, drop, take, refl, ap, sym, ◌∙◌, arith, subst, append_assoc, append-nil, take-append-drop}
+use Rattle.std.proofs.Common.{◌≡◌, ◌≢◌, ℕ, zero, suc, ◌+◌, ◌<◌, ◌≤◌, Bool, true, false, cond, nat_lt, Option, Some, None, List, [], ◌∷◌, ◌++◌, All, length, length-append, map, drop, take, refl, ap, sym, ◌∙◌, arith, subst, append_assoc, append-nil, take-append-drop, inl, inr}
 use Rattle.std.specs.Prelude.{IfSome}
 use Rattle.std.proofs.lemmas.List.{map-append}
 use Rattle.std.proofs.lemmas.List.Elements.{All-append, All-cons, All-contains, All-nil, All-weaker}
+use Rattle.cf_forms.specs.Plans.{Planned}
 use Rattle.cf_model.specs.declared.events.Event.{Event}
 use Rattle.cf_model.specs.declared.events.Event.TheVariants.{Claim as Claims, Finish as Finishes}
 use Rattle.cf_model.specs.declared.events.Reply.{Reply}
@@ -17,13 +18,13 @@ use Rattle.cf_ledger.specs.Steps.{finished_as}
 use Rattle.cf_ledger.specs.declared.step.Finish.{Finish}
 use Rattle.cf_ledger.specs.declared.step.Held.{Held}
 use Rattle.cf_ledger.specs.declared.step.Taken.{Taken}
-use Rattle.cf_request.specs.Deadlines.{IsOverdue}
+use Rattle.cf_request.specs.Deadlines.{IsOverdue, open_of}
 use Rattle.cf_request.specs.Lanes.{FinishesHeld, TakesIn}
-use Rattle.cf_request.specs.Machines.{GoesOn, Machine, open_in, state_in}
-use Rattle.cf_request.specs.Ready.{Lanes}
+use Rattle.cf_request.specs.Machines.{GoesOn, Machine, Restarts, open_in, state_in, Finds, FindsForStep, waiting_in}
+use Rattle.cf_request.specs.Ready.{HasLanes, Lanes, with_lane}
 use Rattle.cf_request.specs.Refusals.{IsCancelled, IsRefused}
 use Rattle.cf_request.specs.Relays.{IsRelayDue, IsRelayOr}
-use Rattle.cf_request.specs.Rows.{AddsBehind, AreCalls, ComesToAnEnd, IsCall, IsLater, IsOpened, Job, Out, RunsOnce, TellsOnce, Took, WasGranted, WordsTellAll, all_jobs, all_told, job_of, nothing, stage_of, unclaimed}
+use Rattle.cf_request.specs.Rows.{AddsBehind, AddsLanes, AreCalls, BeginsAnew, ComesToAnEnd, IsCall, IsLater, IsOpened, IsOpenedAs, Job, Out, RunsOnce, TellsOnce, Took, WasGranted, WordsTellAll, all_jobs, all_told, job_of, nothing, stage_of, unclaimed}
 use Rattle.cf_request.specs.Rows.IsCall.{applies, goes_on, sets_follow, sets_deadline, forgets, passes, refuses, cancels_all, took, is_refused}
 use Rattle.cf_request.specs.Settling.{AreSettledInTurn, SettlesDue, settle_event}
 use Rattle.cf_request.specs.Telling.{AreFresh, AreSettled, AreSettledBy, IsApart, Teller, Tells, TellsEvent, with_memory}
@@ -34,11 +35,40 @@ use Rattle.cf_request.proofs.Lists.{apart_append}
 use Rattle.cf_request.proofs.Telling.{once, settled_more}
 use Rattle.cf_request.proofs.Turns.{after_event}
 
+-- ---- lanes
+
+-- there are as many, and those of stages stay
+record StayLanes (old new : Lanes) : Type 0 where
+  count : new.count ≡ old.count
+  adds : AddsLanes old new
+
+lanes_same : (l : Lanes) → StayLanes l l
+lanes_same l = record { count = refl; adds = record { more = []; of = sym (append-nil l.of) } }
+
+lanes_is : (old new : Lanes) → new ≡ old → StayLanes old new
+lanes_is old new same = subst (StayLanes old) (sym same) (lanes_same old)
+
+lanes_then : (a b c : Lanes) → StayLanes a b → StayLanes b c → StayLanes a c
+lanes_then a b c h k = record {
+  count = k.count ∙ h.count;
+  adds = record {
+    more = h.adds.more ++ k.adds.more;
+    of = k.adds.of ∙ ap (λ (l : List ℕ). l ++ k.adds.more) h.adds.of ∙ append_assoc a.of h.adds.more k.adds.more;
+  };
+}
+
+lanes_by : (b : Bool) (lane : ℕ) (l : Lanes) → StayLanes l (record l { of = cond b (l.of ++ lane ∷ []) l.of })
+lanes_by true lane l = record { count = refl; adds = record { more = lane ∷ []; of = refl } }
+lanes_by false lane l = lanes_same l
+
+lanes_word : (stages lane : ℕ) (old new : Lanes) → new ≡ with_lane stages lane old → StayLanes old new
+lanes_word stages lane old new is = subst (StayLanes old) (sym is) (lanes_by (nat_lt (length old.of) stages) lane old)
+
 -- ---- what words do to a teller
 
 -- the ledger is later, what was settled in order is so now, and nothing is taken
 record Onward (old new : Teller) : Type 0 where
-  lanes : new.lanes.count ≡ old.lanes.count
+  lanes : StayLanes old.lanes new.lanes
   later : IsLater old.ledger new.ledger
   settled : AreSettled old.ledger (old.taken ++ old.told) → AreSettled new.ledger (new.taken ++ new.told)
   taken : new.taken ≡ old.taken
@@ -53,18 +83,25 @@ settled_free old new xs plan events h = record {
 }
 
 onward_same : (t : Teller) → Onward t t
-onward_same t = record { lanes = refl; later = later_free t.ledger t.ledger refl refl; settled = λ h. h; taken = refl }
+onward_same t = record { lanes = lanes_same t.lanes; later = later_free t.ledger t.ledger refl refl; settled = λ h. h; taken = refl }
 
 onward_is : (old new : Teller) → new ≡ old → Onward old new
 onward_is old new same = subst (Onward old) (sym same) (onward_same old)
 
 onward_free : (t : Teller) (n : ℕ) → Onward t (record t { ledger = record t.ledger { free = n } })
-onward_free t n = record { lanes = refl; later = later_free t.ledger (record t.ledger { free = n }) refl refl; settled = settled_free t.ledger (record t.ledger { free = n }) (t.taken ++ t.told) refl refl; taken = refl }
+onward_free t n = record { lanes = lanes_same t.lanes; later = later_free t.ledger (record t.ledger { free = n }) refl refl; settled = settled_free t.ledger (record t.ledger { free = n }) (t.taken ++ t.told) refl refl; taken = refl }
+
+onward_found : (least most : ℕ) (old found : Teller) → Finds least most old found → Onward old found
+onward_found least most old found h = subst (Onward old) (sym h.is) (onward_free old (with_memory h.words old).ledger.free)
+
+onward_step : (lane : ℕ) (held : Option Held) (m : Machine) (found : Teller) → FindsForStep lane held m found → Onward m.teller found
+onward_step lane held m found (inl idle) = onward_is m.teller found idle.1
+onward_step lane held m found (inr busy) = onward_found (2 + waiting_in m) (2 + length m.follows) m.teller found busy.1
 
 onward_then : (a b c : Teller) → Onward a b → Onward b c → Onward a c
-onward_then a b c h k = record { lanes = k.lanes ∙ h.lanes; later = later_then a.ledger b.ledger c.ledger h.later k.later; settled = λ s. k.settled (h.settled s); taken = k.taken ∙ h.taken }
+onward_then a b c h k = record { lanes = lanes_then a.lanes b.lanes c.lanes h.lanes k.lanes; later = later_then a.ledger b.ledger c.ledger h.later k.later; settled = λ s. k.settled (h.settled s); taken = k.taken ∙ h.taken }
 
-onward_word : (old new : Teller) (word : ℕ) (reply : Reply) → Tells word old reply new → new.lanes.count ≡ old.lanes.count → Onward old new
+onward_word : (old new : Teller) (word : ℕ) (reply : Reply) → Tells word old reply new → StayLanes old.lanes new.lanes → Onward old new
 onward_word old new word reply t lanes = record {
   lanes = lanes;
   later = later_word old.ledger new.ledger word reply t.does;
@@ -75,7 +112,7 @@ onward_word old new word reply t lanes = record {
 }
 
 onward_event : (e : Event) (old new : Teller) (reply : Reply) → TellsEvent e old reply new → Onward old new
-onward_event e old new reply h = onward_word old new (word_of e) reply h.tells (ap (λ (l : Lanes). l.count) h.lanes)
+onward_event e old new reply h = onward_word old new (word_of e) reply h.tells (lanes_is old.lanes new.lanes h.lanes)
 
 onward_turns : (P : State → Due → Type 0) (who : ℕ) (dues : List Due) (a b : Teller) → AreSettledInTurn P who a dues b → Onward a b
 onward_turns P who [] a b same = onward_is a b same
@@ -102,7 +139,7 @@ IsClosedIn t i = is_claimable (stage_at (state_of t.ledger) i) ≡ false
 
 -- what it hands out: stages that might be claimed before, and can't be now, each granted; and what it told is taken
 record Effect (old : Teller) (out : Out) (new : Teller) : Type 0 where
-  lanes : new.lanes.count ≡ old.lanes.count
+  lanes : StayLanes old.lanes new.lanes
   later : IsLater old.ledger new.ledger
   settled : AreSettled old.ledger (old.taken ++ old.told) → AreSettled new.ledger (new.taken ++ new.told)
   taken : new.taken ≡ old.taken ++ out.told
@@ -142,7 +179,7 @@ takes who lane old between (Some t) new h k =
     let is : k.done.tells.does.event ≡ Claims who t.stage = (let a = k.done.tells.does.read in let b = k.done.read in cc) in
     let written = k.done.tells.does.written in
     record {
-      lanes = on.lanes ∙ h.lanes;
+      lanes = lanes_then old.lanes between.lanes new.lanes h.lanes on.lanes;
       later = later_then old.ledger between.ledger new.ledger h.later on.later;
       settled = λ x. on.settled (h.settled x);
       taken = on.taken ∙ h.taken ∙ sym (append-nil old.taken);
@@ -165,7 +202,7 @@ takes_told count old new h =
     ∙ append_assoc a.taken (take count a.told) (drop count a.told) ∙ ap (λ (l : List ℕ). a.taken ++ l) (take-append-drop count a.told) in
     let later = later_free a.ledger b.ledger (ap (λ (l : Ledger). l.plan) h.ledger) (ap (λ (l : Ledger). l.events) h.ledger) in
     record {
-      lanes = ap (λ (l : Lanes). l.count) h.lanes;
+      lanes = lanes_is a.lanes b.lanes h.lanes;
       later = later;
       settled = λ s. subst (λ (l : Ledger). AreSettled l (b.taken ++ b.told)) (sym h.ledger) (subst (AreSettled a.ledger) (sym same) s);
       taken = h.taken;
@@ -177,30 +214,34 @@ takes_told count old new h =
     }
 
 -- memory is found, and then due stages are settled
+settles_found : (P : State → Due → Type 0) (who least most : ℕ) (old found new : Teller) → Finds least most old found → SettlesDue P who found new → Onward old new
+settles_found P who least most old found new h k = onward_then old found new (onward_found least most old found h) (onward_dues P who found new k)
+
 settles : (P : State → Due → Type 0) (who n : ℕ) (old new : Teller) → SettlesDue P who (record old { ledger = record old.ledger { free = n } }) new → Onward old new
 settles P who n old new h = let found : Teller = record old { ledger = record old.ledger { free = n } } in onward_then old found new (onward_free old n) (onward_dues P who found new h)
 
 effect : (old new : Machine) (out : Out) → IsCall old out new → Effect old.teller out new.teller
 effect old new out (applies word lane reply none h) =
-    let found = with_memory (1 + length old.follows) old.teller in
+    let found = h.found in
+    let n = length (state_of h.between.ledger).plan.stages in
+    let lanes = lanes_word n lane found.lanes h.between.lanes (h.lanes ∙ ap (λ (t : Teller). with_lane n lane t.lanes) (sym h.finds.is)) in
     quiet old.teller new.teller out none
-    (onward_then old.teller found new.teller (onward_free old.teller found.ledger.free)
-    (onward_then found h.between new.teller (onward_word found h.between word reply h.tells (ap (λ (l : Lanes). l.count) h.lanes)) (onward_dues (IsRelayDue old.follows) old.own h.between new.teller h.catches_up.settles)))
+    (onward_then old.teller found new.teller (onward_found (waiting_in old) (1 + length old.follows) old.teller found h.finds)
+    (onward_then found h.between new.teller (onward_word found h.between word reply h.tells lanes) (onward_dues (IsRelayDue old.follows) old.own h.between new.teller h.catches_up.settles)))
 effect old new out (goes_on who lane held next is h) =
-    let found = with_memory (2 + length old.follows) old.teller in
+    let found = h.found in
     subst (λ (o : Out). Effect old.teller o new.teller) (sym is)
     (takes who lane old.teller h.between next.taken new.teller
-    (onward_then old.teller found h.between (onward_free old.teller found.ledger.free)
+    (onward_then old.teller found h.between (onward_step lane held old found h.finds)
     (onward_then found h.finished h.between (onward_held who held found next.finish h.finished h.finishes) (onward_dues (IsRelayDue old.follows) old.own h.finished h.between h.catches_up.settles)))
     h.takes)
 effect old new out (sets_follow relay stage none h) =
-    let found = with_memory (1 + length old.follows) old.teller in
-    quiet old.teller new.teller out none (settles (IsRelayDue new.follows) old.own found.ledger.free old.teller new.teller h.catches_up.settles)
+    quiet old.teller new.teller out none (settles_found (IsRelayDue new.follows) old.own (1 + waiting_in old) (1 + length old.follows) old.teller h.found new.teller h.finds h.catches_up.settles)
 effect old new out (sets_deadline deadline none h) = quiet old.teller new.teller out none (onward_is old.teller new.teller (ap (λ (m : Machine). m.teller) h.same))
 effect old new out (forgets none same) = quiet old.teller new.teller out none (onward_is old.teller new.teller (ap (λ (m : Machine). m.teller) same))
 effect old new out (passes moment none h) =
-    let found = with_memory (length old.follows + length old.deadlines) old.teller in
-    quiet old.teller new.teller out none (settles (IsRelayOr old.follows (IsOverdue moment old.deadlines)) old.own found.ledger.free old.teller new.teller h.settles)
+    quiet old.teller new.teller out none
+    (settles_found (IsRelayOr old.follows (IsOverdue moment old.deadlines)) old.own (waiting_in old + length (open_of (state_in old).stages (take h.come old.deadlines))) (length old.follows + h.come) old.teller h.found new.teller h.finds h.settles)
 effect old new out (refuses lane code none h) =
     let found = with_memory (open_in old) old.teller in
     quiet old.teller new.teller out none (settles (IsRelayOr old.follows (IsRefused old.teller.lanes.of lane code)) old.own found.ledger.free old.teller new.teller h.settles)
@@ -234,7 +275,7 @@ effect_then a b c x y h k =
     let less = h.fewer in
     let more = k.fewer in
     record {
-      lanes = k.lanes ∙ h.lanes;
+      lanes = lanes_then a.lanes b.lanes c.lanes h.lanes k.lanes;
       later = later_then a.ledger b.ledger c.ledger h.later k.later;
       settled = λ s. k.settled (h.settled s);
       taken = k.taken ∙ ap (λ (l : List ℕ). l ++ y.told) h.taken ∙ append_assoc a.taken x.told y.told;
@@ -280,7 +321,34 @@ pub comes_to_an_end : ComesToAnEnd
 comes_to_an_end old new outs calls = (effects old new outs calls).fewer
 
 pub adds_behind : AddsBehind
-adds_behind old new outs calls = let e = effects old new outs calls in record { later = e.later; taken = e.taken; lanes = e.lanes }
+adds_behind old new outs calls = let e = effects old new outs calls in record { later = e.later; taken = e.taken; lanes = e.lanes.count; adds_lanes = e.lanes.adds }
 
 pub words_tell_all : WordsTellAll
 words_tell_all old new outs opened calls = by_words old.teller.ledger new.teller.ledger opened.events (effects old new outs calls).later
+
+-- ---- starting again
+
+take_front : (n : ℕ) (xs ys : List ℕ) → length xs ≡ n → take n (xs ++ ys) ≡ xs
+take_front zero [] [] is = refl
+take_front zero [] (y ∷ ys) is = refl
+take_front (suc n) [] ys is = absurd (omega (arith, is))
+take_front zero (x ∷ xs) ys is = absurd (omega (arith, is))
+take_front (suc n) (x ∷ xs) ys is = ap (λ (l : List ℕ). x ∷ l) (take_front n xs ys (omega (arith, is)))
+
+pub begins_anew : BeginsAnew
+begins_anew first old new outs opened has calls h =
+    let e = effects first old outs calls in
+    let plan = e.later.plan in
+    let stages = ap (λ (p : Planned). length p.stages) plan in
+    let of : take (length old.teller.ledger.plan.stages) old.teller.lanes.of ≡ first.teller.lanes.of =
+    ap (take (length old.teller.ledger.plan.stages)) e.lanes.adds.of ∙ take_front (length old.teller.ledger.plan.stages) first.teller.lanes.of e.lanes.adds.more (omega (arith, has, stages)) in
+    let kept = ap (λ (l : Ledger). l.plan) h.ledger in
+    record {
+      opened = record {
+        events = ap (λ (l : Ledger). l.events) h.ledger;
+        taken = h.taken;
+        told = subst (λ (p : Planned). AreFresh [] (start p).stages new.teller.told) (sym kept) h.told;
+      };
+      plan = kept ∙ plan;
+      lanes = h.lanes ∙ (λ j. record { of = of j; count = e.lanes.count j });
+    }

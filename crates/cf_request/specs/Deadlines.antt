@@ -1,5 +1,5 @@
 -- Moments by which stages have to be settled.
-use Rattle.std.specs.Prelude.{◌≡◌, ◌⊎◌, ℕ, ◌<◌, ◌≤◌, true, false, List, [], ◌∷◌, ◌++◌, All, length, not}
+use Rattle.std.specs.Prelude.{◌≡◌, ◌⊎◌, ℕ, ◌<◌, ◌≤◌, true, false, List, [], ◌∷◌, ◌++◌, All, drop, length, not, take}
 use Rattle.std.specs.List.{filter}
 use Rattle.std.specs.List.Sorted.{IsNonDecreasingBy}
 use Rattle.cf_model.specs.declared.stage.Stage.{Stage}
@@ -35,6 +35,12 @@ pub record IsNextOpen (deadlines : List Deadline) (stages : List Stage) (d : Dea
 -- no stage is open that has one up to a moment
 abbrev pub NoneOverdue : ℕ → List Deadline → List Stage → Type 0
 NoneOverdue moment deadlines stages = All (λ e. e.moment ≤ moment → is_settled_in stages e.stage ≡ true) deadlines
+
+-- of these, so many come up to a moment
+pub record AreCome (moment : ℕ) (deadlines : List Deadline) (count : ℕ) : Type 0 where
+  pub within : count ≤ length deadlines
+  pub before : All (λ d. d.moment ≤ moment) (take count deadlines)
+  pub behind : All (λ d. moment < d.moment) (drop count deadlines)
 
 -- the next deadline, whose moment has come
 pub record IsOverdue (moment : ℕ) (deadlines : List Deadline) (s : State) (d : Due) : Type 0 where

@@ -34,6 +34,11 @@ ready_below s lanes lane zero = 0
 ready_below s lanes lane (suc k) =
     cond (is_ready (stage_in s.stages k) && (lane_of lanes k == lane)) 1 0 + ready_below s lanes lane k
 
+-- nothing is held, and no stage of the lane is ready
+abbrev pub IsIdle : ℕ → Option Held → Teller → Type 0
+IsIdle lane None t = ready_below (state_of t.ledger) t.lanes.of lane (length (state_of t.ledger).plan.stages) ≡ 0
+IsIdle lane (Some h) t = ⊥
+
 -- why what is held can't be finished: the first of a step's reasons, without want of memory
 abbrev pub IsNoFinish : ℕ → Option Held → State → StepFault → Type 0
 IsNoFinish who held s NoMemory = ⊥

@@ -1,7 +1,7 @@
 -- A request as a machine, and what its calls do.
-use Rattle.std.specs.Prelude.{◌≡◌, ℕ, ◌+◌, ◌<◌, ◌≤◌, Option, List, [], ◌∷◌, ◌++◌, length}
+use Rattle.std.specs.Prelude.{◌≡◌, ℕ, ◌+◌, ◌<◌, ◌≤◌, Option, List, [], ◌∷◌, ◌++◌, length, take, ◌⊎◌}
 use Rattle.cf_model.specs.declared.events.Reply.{Reply}
-use Rattle.cf_model.specs.States.{State}
+use Rattle.cf_model.specs.States.{State, start}
 use Rattle.cf_ledger.specs.Ledgers.{LedgerRefuses, state_of}
 use Rattle.cf_ledger.specs.Steps.{IsNoStep}
 use Rattle.cf_ledger.specs.declared.faults.LedgerFault.{LedgerFault}
@@ -9,13 +9,13 @@ use Rattle.cf_ledger.specs.declared.faults.LedgerFault.TheVariants.{NoMemory as 
 use Rattle.cf_ledger.specs.declared.faults.StepFault.{StepFault}
 use Rattle.cf_ledger.specs.declared.faults.StepFault.TheVariants.{NoMemory as NoMemoryForStep, NoCaller, NoStage as NoStageForStep, NotHeld}
 use Rattle.cf_ledger.specs.declared.step.Held.{Held}
-use Rattle.cf_request.specs.Deadlines.{AreSet, Forgets, IsOverdue, NoneLeft, Sets}
-use Rattle.cf_request.specs.Lanes.{FinishesHeld, TakesIn}
+use Rattle.cf_request.specs.Deadlines.{AreCome, AreSet, Forgets, IsOverdue, NoneLeft, Sets, open_of}
+use Rattle.cf_request.specs.Lanes.{FinishesHeld, IsIdle, TakesIn}
 use Rattle.cf_request.specs.Ready.{with_lane}
 use Rattle.cf_request.specs.Refusals.{AllSettled, IsCancelled, IsRefused, NoneToRefuse, open_below}
-use Rattle.cf_request.specs.Relays.{AreThere, IsRelayDue, IsRelayOr, NoneBehind}
+use Rattle.cf_request.specs.Relays.{AreThere, IsRelayDue, IsRelayOr, NoneBehind, waiting_of}
 use Rattle.cf_request.specs.Settling.{SettlesDue}
-use Rattle.cf_request.specs.Telling.{Teller, Tells, with_memory}
+use Rattle.cf_request.specs.Telling.{AreFresh, Teller, Tells, with_memory}
 use Rattle.cf_request.specs.declared.deadlines.Deadline.{Deadline}
 use Rattle.cf_request.specs.declared.faults.MachineFault.{MachineFault}
 use Rattle.cf_request.specs.declared.faults.MachineFault.TheVariants.{NoMemory, NoStage, Past}
@@ -49,6 +49,17 @@ pub record OnlyFinds (old new : Machine) : Type 0 where
   pub found : free_in old ≤ free_in new
   pub same : new ≡ record old { teller = record old.teller { ledger = record old.teller.ledger { free = free_in new } } }
 
+-- how many relays are open
+abbrev pub waiting_in : Machine → ℕ
+waiting_in m = length (waiting_of (state_in m).stages m.follows)
+
+-- memory is found for so many words: for those that may follow at least, and for no more than are named
+pub record Finds (least most : ℕ) (old found : Teller) : Type 0 where
+  pub words : ℕ
+  pub enough : least ≤ words
+  pub few : words ≤ most
+  pub is : found ≡ with_memory words old
+
 -- all relays are settled whose stages are
 pub record CatchesUp (own : ℕ) (follows : List Follow) (old new : Teller) : Type 0 where
   pub settles : SettlesDue (IsRelayDue follows) own old new
@@ -56,10 +67,12 @@ pub record CatchesUp (own : ℕ) (follows : List Follow) (old new : Teller) : Ty
 
 -- ---- words
 
--- a word is done, then relays are settled; a stage that it attached has the lane
+-- memory is found for each relay that is open, a word is done, then relays are settled; a stage that it attached has the lane
 pub record AppliesWord (word lane : ℕ) (old : Machine) (reply : Reply) (new : Machine) : Type 0 where
+  pub found : Teller
+  pub finds : Finds (waiting_in old) (1 + length old.follows) old.teller found
   pub between : Teller
-  pub tells : Tells word (with_memory (1 + length old.follows) old.teller) reply between
+  pub tells : Tells word found reply between
   pub lanes : between.lanes ≡ with_lane (length (state_of between.ledger).plan.stages) lane old.teller.lanes
   pub catches_up : CatchesUp old.own old.follows between new.teller
   pub same : new ≡ record old { teller = new.teller }
@@ -71,19 +84,26 @@ IsNoWord word m fault = LedgerRefuses (state_in m) word fault
 
 -- ---- a caller's step
 
+-- where nothing is held and no stage of the lane is ready, no memory is found; else it is found for two words, and for each relay that is open
+abbrev pub FindsForStep : ℕ → Option Held → Machine → Teller → Type 0
+FindsForStep lane held m found =
+    (IsIdle lane held m.teller × (found ≡ m.teller)) ⊎ ((¬ IsIdle lane held m.teller) × Finds (2 + waiting_in m) (2 + length m.follows) m.teller found)
+
 -- what is held is finished, relays are settled, and the next stage of the lane is claimed
 pub record GoesOn (who lane : ℕ) (held : Option Held) (old : Machine) (next : Next) (new : Machine) : Type 0 where
+  pub found : Teller
+  pub finds : FindsForStep lane held old found
   pub finished : Teller
-  pub finishes : FinishesHeld who held (with_memory (2 + length old.follows) old.teller) next.finish finished
+  pub finishes : FinishesHeld who held found next.finish finished
   pub between : Teller
   pub catches_up : CatchesUp old.own old.follows finished between
   pub takes : TakesIn who lane between next.taken new.teller
   pub same : new ≡ record old { teller = new.teller }
 
--- why nothing is done: too little memory was found before, or else the first of a step's reasons
-abbrev pub IsNoNext : ℕ → Option Held → Machine → StepFault → Type 0
-IsNoNext who held m NoMemoryForStep = free_in m < 2 + length m.follows
-IsNoNext who held m fault = IsNoStep who held (state_in m) fault
+-- why nothing is done: something is held or ready and too little memory was found before, or else the first of a step's reasons
+abbrev pub IsNoNext : ℕ → ℕ → Option Held → Machine → StepFault → Type 0
+IsNoNext who lane held m NoMemoryForStep = (¬ IsIdle lane held m.teller) × (free_in m < 2 + length m.follows)
+IsNoNext who lane held m fault = IsNoStep who held (state_in m) fault
 
 -- ---- relays
 
@@ -91,7 +111,9 @@ IsNoNext who held m fault = IsNoStep who held (state_in m) fault
 pub record SetsFollow (relay stage : ℕ) (old new : Machine) : Type 0 where
   pub there : (relay < length (state_in old).plan.stages) × (stage < length (state_in old).plan.stages)
   pub set : new.follows ≡ old.follows ++ (record { relay = relay; stage = stage }) ∷ []
-  pub catches_up : CatchesUp old.own new.follows (with_memory (1 + length old.follows) old.teller) new.teller
+  pub found : Teller
+  pub finds : Finds (1 + waiting_in old) (1 + length old.follows) old.teller found
+  pub catches_up : CatchesUp old.own new.follows found new.teller
   pub same : new ≡ record old { teller = new.teller; follows = new.follows }
 
 -- memory is wanted for the words, and for the row of those that follow
@@ -117,14 +139,18 @@ IsNoDeadline d s Past = ⊥
 -- stages whose moment had come are settled, and relays before them, until none is left
 pub record Passes (moment : ℕ) (old new : Machine) : Type 0 where
   pub onward : old.moment ≤ moment
-  pub settles : SettlesDue (IsRelayOr old.follows (IsOverdue moment old.deadlines)) old.own (with_memory (length old.follows + length old.deadlines) old.teller) new.teller
+  pub come : ℕ
+  pub are_come : AreCome moment old.deadlines come
+  pub found : Teller
+  pub finds : Finds (waiting_in old + length (open_of (state_in old).stages (take come old.deadlines))) (length old.follows + come) old.teller found
+  pub settles : SettlesDue (IsRelayOr old.follows (IsOverdue moment old.deadlines)) old.own found new.teller
   pub none : NoneLeft old.follows moment old.deadlines (state_in new).stages
   pub forgets : Forgets (state_in new).stages old.deadlines new.deadlines
   pub same : new ≡ record old { teller = new.teller; deadlines = new.deadlines; moment = moment }
 
 -- why time doesn't pass: too little memory was found before, or else the moment is before the last one
 abbrev pub IsNoPass : ℕ → Machine → MachineFault → Type 0
-IsNoPass moment m NoMemory = free_in m < length m.follows + length m.deadlines
+IsNoPass moment m NoMemory = (come : ℕ) × AreCome moment m.deadlines come × (free_in m < length m.follows + come)
 IsNoPass moment m NoStage = ⊥
 IsNoPass moment m Past = moment < m.moment
 
@@ -153,3 +179,17 @@ IsNoCancel who m NoMemoryForStep = free_in m < open_in m
 IsNoCancel who m NoCaller = 63 < who
 IsNoCancel who m NoStageForStep = ⊥
 IsNoCancel who m NotHeld = ⊥
+
+-- ---- starting again
+
+-- It is as it was opened: nothing is done, follows or is due, and told is what is settled from the start. The plan with its room, the lanes of
+-- the plan's stages, its own caller, and the memory that was found stay.
+pub record Restarts (old new : Machine) : Type 0 where
+  pub ledger : new.teller.ledger ≡ record old.teller.ledger { events = [] }
+  pub taken : new.teller.taken ≡ []
+  pub told : AreFresh [] (start old.teller.ledger.plan).stages new.teller.told
+  pub lanes : new.teller.lanes ≡ record old.teller.lanes { of = take (length old.teller.ledger.plan.stages) old.teller.lanes.of }
+  pub follows : new.follows ≡ []
+  pub deadlines : new.deadlines ≡ []
+  pub moment : new.moment ≡ 0
+  pub own : new.own ≡ old.own

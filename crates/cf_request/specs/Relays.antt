@@ -1,5 +1,5 @@
 -- Stages that follow another stage of the same request.
-use Rattle.std.specs.Prelude.{◌≡◌, ◌⊎◌, ◌<◌, true, Some, List, All, Contains, length, not}
+use Rattle.std.specs.Prelude.{◌≡◌, ◌⊎◌, ℕ, ◌<◌, ◌≤◌, Bool, true, false, Some, List, All, Contains, drop, length, not, slice_index_or}
 use Rattle.std.specs.List.{filter}
 use Rattle.cf_model.specs.declared.stage.Stage.{Stage}
 use Rattle.cf_model.specs.States.{State, outcome_in}
@@ -29,3 +29,33 @@ pub record IsRelayDue (follows : List Follow) (s : State) (d : Due) : Type 0 whe
 -- a relay, or, where none is behind, what is due otherwise
 abbrev pub IsRelayOr : List Follow → (State → Due → Type 0) → State → Due → Type 0
 IsRelayOr follows IsDue s d = IsRelayDue follows s d ⊎ (NoneBehind follows s.stages × IsDue s d)
+
+-- ---- which stages are followed
+
+-- whether a stage is in a set
+abbrev pub is_in_flags : List Bool → ℕ → Bool
+is_in_flags flags i = slice_index_or flags i false
+
+-- the stage of each relay is marked
+abbrev pub AreMarked : List Bool → List Follow → Type 0
+AreMarked followed follows = All (λ f. is_in_flags followed f.stage ≡ true) follows
+
+-- there is a flag for each stage that there may ever be, those of stages that are followed are set, and of the relays so many are open at most
+pub record AreRelays (stages : List Stage) (follows : List Follow) (followed : List Bool) (waiting : ℕ) : Type 0 where
+  pub flags : length followed ≡ 4096
+  pub marked : AreMarked followed follows
+  pub most : length (waiting_of stages follows) ≤ waiting
+  pub few : waiting ≤ length follows
+
+-- no stage of these is followed
+abbrev pub NoneFollowed : List Bool → List ℕ → Type 0
+NoneFollowed followed stages = All (λ i. is_in_flags followed i ≡ false) stages
+
+-- a relay is open whose stage is settled only if that stage is one of these
+abbrev pub AreBehindBy : List ℕ → List Follow → List Stage → Type 0
+AreBehindBy news follows stages = All (λ f. is_settled_in stages f.stage ≡ true → (is_settled_in stages f.relay ≡ true) ⊎ Contains news f.stage) follows
+
+-- so many of what is told were looked at: a relay is behind only because of a stage that is told later
+pub record AreLookedAt (seen : ℕ) (told : List ℕ) (follows : List Follow) (stages : List Stage) : Type 0 where
+  pub within : seen ≤ length told
+  pub rest : AreBehindBy (drop seen told) follows stages

@@ -16,7 +16,8 @@ use Rattle.cf_ledger.specs.declared.faults.LedgerFault.{LedgerFault}
 use Rattle.cf_ledger.specs.declared.faults.LedgerFault.TheVariants.{NoMemory}
 use Rattle.cf_ledger.specs.declared.step.Held.{Held}
 use Rattle.cf_ledger.specs.declared.step.Taken.{Taken}
-use Rattle.cf_request.specs.Machines.{AppliesWord, CancelsAll, GoesOn, Machine, OnlyFinds, Passes, Refuses, SetsDeadline, SetsFollow, state_in}
+use Rattle.cf_request.specs.Machines.{AppliesWord, CancelsAll, GoesOn, Machine, OnlyFinds, Passes, Refuses, Restarts, SetsDeadline, SetsFollow, state_in}
+use Rattle.cf_request.specs.Ready.{HasLanes, Lanes}
 use Rattle.cf_request.specs.Telling.{AreFresh, AreSettled, IsApart, IsOnce}
 use Rattle.cf_request.specs.declared.deadlines.Deadline.{Deadline}
 use Rattle.cf_request.specs.declared.machine.Next.{Next}
@@ -132,11 +133,17 @@ pub record IsLater (old new : Ledger) : Type 0 where
   pub taken : AreTaken (state_of old) more
   pub words : All HasWord more
 
--- so it is after a row of calls, what they told is taken behind what was, and there are as many lanes
+-- the lanes of stages stay, and those of later stages stand behind them
+pub record AddsLanes (old new : Lanes) : Type 0 where
+  pub more : List ℕ
+  pub of : new.of ≡ old.of ++ more
+
+-- so it is after a row of calls, what they told is taken behind what was, there are as many lanes, and each stage keeps its lane
 pub record IsBehind (old : Machine) (outs : List Out) (new : Machine) : Type 0 where
   pub later : IsLater old.teller.ledger new.teller.ledger
   pub taken : new.teller.taken ≡ old.teller.taken ++ all_told outs
   pub lanes : new.teller.lanes.count ≡ old.teller.lanes.count
+  pub adds_lanes : AddsLanes old.teller.lanes new.teller.lanes
 
 abbrev pub AddsBehind : Type 0
 AddsBehind = (old new : Machine) (outs : List Out) → AreCalls old outs new → IsBehind old outs new
@@ -148,3 +155,15 @@ pub record IsByWords (ledger : Ledger) : Type 0 where
 
 abbrev pub WordsTellAll : Type 0
 WordsTellAll = (old new : Machine) (outs : List Out) → IsOpened old → AreCalls old outs new → IsByWords new.teller.ledger
+
+-- ---- rows that begin anew
+
+-- it is opened, with the plan and the lanes with which another was
+pub record IsOpenedAs (first new : Machine) : Type 0 where
+  pub opened : IsOpened new
+  pub plan : new.teller.ledger.plan ≡ first.teller.ledger.plan
+  pub lanes : new.teller.lanes ≡ first.teller.lanes
+
+-- A machine that starts again is none of the calls of a row. After any row it is as it was opened, so a row begins anew, of which all laws hold.
+abbrev pub BeginsAnew : Type 0
+BeginsAnew = (first old new : Machine) (outs : List Out) → IsOpened first → HasLanes (start first.teller.ledger.plan) first.teller.lanes.of → AreCalls first outs old → Restarts old new → IsOpenedAs first new

@@ -1,12 +1,12 @@
 //! A caller's step: it finishes what it holds, and claims what its lane has.
-ghost use Rattle.std.specs.Prelude.{◌≡◌, ◌<◌, ◌≤◌, IfErr, OnOk, Some, length, true};
+ghost use Rattle.std.specs.Prelude.{◌≡◌, ◌↔◌, ◌<◌, ◌≤◌, IfErr, IsTrue, OnOk, Some, length, true};
 ghost use Rattle.cf_event.specs.Words.{word_of};
 ghost use Rattle.cf_forms.specs.Plans.{function_at};
 ghost use Rattle.cf_ledger.specs.Ledgers.{state_of};
 ghost use Rattle.cf_ledger.specs.Steps.{IsHeld};
 ghost use Rattle.cf_model.specs.Graphs.{stage_in};
 ghost use Rattle.cf_model.specs.States.{claim_at, is_ready};
-ghost use Rattle.cf_request.specs.Lanes.{FinishesHeld, FinishesStage, IsNoFinish, TakesIn};
+ghost use Rattle.cf_request.specs.Lanes.{FinishesHeld, FinishesStage, IsIdle, IsNoFinish, TakesIn};
 ghost use Rattle.cf_request.specs.Telling.{TellsEvent};
 
 use crate::teller::Teller;
@@ -14,8 +14,21 @@ use cf_event::{LAST_CALLER, encode};
 use cf_ledger::{Event, Finish, Held, Reply, StepFault, Taken};
 use cf_model::{Claimed, Finished};
 
+/// Whether nothing is held and no stage of the lane is ready. It looks at no stage.
+#[inline(always)]
+pub(crate) fn is_idle(teller: &Teller, lane: u8, held: Option<Held>) -> bool
+    requires { lane < teller.now.lanes.count }
+    ensures { IsTrue result ↔ IsIdle lane held teller.now }
+{
+    match held {
+        None => teller.ready(lane) == 0,
+        Some(_) => false,
+    }
+}
+
 /// Whether a caller can finish what it holds, if it holds a stage. It is refused for the first of: its caller's number,
 /// the stage, its claim.
+#[inline(always)]
 pub(crate) fn check_held(teller: &Teller, who: u8, held: Option<Held>) -> Result<(), StepFault>
     ensures caller { OnOk result (who ≤ 63) }
     ensures held { OnOk result (IsHeld who held (state_of teller.now.ledger)) }
@@ -31,6 +44,7 @@ pub(crate) fn check_held(teller: &Teller, who: u8, held: Option<Held>) -> Result
 }
 
 /// Whether a caller can finish a stage.
+#[inline(always)]
 fn check_claim(teller: &Teller, who: u8, held: Held) -> Result<(), StepFault>
     requires caller { who ≤ 63 }
     ensures held { OnOk result (IsHeld who (Some held) (state_of teller.now.ledger)) }
@@ -46,6 +60,7 @@ fn check_claim(teller: &Teller, who: u8, held: Held) -> Result<(), StepFault>
 }
 
 /// Finishes what a caller holds, if it holds a stage, where memory was found for a word.
+#[inline(always)]
 pub(crate) fn finish_held(teller: &mut Teller, who: u8, held: Option<Held>) -> Option<Finish>
     requires caller { who ≤ 63 }
     requires held { IsHeld who held (state_of teller.old.ledger) }
@@ -59,6 +74,7 @@ pub(crate) fn finish_held(teller: &mut Teller, who: u8, held: Option<Held>) -> O
 }
 
 /// Finishes a stage that the caller has claimed, where memory was found for a word.
+#[inline(always)]
 fn finish(teller: &mut Teller, who: u8, held: Held) -> Finish
     requires caller { who ≤ 63 }
     requires there { held.stage < length (state_of teller.old.ledger).plan.stages }
@@ -82,6 +98,7 @@ fn finish(teller: &mut Teller, who: u8, held: Held) -> Finish
 }
 
 /// Claims the lowest ready stage of a lane, if there is one, where memory was found for a word.
+#[inline(always)]
 pub(crate) fn take(teller: &mut Teller, who: u8, lane: u8) -> Option<Taken>
     requires caller { who ≤ 63 }
     requires lane { lane < teller.old.lanes.count }
@@ -95,6 +112,7 @@ pub(crate) fn take(teller: &mut Teller, who: u8, lane: u8) -> Option<Taken>
 }
 
 /// Claims a ready stage, where memory was found for a word.
+#[inline(always)]
 fn claim(teller: &mut Teller, who: u8, stage: u16) -> Taken
     requires caller { who ≤ 63 }
     requires there { stage < length (state_of teller.old.ledger).plan.stages }

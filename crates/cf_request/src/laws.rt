@@ -1,6 +1,6 @@
 //! Laws of machines: the contract of each function is the statement, and its body is empty. Each says what holds after
 //! any row of calls, by any callers, in any order.
-ghost use Rattle.cf_request.specs.Rows.{AddsBehind, ComesToAnEnd, RunsOnce, TellsOnce, WordsTellAll};
+ghost use Rattle.cf_request.specs.Rows.{AddsBehind, BeginsAnew, ComesToAnEnd, RunsOnce, TellsOnce, WordsTellAll};
 
 /// All that was taken, one taking behind the other, and then what is told and not yet taken, are each settled stage
 /// once, in the order of the events.
@@ -30,4 +30,10 @@ pub fn calls_add_behind()
 /// memory is wanting. So that ledger is in the machine's states.
 pub fn words_tell_all()
     ensures { WordsTellAll }
+{}
+
+/// A machine that starts again after any row of calls is as it was opened, with the same plan and lanes. So a row begins
+/// anew, of which all laws hold.
+pub fn a_row_begins_anew()
+    ensures { BeginsAnew }
 {}

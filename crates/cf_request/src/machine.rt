@@ -1,21 +1,22 @@
 //! The machine.
-ghost use Rattle.std.specs.Prelude.{◌≡◌, ◌<◌, ◌≤◌, ◌++◌, [], All, IfErr, IfNone, IfOk, IfSome, OnErr, OnOk, drop, length, take, true};
+ghost use Rattle.std.specs.Prelude.{◌≡◌, ◌+◌, ◌-◌, ◌^◌, ◌<◌, ◌≤◌, ◌++◌, [], All, IfErr, IfNone, IfOk, IfSome, None, OnErr, OnOk, drop, length, take, true};
 ghost use Rattle.cf_forms.specs.Plans.{has_place, with_room};
 ghost use Rattle.cf_model.specs.States.{start};
 ghost use Rattle.cf_request.specs.Deadlines.{AreInOrder, Forgets, IsNextOpen, NoneOpen};
-ghost use Rattle.cf_request.specs.Lanes.{NoneReadyIn, ready_below};
+ghost use Rattle.cf_request.specs.Lanes.{IsIdle, NoneReadyIn, ready_below};
 ghost use Rattle.cf_request.specs.Ready.{IsLaneCount};
-ghost use Rattle.cf_request.specs.Machines.{AppliesWord, CancelsAll, GoesOn, IsNoCancel, IsNoDeadline, IsNoFollow, IsNoNext, IsNoPass, IsNoWord, OnlyFinds, Passes, Refuses, SetsDeadline, SetsFollow, free_in, open_in, state_in};
+ghost use Rattle.cf_request.specs.Machines.{AppliesWord, CancelsAll, GoesOn, IsNoCancel, IsNoDeadline, IsNoFollow, IsNoNext, IsNoPass, IsNoWord, OnlyFinds, Passes, Refuses, Restarts, SetsDeadline, SetsFollow, free_in, open_in, state_in};
 ghost use Rattle.cf_request.specs.Relays.{NoneBehind};
 ghost use Rattle.cf_request.specs.Rows.{unclaimed};
 ghost use Rattle.cf_request.specs.Telling.{AreFresh, AreSettled, IsOnce};
 
-use crate::deadlines::{Deadline, next_open, pass, set};
+use crate::deadlines::{Deadline, come_by, next_open, pass, set};
 use crate::faults::MachineFault;
-use crate::lanes::{check_held, finish_held, take};
+use crate::lanes::{check_held, finish_held, is_idle, take};
 use crate::refusals::{Ending, end_all, open_stages};
-use crate::relays::{Follow, catch_up};
+use crate::relays::{Follow, catch_up, catch_up_with};
 use crate::teller::Teller;
+use cf_bits::BitSet;
 use cf_event::LAST_CALLER;
 use cf_ledger::{Finish, Held, Ledger, LedgerFault, Reply, StepFault, Taken};
 use cf_plan::Plan;
@@ -32,10 +33,16 @@ pub struct Next {
     pub taken: Option<Taken>,
 }
 
+/// The bound below which the numbers of all stages are.
+const STAGES: u16 = 4096;
+
 /// A request of a service.
 ///
 /// A contract sees its teller with the lanes, which stages follow which, the deadlines in the order in which they come,
 /// the last moment, and the caller by whose words the machine settles stages itself.
+///
+/// It also keeps the set of the stages that are followed, so that a call that settles none of them looks at no relay,
+/// and how many relays are open at most, for each of which a call finds memory.
 ///
 /// Deadlines of settled stages stay among the others until they come first or there is no place for a new one. So there
 /// are never more than eight and twice as many as there ever were of open stages at once.
@@ -43,6 +50,8 @@ pub struct Next {
 pub struct Machine {
     teller: Teller,
     follows: Vec<Follow>,
+    followed: BitSet,
+    waiting: usize,
     deadlines: VecDeque<Deadline>,
     moment: u64,
     own: u8,
@@ -55,7 +64,7 @@ impl Model for Machine {
 
     ghost use Rattle.cf_ledger.specs.Ledgers.{state_of};
     ghost use Rattle.cf_request.specs.Machines.{IsMachine};
-    ghost use Rattle.cf_request.specs.Relays.{NoneBehind};
+    ghost use Rattle.cf_request.specs.Relays.{AreRelays, NoneBehind};
 
     ghost view = { λ m. record {
       teller = m.teller;
@@ -66,7 +75,8 @@ impl Model for Machine {
     } };
 
     ghost invariant = { λ m. IsMachine m.teller m.follows.items m.deadlines.items m.own
-        × NoneBehind m.follows.items (state_of m.teller.ledger).stages };
+        × NoneBehind m.follows.items (state_of m.teller.ledger).stages
+        × AreRelays (state_of m.teller.ledger).stages m.follows.items m.followed m.waiting };
 }
 
 impl Machine {
@@ -96,10 +106,13 @@ impl Machine {
         ensures moment { IfOk result (λ m. m.moment ≡ 0) }
         ensures own { IfOk result (λ m. m.own ≡ own) }
     {
+        let followed = BitSet::new(alloc, STAGES)?;
         let teller = Teller::new(alloc, plan, room, of, lanes)?;
         Ok(Machine {
             teller,
             follows: Vec::new(alloc),
+            followed,
+            waiting: 0,
             deadlines: VecDeque::new(alloc),
             moment: 0,
             own,
@@ -107,42 +120,86 @@ impl Machine {
     }
 
     /// Does a word as a ledger does; a stage that it attaches is this lane's. Then it settles the relays whose stages
-    /// are settled. It is refused for the first of: memory for all of that, and a ledger's reasons.
+    /// are settled. It is refused for the first of: memory for all of that, and a ledger's reasons. Where no relay can be
+    /// open, want of memory is looked for last, as by a ledger.
+    #[inline(always)]
     pub fn apply(&mut self, word: u64, lane: u8) -> Result<Reply, LedgerFault>
         requires { lane < self.old.teller.lanes.count }
         ensures done { IfOk result (λ reply. AppliesWord word lane self.old reply self.new) }
         ensures refused { OnErr result (OnlyFinds self.old self.new) }
         ensures why { IfErr result (λ fault. IsNoWord word self.old fault) }
     {
-        self.teller.reserve(1 + self.follows.len())?;
+        self.teller.reserve(words_beside(self.waiting))?;
+        let seen = self.teller.told().len();
         let reply = self.teller.apply(word, lane)?;
-        catch_up(&mut self.teller, &self.follows, self.own);
+        catch_up(
+            &mut self.teller,
+            &self.follows,
+            &self.followed,
+            &mut self.waiting,
+            seen,
+            self.own,
+        );
         Ok(reply)
     }
 
     /// What a caller does next: it finishes what it holds, if it holds a stage. Then the relays whose stages are
     /// settled are settled, and it claims the lowest ready stage of its lane, if there is one. If it claims none, none
     /// is ready; if it claims one, fewer stages may be claimed, now or later. It is refused for the first of: memory
-    /// for all of that, its caller's number, the stage that is held, its claim.
+    /// for all of that, its caller's number, the stage that is held, its claim. If it holds nothing and none is ready,
+    /// it needs no memory, and looks at no stage and no relay.
+    #[inline(always)]
     pub fn next(&mut self, who: u8, lane: u8, held: Option<Held>) -> Result<Next, StepFault>
         requires { lane < self.old.teller.lanes.count }
         ensures done { IfOk result (λ next. GoesOn who lane held self.old next self.new) }
+        ensures caller { OnOk result (who ≤ 63) }
         ensures none { IfOk result (λ next. IfNone next.taken
             (NoneReadyIn (state_in self.new) self.new.teller.lanes.of lane (length (state_in self.new).plan.stages))) }
         ensures fewer { IfOk result (λ next. IfSome next.taken (λ t.
             unclaimed (state_in self.new) < unclaimed (state_in self.old))) }
         ensures refused { OnErr result (OnlyFinds self.old self.new) }
-        ensures why { IfErr result (λ fault. IsNoNext who held self.old fault) }
+        ensures why { IfErr result (λ fault. IsNoNext who lane held self.old fault) }
     {
-        self.teller.reserve(2 + self.follows.len())?;
+        if is_idle(&self.teller, lane, held) {
+            if LAST_CALLER < who {
+                return Err(StepFault::NoCaller);
+            }
+            return Ok(Next {
+                finish: None,
+                taken: None,
+            });
+        }
+        self.go_on(who, lane, held)
+    }
+
+    /// The same where something is held, or a stage of the lane is ready.
+    #[inline(never)]
+    fn go_on(&mut self, who: u8, lane: u8, held: Option<Held>) -> Result<Next, StepFault>
+        requires lane { lane < self.old.teller.lanes.count }
+        requires busy { ¬ IsIdle lane held self.old.teller }
+        ensures done { IfOk result (λ next. GoesOn who lane held self.old next self.new) }
+        ensures caller { OnOk result (who ≤ 63) }
+        ensures refused { OnErr result (OnlyFinds self.old self.new) }
+        ensures why { IfErr result (λ fault. IsNoNext who lane held self.old fault) }
+    {
+        self.teller.reserve(2 + self.waiting)?;
         check_held(&self.teller, who, held)?;
+        let seen = self.teller.told().len();
         let finish = finish_held(&mut self.teller, who, held);
-        catch_up(&mut self.teller, &self.follows, self.own);
+        catch_up(
+            &mut self.teller,
+            &self.follows,
+            &self.followed,
+            &mut self.waiting,
+            seen,
+            self.own,
+        );
         let taken = take(&mut self.teller, who, lane);
         Ok(Next { finish, taken })
     }
 
     /// How many lanes there are.
+    #[inline(always)]
     pub fn lanes(&self) -> u8
         ensures count { result ≡ self.now.teller.lanes.count }
         ensures few { IsLaneCount result }
@@ -151,6 +208,7 @@ impl Machine {
     }
 
     /// How many stages of a lane are ready. It looks at no stage.
+    #[inline(always)]
     pub fn ready(&self, lane: u8) -> u16
         requires { lane < self.now.teller.lanes.count }
         ensures { result ≡ ready_below (state_in self.now) self.now.teller.lanes.of lane
@@ -166,19 +224,28 @@ impl Machine {
         ensures refused { OnErr result (OnlyFinds self.old self.new) }
         ensures why { IfErr result (λ fault. IsNoFollow relay stage (state_in self.old) fault) }
     {
-        self.teller.reserve(1 + self.follows.len())?;
+        self.teller.reserve(1 + self.waiting)?;
         self.follows.reserve(1)?;
         let stages = self.teller.stages();
         if relay >= stages || stage >= stages {
             return Err(MachineFault::NoStage);
         }
         self.follows.push_reserved(Follow { relay, stage });
-        catch_up(&mut self.teller, &self.follows, self.own);
+        self.followed.insert(stage);
+        self.waiting += 1;
+        catch_up_with(
+            &mut self.teller,
+            &self.follows,
+            &mut self.waiting,
+            stage,
+            self.own,
+        );
         Ok(())
     }
 
     /// A stage has to be settled by a moment, or else `pass` settles it. The deadline stands behind those that come up
     /// to its moment. It is refused for the first of: a stage that isn't there, memory.
+    #[inline(always)]
     pub fn deadline(&mut self, deadline: Deadline) -> Result<(), MachineFault>
         ensures set { OnOk result (SetsDeadline deadline self.old self.new) }
         ensures refused { OnErr result (self.new ≡ self.old) }
@@ -193,15 +260,15 @@ impl Machine {
 
     /// Lets time pass up to a moment. It settles all open stages whose moment has come, in order of moment and then of
     /// setting, and before each of them, and at last, the relays whose stages are settled. It is refused for the first
-    /// of: memory for all relays and deadlines, a moment before the last one.
+    /// of: memory for all relays that may be open and for all deadlines that have come, a moment before the last one.
     pub fn pass(&mut self, moment: u64) -> Result<(), MachineFault>
         ensures passes { OnOk result (Passes moment self.old self.new) }
         ensures order { AreInOrder self.old.deadlines }
         ensures refused { OnErr result (OnlyFinds self.old self.new) }
         ensures why { IfErr result (λ fault. IsNoPass moment self.old fault) }
     {
-        self.teller
-            .reserve(self.follows.len() + self.deadlines.len())?;
+        let come = come_by(&self.deadlines, moment);
+        self.teller.reserve(self.waiting + come)?;
         if moment < self.moment {
             return Err(MachineFault::Past);
         }
@@ -209,8 +276,10 @@ impl Machine {
         pass(
             &mut self.teller,
             &self.follows,
+            &self.followed,
             &mut self.deadlines,
             moment,
+            come,
             self.own,
         );
         Ok(())
@@ -241,6 +310,7 @@ impl Machine {
         end_all(
             &mut self.teller,
             &self.follows,
+            &self.followed,
             Ending::OfLane { lane, code },
             self.own,
         );
@@ -259,12 +329,32 @@ impl Machine {
         if who > LAST_CALLER {
             return Err(StepFault::NoCaller);
         }
-        end_all(&mut self.teller, &self.follows, Ending::OfAll, who);
+        end_all(
+            &mut self.teller,
+            &self.follows,
+            &self.followed,
+            Ending::OfAll,
+            who,
+        );
         Ok(())
+    }
+
+    /// Starts again, as it was opened: nothing is done, follows or is due, and the moment is 0. The lanes of the plan's
+    /// stages, the room and the memory stay. It takes no memory.
+    pub fn restart(&mut self)
+        ensures { Restarts self.old self.new }
+    {
+        self.teller.restart();
+        self.follows.clear();
+        self.followed.reset(STAGES);
+        self.waiting = 0;
+        self.deadlines.clear();
+        self.moment = 0;
     }
 
     /// The stages that were settled and not yet taken, in the order of the events that settled them. With those that
     /// were taken these are each settled stage, once.
+    #[inline(always)]
     pub fn told(&self) -> &[u16]
         ensures told { result.now ≡ self.now.teller.told }
         ensures once { IsOnce (state_in self.now) (self.now.teller.taken ++ self.now.teller.told) }
@@ -274,6 +364,7 @@ impl Machine {
     }
 
     /// The first so many of what is told were taken, or all where fewer are told.
+    #[inline(always)]
     pub fn took(&mut self, count: usize)
         ensures ledger { self.new.teller.ledger ≡ self.old.teller.ledger }
         ensures taken { self.new.teller.taken ≡ self.old.teller.taken ++ take count self.old.teller.told }
@@ -291,4 +382,15 @@ impl Machine {
     {
         self.teller.ledger()
     }
+}
+
+/// For how many words memory is found before a word, where so many relays may be open: its own, and one for each of
+/// these. Where none is open, the word finds its own.
+#[inline(always)]
+fn words_beside(waiting: usize) -> usize
+    requires { waiting < 2 ^ 63 }
+    ensures enough { waiting ≤ result - 1 }
+    ensures few { result ≤ 1 + waiting }
+{
+    if waiting == 0 { 0 } else { waiting + 1 }
 }

@@ -1,5 +1,5 @@
 //! The ready stages of each lane.
-ghost use Rattle.std.specs.Prelude.{◌≡◌, ◌+◌, ◌<◌, ◌≤◌, ◌∷◌, ◌++◌, [], All, IfOk, false, length, position, replicate, slice_index_or, slice_set, vec_capacity};
+ghost use Rattle.std.specs.Prelude.{◌≡◌, ◌+◌, ◌<◌, ◌≤◌, ◌∷◌, ◌++◌, [], All, IfOk, false, length, position, replicate, slice_index_or, slice_set, take, vec_capacity};
 ghost use Rattle.cf_request.specs.Ready.{AreSets, IsLaneCount, count_of, lane_of, lanes_of, none_ready};
 
 use cf_bits::BitSet;
@@ -39,7 +39,17 @@ impl ReadySet {
         })
     }
 
+    /// Makes it the empty set of stages below a number. It takes no memory.
+    fn empty(&mut self, places: u16)
+        requires { places ≤ 4096 }
+        ensures { self.new ≡ replicate places false }
+    {
+        self.set.reset(places);
+        self.count = 0;
+    }
+
     /// Puts a stage in that is ready, and takes one out that isn't.
+    #[inline(always)]
     fn write(&mut self, i: u16, ready: bool)
         requires there { i < length self.old }
         requires few { length self.old ≤ 4096 }
@@ -58,6 +68,7 @@ impl ReadySet {
     }
 
     /// The lowest stage, if there is one.
+    #[inline(always)]
     fn lowest(&self) -> Option<u16>
         ensures { result ≡ position (λ b. b) self.now }
     {
@@ -65,6 +76,7 @@ impl ReadySet {
     }
 
     /// How many stages are in.
+    #[inline(always)]
     fn count(&self) -> u16
         ensures { result ≡ count_of self.now }
     {
@@ -121,6 +133,7 @@ impl ReadySets {
     }
 
     /// How many lanes there are.
+    #[inline(always)]
     pub(crate) fn lanes(&self) -> u8
         ensures count { result ≡ length self.now.sets }
         ensures few { IsLaneCount result }
@@ -130,6 +143,7 @@ impl ReadySets {
     }
 
     /// Writes whether a stage is ready.
+    #[inline(always)]
     pub(crate) fn write(&mut self, i: u16, ready: bool)
         requires { i < length self.old.of }
         ensures { self.new ≡ record self.old {
@@ -143,6 +157,7 @@ impl ReadySets {
     }
 
     /// There are so many stages now, the last of which may be new, and is this lane's then.
+    #[inline(always)]
     pub(crate) fn reach(&mut self, stages: u16, lane: u8)
         requires room { stages ≤ self.old.places }
         requires lane { lane < length self.old.sets }
@@ -153,7 +168,17 @@ impl ReadySets {
         }
     }
 
+    /// The lanes of the first so many stages alone, none of which is ready. It takes no memory.
+    pub(crate) fn begin_anew(&mut self, stages: u16)
+        requires { stages ≤ length self.old.of }
+        ensures { self.new ≡ none_ready (take stages self.old.of) (length self.old.sets) self.old.places }
+    {
+        self.of.truncate(stages as usize);
+        empty_all(&mut self.sets, self.places);
+    }
+
     /// The lowest ready stage of a lane, if there is one.
+    #[inline(always)]
     pub(crate) fn lowest(&self, lane: u8) -> Option<u16>
         requires { lane < length self.now.sets }
         ensures { result ≡ position (λ b. b) (slice_index_or self.now.sets lane []) }
@@ -163,6 +188,7 @@ impl ReadySets {
     }
 
     /// How many stages of a lane are ready.
+    #[inline(always)]
     pub(crate) fn ready(&self, lane: u8) -> u16
         requires { lane < length self.now.sets }
         ensures count { result ≡ count_of (slice_index_or self.now.sets lane []) }
@@ -197,4 +223,15 @@ fn empty(alloc: Global, lanes: u8, places: u16) -> Result<Vec<ReadySet>, AllocEr
         sets.push_reserved(set);
     }
     Ok(sets)
+}
+
+/// Makes all of these the empty sets of stages below a number.
+fn empty_all(sets: &mut Vec<ReadySet>, places: u16)
+    requires { places ≤ 4096 }
+    ensures { sets.new.items ≡ replicate (length sets.old.items) (replicate places false) }
+{
+    for k in 0..sets.len() {
+        let set = &mut sets[k];
+        set.empty(places);
+    }
 }

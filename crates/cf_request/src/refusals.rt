@@ -3,13 +3,14 @@ ghost use Rattle.std.specs.Prelude.{◌≡◌, ◌<◌, ◌≤◌, ℕ, IfNone, 
 ghost use Rattle.cf_ledger.specs.Ledgers.{state_of};
 ghost use Rattle.cf_request.specs.Lanes.{NoneReadyIn};
 ghost use Rattle.cf_request.specs.Refusals.{AllSettled, HasLane, IsCancelled, IsEnded, IsRefused, NoneToEnd, open_below};
-ghost use Rattle.cf_request.specs.Relays.{AreThere, IsRelayOr, NoneBehind};
+ghost use Rattle.cf_request.specs.Relays.{AreLookedAt, AreMarked, AreThere, IsRelayOr, NoneBehind};
 ghost use Rattle.cf_request.specs.Settling.{IsOpen, SettlesDue};
 ghost use Rattle.cf_request.specs.Telling.{is_settled_in};
 
 use crate::relays::{Follow, first_behind};
 use crate::settling::{Due, settle};
 use crate::teller::Teller;
+use cf_bits::BitSet;
 use cf_outcome::{Cause, Outcome};
 
 /// Which stages end, and how.
@@ -23,17 +24,26 @@ pub(crate) enum Ending {
 
 /// Ends these stages, from the lowest on, and before each of them settles all relays whose stages are settled. Memory
 /// for a word has to be there for each open stage.
-pub(crate) fn end_all(teller: &mut Teller, follows: &[Follow], ending: Ending, who: u8)
+pub(crate) fn end_all(
+    teller: &mut Teller,
+    follows: &[Follow],
+    followed: &BitSet,
+    ending: Ending,
+    who: u8,
+)
     requires caller { who ≤ 63 }
     requires lane { HasLane teller.old.lanes.count ending }
     requires relays { AreThere (state_of teller.old.ledger) follows.now }
+    requires marked { AreMarked followed.now follows.now }
+    requires none_behind { NoneBehind follows.now (state_of teller.old.ledger).stages }
     requires memory { open_below (state_of teller.old.ledger).stages (length (state_of teller.old.ledger).plan.stages)
         ≤ teller.old.ledger.free }
     ensures behind { NoneBehind follows.now (state_of teller.new.ledger).stages }
     ensures none { NoneToEnd teller.new.lanes.of ending (state_of teller.new.ledger) }
     ensures settles { SettlesDue (IsRelayOr follows.now (IsEnded teller.old.lanes.of ending)) who teller.old teller.new }
 {
-    while let Some(due) = next_ended(teller, follows, ending) {
+    let mut seen = teller.told().len();
+    while let Some(due) = next_ended(teller, follows, followed, &mut seen, ending) {
         settle(teller, who, &due);
     }
 }
@@ -52,19 +62,30 @@ pub(crate) fn open_stages(teller: &Teller) -> u16
     count
 }
 
-/// The first relay that is open though its stage is settled, or else the lowest stage that ends.
-fn next_ended(teller: &Teller, follows: &[Follow], ending: Ending) -> Option<Due>
+/// The first relay that is open though its stage is settled, or else the lowest stage that ends. Of what is told so many
+/// were looked at.
+fn next_ended(
+    teller: &Teller,
+    follows: &[Follow],
+    followed: &BitSet,
+    seen: &mut usize,
+    ending: Ending,
+) -> Option<Due>
     requires lane { HasLane teller.now.lanes.count ending }
     requires relays { AreThere (state_of teller.now.ledger) follows.now }
+    requires marked { AreMarked followed.now follows.now }
+    requires seen { AreLookedAt seen.old teller.now.told follows.now (state_of teller.now.ledger).stages }
     ensures is_open { IfSome result (λ d. IsOpen (state_of teller.now.ledger) d.stage) }
     ensures due { IfSome result (λ d.
         IsRelayOr follows.now (IsEnded teller.now.lanes.of ending) (state_of teller.now.ledger) d) }
     ensures behind { IfNone result (NoneBehind follows.now (state_of teller.now.ledger).stages) }
+    ensures seen { AreLookedAt seen.new teller.now.told follows.now (state_of teller.now.ledger).stages }
     ensures none { IfNone result (NoneToEnd teller.now.lanes.of ending (state_of teller.now.ledger)) }
 {
-    if let Some(due) = first_behind(teller, follows) {
+    if let Some(due) = first_behind(teller, follows, followed, *seen) {
         return Some(due);
     }
+    *seen = teller.told().len();
     lowest_ended(teller, ending)
 }
 

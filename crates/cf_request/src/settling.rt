@@ -17,6 +17,7 @@ pub struct Due {
 }
 
 /// Settles an open stage, where memory was found for a word.
+#[inline(never)]
 pub(crate) fn settle(teller: &mut Teller, who: u8, due: &Due)
     requires caller { who ≤ 63 }
     requires is_open { IsOpen (state_of teller.old.ledger) due.now.stage }

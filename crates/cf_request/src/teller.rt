@@ -1,5 +1,5 @@
 //! A ledger that keeps which stages were settled and not yet taken.
-ghost use Rattle.std.specs.Prelude.{◌≡◌, ℕ, ◌+◌, ◌≤◌, ◌<◌, ◌++◌, [], All, Contains, IfErr, IfNone, IfOk, IfSome, OnErr, OnOk, drop, false, length, take, true, vec_capacity};
+ghost use Rattle.std.specs.Prelude.{◌≡◌, ℕ, ◌+◌, ◌≤◌, ◌<◌, ◌∷◌, ◌++◌, [], All, Contains, cond, IfErr, IfNone, IfOk, IfSome, OnErr, OnOk, drop, false, length, take, true, vec_capacity};
 ghost use Rattle.std.specs.List.{filter};
 ghost use Rattle.cf_forms.specs.Plans.{has_place, with_room};
 ghost use Rattle.cf_model.specs.Calls.{is_attach};
@@ -87,6 +87,7 @@ impl Teller {
     }
 
     /// Finds memory for so many words. It fails only where there is no memory, and then changes nothing.
+    #[inline(always)]
     pub fn reserve(&mut self, words: usize) -> Result<(), AllocError>
         ensures enough { OnOk result (words ≤ self.new.ledger.free) }
         ensures found { OnOk result (self.new ≡ with_memory words self.old) }
@@ -98,6 +99,7 @@ impl Teller {
 
     /// Does a word as the ledger does; a stage that it attaches is this lane's. Told are then the stages that it settled,
     /// behind the others. It is refused as by the ledger, and leaves all as it was then.
+    #[inline(always)]
     pub fn apply(&mut self, word: u64, lane: u8) -> Result<Reply, LedgerFault>
         requires { lane < self.old.lanes.count }
         ensures done { IfOk result (λ reply. Tells word self.old reply self.new) }
@@ -112,13 +114,13 @@ impl Teller {
         let stages = self.ledger.stages();
         let place = self.ledger.len() - 1;
         let news = self.ledger.news(place);
-        note(&self.ledger, news, &mut self.order);
         self.lanes.reach(stages, lane);
-        mark(&self.ledger, news, &mut self.lanes);
+        note(&self.ledger, news, &mut self.order, &mut self.lanes);
         Ok(reply)
     }
 
     /// Does an event that fits and attaches nothing, by its word, where memory was found for one.
+    #[inline(always)]
     #[tactic(auto, using(crate::proofs::Words::event_told))]
     pub fn apply_event(&mut self, event: &Event) -> Reply
         requires is { IsEvent event.now }
@@ -136,6 +138,7 @@ impl Teller {
     }
 
     /// The ledger.
+    #[inline(always)]
     pub fn ledger(&self) -> &Ledger
         ensures { result.now ≡ self.now.ledger }
     {
@@ -143,6 +146,7 @@ impl Teller {
     }
 
     /// How many stages there are by now.
+    #[inline(always)]
     pub fn stages(&self) -> u16
         ensures count { result ≡ length (state_of self.now.ledger).plan.stages }
         ensures most { most_stages (state_of self.now.ledger) ≤ 4096 }
@@ -151,6 +155,7 @@ impl Teller {
     }
 
     /// The outcome of a stage, if it is settled.
+    #[inline(always)]
     pub fn outcome(&self, i: u16) -> Option<Outcome>
         requires there { i < length (state_of self.now.ledger).plan.stages }
         ensures { result ≡ outcome_at (state_of self.now.ledger) i }
@@ -159,6 +164,7 @@ impl Teller {
     }
 
     /// How many lanes there are.
+    #[inline(always)]
     pub fn lanes(&self) -> u8
         ensures count { result ≡ self.now.lanes.count }
         ensures few { IsLaneCount result }
@@ -168,6 +174,7 @@ impl Teller {
     }
 
     /// The lowest ready stage of a lane, if there is one. It looks at no stage.
+    #[inline(always)]
     pub fn lowest(&self, lane: u8) -> Option<u16>
         requires { lane < self.now.lanes.count }
         ensures lowest { IfSome result (λ i. IsLowestIn (state_of self.now.ledger) self.now.lanes.of lane i) }
@@ -180,6 +187,7 @@ impl Teller {
     }
 
     /// How many stages of a lane are ready. It looks at no stage.
+    #[inline(always)]
     pub fn ready(&self, lane: u8) -> u16
         requires { lane < self.now.lanes.count }
         ensures { result ≡ ready_below (state_of self.now.ledger) self.now.lanes.of lane
@@ -192,6 +200,7 @@ impl Teller {
 
     /// The stages that were settled and not yet taken, in the order of the events that settled them. With those that
     /// were taken these are each settled stage, once.
+    #[inline(always)]
     pub fn told(&self) -> &[u16]
         ensures told { result.now ≡ self.now.told }
         ensures once { IsOnce (state_of self.now.ledger) (self.now.taken ++ self.now.told) }
@@ -201,6 +210,7 @@ impl Teller {
     }
 
     /// The first so many of what is told were taken, or all where fewer are told.
+    #[inline(always)]
     pub fn took(&mut self, count: usize)
         ensures ledger { self.new.ledger ≡ self.old.ledger }
         ensures taken { self.new.taken ≡ self.old.taken ++ take count self.old.told }
@@ -209,9 +219,27 @@ impl Teller {
     {
         self.count += count.min(self.order.len() - self.count);
     }
+
+    /// Starts again, as it was opened. It takes no memory.
+    pub fn restart(&mut self)
+        ensures ledger { self.new.ledger ≡ record self.old.ledger { events = [] } }
+        ensures taken { self.new.taken ≡ [] }
+        ensures told { AreFresh [] (start self.old.ledger.plan).stages self.new.told }
+        ensures lanes { self.new.lanes
+            ≡ record self.old.lanes { of = take (length self.old.ledger.plan.stages) self.old.lanes.of } }
+    {
+        self.ledger.restart();
+        let stages = self.ledger.stages();
+        self.count = 0;
+        self.order.clear();
+        note_all(&self.ledger, stages, &mut self.order);
+        self.lanes.begin_anew(stages);
+        mark_all(&self.ledger, stages, &mut self.lanes);
+    }
 }
 
 /// The outcome of a stage, if it is settled.
+#[inline(always)]
 fn outcome(ledger: &Ledger, i: u16) -> Option<Outcome>
     requires there { i < length (state_of ledger.now).plan.stages }
     ensures { result ≡ outcome_at (state_of ledger.now) i }
@@ -220,6 +248,7 @@ fn outcome(ledger: &Ledger, i: u16) -> Option<Outcome>
 }
 
 /// The outcome of a stage in this state, if it is settled.
+#[inline(always)]
 fn outcome_of(stage: Stage) -> Option<Outcome>
     ensures { result ≡ outcome_of stage }
 {
@@ -229,19 +258,41 @@ fn outcome_of(stage: Stage) -> Option<Outcome>
     }
 }
 
-/// Writes those of these stages that are settled behind others.
-fn note(ledger: &Ledger, news: &[u16], order: &mut Vec<u16>)
+/// Writes those of these stages that are settled behind others, and of each whether it is ready. The sets fit at all
+/// other stages.
+#[inline(always)]
+fn note(ledger: &Ledger, news: &[u16], order: &mut Vec<u16>, sets: &mut ReadySets)
     requires there { All (λ i. i < length (state_of ledger.now).plan.stages) news.now }
     requires room { length order.old.items + length (filter (is_settled_in (state_of ledger.now).stages) news.now)
         ≤ vec_capacity order.old }
+    requires lanes { HasLanes (state_of ledger.now) sets.old.of }
+    requires rest { AreFitBut (Contains news.now) (state_of ledger.now).stages sets.old }
     ensures noted { order.new.items
         ≡ order.old.items ++ filter (is_settled_in (state_of ledger.now).stages) news.now }
     ensures room { vec_capacity order.new ≡ vec_capacity order.old }
+    ensures fit { (i : ℕ) → IsFit (state_of ledger.now).stages sets.new i }
+    ensures count { length sets.new.sets ≡ length sets.old.sets }
+    ensures same { sets.new ≡ record sets.old { sets = sets.new.sets } }
 {
     for i in news {
-        if outcome(ledger, *i).is_some() {
-            order.push_reserved(*i);
-        }
+        let ready = is_ready(ledger.stage(*i));
+        let settled = outcome(ledger, *i).is_some();
+        // The lane of each stage is there.
+        let _known = sets.lanes();
+        sets.write(*i, ready);
+        put(order, *i, settled);
+    }
+}
+
+/// Writes a stage behind others, if it is settled.
+#[inline(always)]
+fn put(order: &mut Vec<u16>, i: u16, settled: bool)
+    requires room { length order.old.items + cond settled 1 0 ≤ vec_capacity order.old }
+    ensures items { order.new.items ≡ order.old.items ++ cond settled (i ∷ []) [] }
+    ensures room { vec_capacity order.new ≡ vec_capacity order.old }
+{
+    if settled {
+        order.push_reserved(i);
     }
 }
 
@@ -257,22 +308,6 @@ fn note_all(ledger: &Ledger, stages: u16, order: &mut Vec<u16>)
         if outcome(ledger, i).is_some() {
             order.push_reserved(i);
         }
-    }
-}
-
-/// Writes of each of these stages whether it is ready. The sets fit at all other stages.
-fn mark(ledger: &Ledger, news: &[u16], sets: &mut ReadySets)
-    requires lanes { HasLanes (state_of ledger.now) sets.old.of }
-    requires there { All (λ i. i < length (state_of ledger.now).plan.stages) news.now }
-    requires rest { AreFitBut (Contains news.now) (state_of ledger.now).stages sets.old }
-    ensures fit { (i : ℕ) → IsFit (state_of ledger.now).stages sets.new i }
-    ensures count { length sets.new.sets ≡ length sets.old.sets }
-    ensures same { sets.new ≡ record sets.old { sets = sets.new.sets } }
-{
-    for i in news {
-        // The lane of each stage is there.
-        let _known = sets.lanes();
-        sets.write(*i, is_ready(ledger.stage(*i)));
     }
 }
 
@@ -293,6 +328,7 @@ fn mark_all(ledger: &Ledger, stages: u16, sets: &mut ReadySets)
 }
 
 /// Whether a stage in this state is ready.
+#[inline(always)]
 fn is_ready(stage: Stage) -> bool
     ensures { result ≡ is_ready stage }
 {

@@ -141,6 +141,13 @@ pub const CF_CALL_FINISH: u32 = 4;
 pub const CF_CALL_TICK: u32 = 5;
 pub const CF_CALL_ATTACH: u32 = 6;
 pub const CF_CALL_FAIL_AS: u32 = 7;
+pub const CF_DO_APPLY: u32 = 0;
+pub const CF_DO_NEXT: u32 = 1;
+pub const CF_DO_FOLLOW: u32 = 2;
+pub const CF_DO_DEADLINE: u32 = 3;
+pub const CF_DO_PASS: u32 = 4;
+pub const CF_DO_REFUSE: u32 = 5;
+pub const CF_DO_CANCEL_ALL: u32 = 6;
 
 pub const CF_IS_PENDING: u32 = 0;
 pub const CF_IS_READY: u32 = 1;
@@ -151,7 +158,7 @@ pub const CF_IS_SETTLED: u32 = 4;
 pub const CF_NO_FUNCTION: u32 = u32::MAX;
 pub const CF_NOBODY: u32 = u32::MAX;
 pub const CF_VERSION_MAJOR: u32 = 1;
-pub const CF_VERSION_MINOR: u32 = 5;
+pub const CF_VERSION_MINOR: u32 = 6;
 
 #[repr(C)]
 #[derive(Clone, Copy, Debug, Default, PartialEq, Eq)]
@@ -325,6 +332,30 @@ pub struct cf_deadline {
     pub value: cf_value,
 }
 
+#[repr(C)]
+#[derive(Clone, Copy, Debug, Default, PartialEq, Eq)]
+pub struct cf_request_call {
+    pub call: u32,
+    pub who: u8,
+    pub lane: u8,
+    pub stage: u16,
+    pub relay: u16,
+    pub code: u32,
+    pub word: u64,
+    pub moment: u64,
+    pub kind: u32,
+    pub value: cf_value,
+    pub reply: cf_reply,
+    pub task: cf_task,
+}
+
+#[repr(C)]
+#[derive(Clone, Copy, Debug, Default, PartialEq, Eq)]
+pub struct cf_request_done {
+    pub calls: usize,
+    pub told: usize,
+}
+
 pub type cf_stage_function = unsafe extern "C" fn(context: *mut c_void, task: *const cf_task, answer: *mut cf_answer);
 
 extern "C" {
@@ -417,6 +448,9 @@ extern "C" {
     pub fn cf_request_refuse(request: *mut cf_handle, lane: u8, code: u32, told: *mut cf_told, room: usize, n: *mut usize) -> u32;
     pub fn cf_request_told(request: *mut cf_handle, told: *mut cf_told, room: usize, n: *mut usize) -> u32;
     pub fn cf_request_ready(request: *mut cf_handle, lane: u8, ready: *mut u16) -> u32;
+    pub fn cf_request_cancel_all(request: *mut cf_handle, who: u8, told: *mut cf_told, room: usize, n: *mut usize) -> u32;
+    pub fn cf_request_restart(request: *mut cf_handle) -> u32;
+    pub fn cf_request_do(request: *mut cf_handle, calls: *mut cf_request_call, n: usize, done: *mut cf_request_done, told: *mut cf_told, room: usize) -> u32;
     pub fn cf_version() -> *const u8;
     pub fn cf_fits(major: u32, minor: u32) -> bool;
     pub fn cf_code_name(code: u32) -> *const u8;
@@ -461,6 +495,8 @@ pub fn mismatch() -> Option<&'static str> {
         known!(cf_applied: reply told),
         known!(cf_request_step: who lane told),
         known!(cf_deadline: stage moment kind value),
+        known!(cf_request_call: call who lane stage relay code word moment kind value reply task),
+        known!(cf_request_done: calls told),
     ];
     structures.iter().find_map(|it| *it)
 }

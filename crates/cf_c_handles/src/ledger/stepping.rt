@@ -43,6 +43,7 @@ pub fn step(
 }
 
 /// The code of the fault for which a step isn't done.
+#[inline(always)]
 pub(crate) fn step_code(fault: StepFault) -> Code
     ensures { result ≡ step_code fault }
 {
@@ -84,6 +85,7 @@ fn claim_word(taken: Option<Taken>) -> u64
 }
 
 /// How a finish went, or 0 where nothing was held.
+#[inline(always)]
 pub(crate) fn late_number(finish: Option<Finish>) -> u32
     ensures { result ≡ late_number finish }
 {
@@ -95,6 +97,7 @@ pub(crate) fn late_number(finish: Option<Finish>) -> u32
 }
 
 /// Gives the task what was taken.
+#[inline(always)]
 pub(crate) fn take(task: &mut CfTask, taken: Option<Taken>) -> Result<(), Code>
     ensures told { result ≡ taken_code taken }
     ensures task { task.new ≡ task_with task.old taken }

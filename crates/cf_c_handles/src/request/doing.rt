@@ -1,17 +1,20 @@
 //! What is done to a request behind a handle, and what it tells then.
-ghost use Rattle.cf_c_handles.specs.RequestCalls.{AppliesIn, FollowsIn, GoesOnIn, PassesIn, RefusesIn, SetsDeadlineIn, TellsIn};
+ghost use Rattle.cf_c_handles.specs.RequestCalls.{AppliesIn, CancelsIn, FollowsIn, GoesOnIn, PassesIn, RefusesIn, RestartsIn, SetsDeadlineIn, TellsIn, GoesOnOrNot};
+ghost use Rattle.std.specs.Prelude.{◌<◌};
+ghost use Rattle.cf_c_handles.specs.declared.handle.object.Object.TheVariants.{Request as HeldRequest};
 
 use crate::code::Code;
 use crate::handle::object::Object;
 use crate::ledger::stepping::{late_number, step_code, take};
 use crate::ledger::word_code;
 use crate::request::{machine_code, tell_into};
-use crate::values::as_reply;
+use crate::values::put_reply;
 use crate::values::request::{CfApplied, CfRequestStep, CfTold};
 use crate::values::task::{CfTask, held_by};
-use cf_request::Deadline;
+use cf_request::{Deadline, Machine};
 
 /// Does a word; a stage that it attaches is this lane's.
+#[inline(always)]
 pub fn apply(
     held: &mut Object,
     word: u64,
@@ -30,14 +33,16 @@ pub fn apply(
     match machine.apply(word, lane) {
         Err(fault) => Err(word_code(fault)),
         Ok(reply) => {
-            applied.reply = as_reply(reply);
+            put_reply(&mut applied.reply, reply);
             applied.told = tell_into(machine, row);
             Ok(())
         }
     }
 }
 
-/// Finishes what a task holds, and gives it the next ready stage of the caller's lane.
+/// Finishes what a task holds, and gives it the next ready stage of the caller's lane. Where there is nothing to finish
+/// and nothing to give, it is done in line.
+#[inline(always)]
 pub fn next(
     held: &mut Object,
     step: &mut CfRequestStep,
@@ -52,6 +57,24 @@ pub fn next(
     if step.lane >= machine.lanes() {
         return Err(Code::NoLane);
     }
+    if task.held == 0 && machine.ready(step.lane) == 0 {
+        return go_on(machine, step, task, row);
+    }
+    go_on_apart(machine, step, task, row)
+}
+
+/// The same in a lane that is there.
+#[inline(always)]
+fn go_on(
+    machine: &mut Machine,
+    step: &mut CfRequestStep,
+    task: &mut CfTask,
+    row: &mut [CfTold],
+) -> Result<(), Code>
+    requires { step.old.lane < machine.old.teller.lanes.count }
+    ensures { GoesOnOrNot machine.old (step.old, task.old, row.old) result (HeldRequest machine.new)
+        (step.new, task.new, row.new) }
+{
     match machine.next(step.who, step.lane, held_by(task)) {
         Err(fault) => Err(step_code(fault)),
         Ok(next) => {
@@ -61,6 +84,21 @@ pub fn next(
             told
         }
     }
+}
+
+/// The same in a call of its own.
+#[inline(never)]
+fn go_on_apart(
+    machine: &mut Machine,
+    step: &mut CfRequestStep,
+    task: &mut CfTask,
+    row: &mut [CfTold],
+) -> Result<(), Code>
+    requires { step.old.lane < machine.old.teller.lanes.count }
+    ensures { GoesOnOrNot machine.old (step.old, task.old, row.old) result (HeldRequest machine.new)
+        (step.new, task.new, row.new) }
+{
+    go_on(machine, step, task, row)
 }
 
 /// From now on a stage ends as another does.
@@ -126,6 +164,22 @@ pub fn refuse(
     }
 }
 
+/// Cancels all stages that are open by words of a caller.
+pub fn cancel_all(held: &mut Object, who: u8, row: &mut [CfTold], n: &mut usize) -> Result<(), Code>
+    ensures { CancelsIn who held.old (row.old, n.old) result held.new (row.new, n.new) }
+{
+    let Object::Request(machine) = held else {
+        return Err(Code::WrongKind);
+    };
+    match machine.cancel_all(who) {
+        Err(fault) => Err(step_code(fault)),
+        Ok(()) => {
+            *n = tell_into(machine, row);
+            Ok(())
+        }
+    }
+}
+
 /// Tells what was settled and wasn't told yet.
 pub fn told(held: &mut Object, row: &mut [CfTold], n: &mut usize) -> Result<(), Code>
     ensures { TellsIn held.old (row.old, n.old) result held.new (row.new, n.new) }
@@ -138,6 +192,7 @@ pub fn told(held: &mut Object, row: &mut [CfTold], n: &mut usize) -> Result<(), 
 }
 
 /// Sets a deadline.
+#[inline(always)]
 pub fn set_deadline(held: &mut Object, deadline: Deadline) -> Result<(), Code>
     ensures { SetsDeadlineIn deadline held.old result held.new }
 {
@@ -148,4 +203,15 @@ pub fn set_deadline(held: &mut Object, deadline: Deadline) -> Result<(), Code>
         Ok(()) => Ok(()),
         Err(fault) => Err(machine_code(fault)),
     }
+}
+
+/// Starts the request again.
+pub fn restart(held: &mut Object) -> Result<(), Code>
+    ensures { RestartsIn held.old result held.new }
+{
+    let Object::Request(machine) = held else {
+        return Err(Code::WrongKind);
+    };
+    machine.restart();
+    Ok(())
 }

@@ -285,3 +285,32 @@ fn all_is_cancelled(rt: HostRuntime) {
     take(&rt, &mut machine, &CANCELS);
     drop(machine);
 }
+
+/// Source 1 follows source 0, which gets 5 at moment 20. Stage 7 is attached, and so there is no room left. Then all of
+/// that is gone.
+const AGAIN: [Step; 16] = [
+    Step::Follow(1, 0, Ok(())),
+    Step::Deadline(GIVES, Ok(())),
+    Step::Deadline(LAST, Ok(())),
+    Step::Apply(ATTACH, 3, Ok(Reply::Attach(Attached::At(7)))),
+    Step::Pass(25, Ok(())),
+    Step::Took(1),
+    Step::Ready(3, 1),
+    Step::Restart,
+    Step::Len(0),
+    Step::Told(&[]),
+    Step::Ready(3, 0),
+    Step::NextDeadline(None),
+    Step::Pass(1, Ok(())),
+    Step::Apply(COMPLETE_0, 0, SETTLED),
+    Step::Told(&[0]),
+    Step::Next(7, 1, None, TAKES),
+];
+
+#[test]
+fn all_starts_again(rt: HostRuntime) {
+    let mut machine = opened(&rt, rt.alloc());
+    take(&rt, &mut machine, &AGAIN);
+    take(&rt, &mut machine, &ATTACHES);
+    drop(machine);
+}

@@ -24,6 +24,7 @@ pub(crate) enum Step {
     /// A lane and a code.
     Refuse(u8, u32),
     CancelAll(u8, Result<(), StepFault>),
+    Restart,
     Told(&'static [u16]),
     Took(usize),
     /// A stage that is settled, with its outcome.
@@ -47,6 +48,10 @@ fn is_answered(machine: &mut Machine, step: Step) -> bool {
         Step::NextDeadline(answer) => machine.next_deadline() == answer,
         Step::Refuse(lane, code) => { lane < machine.lanes() && machine.refuse(lane, code).is_ok() }
         Step::CancelAll(who, answer) => machine.cancel_all(who) == answer,
+        Step::Restart => {
+            machine.restart();
+            true
+        }
         Step::Told(answer) => machine.told() == answer,
         Step::Took(count) => {
             machine.took(count);

@@ -1,11 +1,21 @@
-use Rattle.std.proofs.Common.{arith, subst, sym}
+use Rattle.std.proofs.Common.{ℕ, List, ap, arith, length, subst, sym}
 use Rattle.cf_ledger.specs.Ledgers.{state_of}
 use Rattle.cf_request.specs.Ready.{Lanes}
 use Rattle.cf_request.specs.Refusals.{HasLane, IsEnded}
 use Rattle.cf_request.specs.Relays.{IsRelayOr}
 use Rattle.cf_request.proofs.Memory.{spends_settle, stage_waits, stages_fewer}
-use Rattle.cf_request.proofs.Turns.{dues_more, follows_kept, keeps_settle}
+use Rattle.cf_request.proofs.Behind.{looked_none, looked_settle}
+use Rattle.cf_request.proofs.Turns.{dues_more, dues_none, follows_kept, keeps_settle}
 use Rattle.cf_request.proofs.refusals.end_all.Goals as goal
+
+pub loop-due-init : goal.loop-due-init
+loop-due-init c = record {
+  settles = dues_none (IsRelayOr c.args.follows.now (IsEnded c.args.teller.now.lanes.of c.args.ending)) c.args.who c.args.teller.now;
+  relays = c.requires.relays;
+  seen = looked_none _ c.args.teller.now.told c.args.follows.now (state_of c.args.teller.now.ledger).stages (ap (λ (l : List ℕ). length l) c.told.ensures.told) c.requires.none_behind;
+  lane = c.requires.lane;
+  memory = c.requires.memory;
+}
 
 pub settle-requires-clause-memory : goal.settle-requires-clause-memory
 settle-requires-clause-memory c =
@@ -30,6 +40,7 @@ loop-due-preserved c =
     record {
       settles = dues_more (IsRelayOr c.args.follows.now (IsEnded a.lanes.of c.args.ending)) c.args.who a b e d c.loop-due.invariant.settles c.in-Some.ensures.is_open due c.settle.ensures;
       relays = follows_kept b e c.args.follows.now keeps c.loop-due.invariant.relays;
+      seen = looked_settle c.next_ended.new.seen c.args.follows.now c.args.who d b e c.settle.ensures c.next_ended.ensures.seen;
       lane = subst (λ (l : Lanes). HasLane l.count c.args.ending) (sym keeps.lanes) c.loop-due.invariant.lane;
       memory = omega (arith, fewer, one, enough);
     }

@@ -1,33 +1,23 @@
-use Rattle.std.proofs.Common.{arith}
+use Rattle.std.proofs.Common.{◌-◌, ◌∙◌, ap, arith, drop, length, length-drop, take}
+use Rattle.std.proofs.lemmas.List.{take_all}
 use Rattle.cf_ledger.specs.Ledgers.{state_of}
 use Rattle.cf_request.specs.Relays.{IsRelayDue}
-use Rattle.cf_request.proofs.Memory.{relay_waits, relays_fewer, spends_settle}
-use Rattle.cf_request.proofs.Turns.{dues_more, follows_kept, keeps_settle}
+use Rattle.cf_request.proofs.Memory.{none_waiting}
+use Rattle.cf_request.proofs.Behind.{none_behind}
+use Rattle.cf_request.proofs.Turns.{dues_none}
 use Rattle.cf_request.proofs.relays.catch_up.Goals as goal
 
-pub settle-requires-clause-memory : goal.settle-requires-clause-memory
-settle-requires-clause-memory c =
-    let some = relay_waits c.args.follows.now (state_of c.loop-due.teller.ledger) c.in-Some.due c.in-Some.ensures.is_open c.in-Some.ensures.due in
-    let kept = c.loop-due.invariant.memory in
-    let enough = c.requires.memory in
-    omega (arith, some, kept, enough)
+pub returns-then-waiting-eq0-clause-none : goal.returns-then-waiting-eq0-clause-none
+returns-then-waiting-eq0-clause-none c =
+    let few = c.requires.waiting in
+    none_waiting (state_of c.args.teller.now.ledger).stages c.args.follows.now (omega (arith, few, c.if-waiting-eq0.true))
 
-pub loop-due-smaller : goal.loop-due-smaller
-loop-due-smaller c = relays_fewer c.args.follows.now c.args.who c.in-Some.due c.loop-due.teller c.settle.new.teller c.in-Some.ensures.is_open c.in-Some.ensures.due c.settle.ensures
+pub returns-then-waiting-eq0-clause-settles : goal.returns-then-waiting-eq0-clause-settles
+returns-then-waiting-eq0-clause-settles c = dues_none (IsRelayDue c.args.follows.now) c.args.who c.args.teller.now
 
-pub loop-due-preserved : goal.loop-due-preserved
-loop-due-preserved c =
-    let b = c.loop-due.teller in
-    let e = c.settle.new.teller in
-    let d = c.in-Some.due in
-    let follows = c.args.follows.now in
-    let some = relay_waits follows (state_of b.ledger) d c.in-Some.ensures.is_open c.in-Some.ensures.due in
-    let fewer = relays_fewer follows c.args.who d b e c.in-Some.ensures.is_open c.in-Some.ensures.due c.settle.ensures in
-    let one = spends_settle c.args.who d b e c.settle.ensures in
-    let kept = c.loop-due.invariant.memory in
-    let enough = c.requires.memory in
-    record {
-      settles = dues_more (IsRelayDue follows) c.args.who c.args.teller.now b e d c.loop-due.invariant.settles c.in-Some.ensures.is_open c.in-Some.ensures.due c.settle.ensures;
-      there = follows_kept b e follows (keeps_settle c.args.who d b e c.settle.ensures) c.loop-due.invariant.there;
-      memory = omega (arith, some, fewer, one, kept, enough);
-    }
+pub returns-then-none_followed-clause-none : goal.returns-then-none_followed-clause-none
+returns-then-none_followed-clause-none c =
+    none_behind c.args.seen c.args.teller.now.told (take (length c.told.result.now - c.args.seen) (drop c.args.seen c.told.result.now)) c.args.followed.now c.args.follows.now (state_of c.args.teller.now.ledger).stages (take_all (length c.told.result.now - c.args.seen) (drop c.args.seen c.told.result.now) (let size = length-drop c.args.seen c.told.result.now in omega (arith, size)) ∙ ap (drop c.args.seen) c.told.ensures.told) c.requires.marked c.requires.seen (c.none_followed.ensures c.if-none_followed.true)
+
+pub returns-then-none_followed-clause-settles : goal.returns-then-none_followed-clause-settles
+returns-then-none_followed-clause-settles c = dues_none (IsRelayDue c.args.follows.now) c.args.who c.args.teller.now

@@ -1,18 +1,9 @@
-use Rattle.std.proofs.Common.{◌≡◌, List, arith, subst, true}
+use Rattle.std.proofs.Common.{◌-◌, ◌∙◌, ap, arith, drop, length, length-drop, take}
 use Rattle.std.proofs.lemmas.List.{take_all}
-use Rattle.std.proofs.lemmas.List.Elements.{All-more}
 use Rattle.cf_ledger.specs.Ledgers.{state_of}
-use Rattle.cf_request.specs.Relays.{NoneBehind}
-use Rattle.cf_request.specs.Telling.{is_settled_in}
-use Rattle.cf_request.specs.declared.relays.Follow.{Follow}
+use Rattle.cf_request.proofs.Behind.{none_behind}
 use Rattle.cf_request.proofs.relays.first_behind.Goals as goal
 
-pub loop-follow-preserved : goal.loop-follow-preserved
-loop-follow-preserved c =
-    let d : Follow = record { relay = 0; stage = 0 } in
-    let stages = (state_of c.args.teller.now.ledger).stages in
-    let P : Follow → Type 0 = λ (f : Follow). is_settled_in stages f.stage ≡ true → is_settled_in stages f.relay ≡ true in
-    All-more P c.args.follows.now c.loop-follow.follow-index d (omega arith) c.loop-follow.invariant c.in_default.ensures.none
-
-pub returns-clause-none : goal.returns-clause-none
-returns-clause-none c = subst (λ (l : List Follow). NoneBehind l (state_of c.args.teller.now.ledger).stages) (take_all c.loop-follow.follow-index c.args.follows.now (omega arith)) c.loop-follow.invariant
+pub returns-then-none_followed-clause-none : goal.returns-then-none_followed-clause-none
+returns-then-none_followed-clause-none c =
+    none_behind c.args.seen c.args.teller.now.told (take (length c.told.result.now - c.args.seen) (drop c.args.seen c.told.result.now)) c.args.followed.now c.args.follows.now (state_of c.args.teller.now.ledger).stages (take_all (length c.told.result.now - c.args.seen) (drop c.args.seen c.told.result.now) (let size = length-drop c.args.seen c.told.result.now in omega (arith, size)) ∙ ap (drop c.args.seen) c.told.ensures.told) c.requires.marked c.requires.seen (c.none_followed.ensures c.if-none_followed.true)

@@ -2,15 +2,20 @@ use Rattle.std.proofs.Common.{arith, subst}
 use Rattle.cf_request.specs.Machines.{CancelsAll, Machine}
 use Rattle.cf_request.specs.Refusals.{IsCancelled}
 use Rattle.cf_request.specs.Relays.{IsRelayOr}
-use Rattle.cf_request.proofs.Machines.{cancels_is, kept_memory, kept_none}
+use Rattle.cf_request.proofs.Machines.{cancels_is, kept_rest, marked_row, none_row}
 use Rattle.cf_request.proofs.machine.Machine.cancel_all.Goals as goal
+
+pub end_all-requires-clause-marked : goal.end_all-requires-clause-marked
+end_all-requires-clause-marked c = let m = c.self.inside in marked_row c.deref.result.now m.follows.items m.followed c.deref.ensures.value c.self.invariant.2.marked
+
+pub end_all-requires-clause-none_behind : goal.end_all-requires-clause-none_behind
+end_all-requires-clause-none_behind c = let m = c.self.inside in none_row _ m.teller c.reserve.new.self c.deref.result.now m.follows.items c.deref.ensures.value c.in_ok-reserve.ensures.found c.self.invariant.1
 
 pub invariant_of-self-2 : goal.invariant_of-self-2
 invariant_of-self-2 c =
     let m = c.self.inside in
-    let r = c.reserve.new.self in
-    kept_none (IsRelayOr c.deref.result.now IsCancelled) c.args.who r c.end_all.new.teller c.deref.result.now m.follows.items m.deadlines.items m.own c.end_all.ensures.settles
-    (kept_memory _ m.teller r m.follows.items m.deadlines.items m.own c.in_ok-reserve.ensures.found c.self.invariant.0) c.deref.ensures.value c.end_all.ensures.behind
+    kept_rest (IsRelayOr c.deref.result.now IsCancelled) c.args.who _ m.teller c.reserve.new.self c.end_all.new.teller c.deref.result.now m.follows.items m.deadlines.items m.own m.followed m.waiting
+    c.deref.ensures.value c.in_ok-reserve.ensures.found c.end_all.ensures.settles c.self.invariant.0 c.self.invariant.2 c.end_all.ensures.behind
 
 pub returns-clause-cancels : goal.returns-clause-cancels
 returns-clause-cancels c =

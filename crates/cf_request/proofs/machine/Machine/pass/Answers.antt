@@ -1,27 +1,65 @@
-use Rattle.std.proofs.Common.{List, ap, arith, length}
+use Rattle.std.proofs.Common.{◌+◌, ◌≤◌, List, arith, length, length-take, refl, subst, sym, take}
 use Rattle.cf_ledger.specs.Ledgers.{state_of}
 use Rattle.cf_request.specs.Deadlines.{IsOverdue}
-use Rattle.cf_request.specs.Relays.{IsRelayOr}
+use Rattle.cf_request.specs.Machines.{Machine, Passes}
+use Rattle.cf_request.specs.Relays.{IsRelayOr, NoneBehind, waiting_of}
+use Rattle.cf_request.specs.Settling.{SettlesDue}
 use Rattle.cf_request.specs.declared.relays.Follow.{Follow}
-use Rattle.cf_request.proofs.Machines.{kept_left, kept_memory, kept_none}
-use Rattle.cf_request.proofs.Memory.{few_limits, few_relays}
+use Rattle.cf_request.proofs.Machines.{kept_left, kept_rest, marked_row, none_row, relays_later}
+use Rattle.cf_request.proofs.Memory.{few_limits}
+use Rattle.cf_request.proofs.Turns.{keeps_memory}
 use Rattle.cf_request.proofs.machine.Machine.pass.Goals as goal
+
+pub pass-requires-clause-marked : goal.pass-requires-clause-marked
+pass-requires-clause-marked c = let m = c.self.inside in marked_row c.deref.result.now m.follows.items m.followed c.deref.ensures.value c.self.invariant.2.marked
+
+pub pass-requires-clause-behind : goal.pass-requires-clause-behind
+pass-requires-clause-behind c = let m = c.self.inside in none_row _ m.teller c.reserve.new.self c.deref.result.now m.follows.items c.deref.ensures.value c.in_ok-reserve.ensures.found c.self.invariant.1
+
+pub pass-requires-clause-later : goal.pass-requires-clause-later
+pass-requires-clause-later c = c.come_by-come.ensures.behind
 
 pub pass-requires-clause-memory : goal.pass-requires-clause-memory
 pass-requires-clause-memory c =
-    let stages = (state_of c.reserve.new.self.ledger).stages in
-    let relays = few_relays stages c.deref.result.now in
-    let limits = few_limits stages c.self.inside.deadlines.items in
-    let follows = ap (λ (l : List Follow). length l) c.deref.ensures.value in
+    let m = c.self.inside in
+    let r = c.reserve.new.self in
+    let stages = (state_of r.ledger).stages in
+    let first = relays_later (state_of m.teller.ledger).stages stages m.follows.items m.followed m.waiting (keeps_memory _ m.teller r c.in_ok-reserve.ensures.found).settled c.self.invariant.2 in
+    let most = subst (λ (l : List Follow). length (waiting_of stages l) ≤ m.waiting) (sym c.deref.ensures.value) first.most in
+    let limits = few_limits stages (take c.come_by-come.result m.deadlines.items) in
+    let size = length-take c.come_by-come.result m.deadlines.items in
     let enough = c.in_ok-reserve.ensures.enough in
-    omega (arith, relays, limits, follows, enough, c.len.ensures, c.len-2.ensures, c.self.inside.follows.ok.0, c.self.inside.deadlines.ok.0)
+    omega (arith, most, limits, size, enough)
 
 pub invariant_of-self-2 : goal.invariant_of-self-2
 invariant_of-self-2 c =
     let m = c.self.inside in
-    let r = c.reserve.new.self in
-    let kept = kept_none (IsRelayOr c.deref.result.now (IsOverdue c.args.moment m.deadlines.items)) m.own r c.pass.new.teller c.deref.result.now m.follows.items m.deadlines.items m.own c.pass.ensures.settles
-    (kept_memory _ m.teller r m.follows.items m.deadlines.items m.own c.in_ok-reserve.ensures.found c.self.invariant.0) c.deref.ensures.value c.pass.ensures.none.0 in (
+    let kept = kept_rest (IsRelayOr c.deref.result.now (IsOverdue c.args.moment m.deadlines.items)) m.own _ m.teller c.reserve.new.self c.pass.new.teller c.deref.result.now m.follows.items m.deadlines.items m.own m.followed m.waiting
+    c.deref.ensures.value c.in_ok-reserve.ensures.found c.pass.ensures.settles c.self.invariant.0 c.self.invariant.2 c.pass.ensures.none.0 in (
       kept_left c.pass.new.teller m.follows.items m.deadlines.items c.pass.new.deadlines.items m.own kept.0 c.pass.ensures.forgets,
       kept.1,
+      kept.2,
     )
+
+pub returns-clause-passes : goal.returns-clause-passes
+returns-clause-passes c =
+    let m = c.self.inside in
+    let r = c.reserve.new.self in
+    let e = c.pass.new.teller in
+    let most = c.self.invariant.2.most in
+    let few = c.self.invariant.2.few in
+    let limits = few_limits (state_of m.teller.ledger).stages (take c.come_by-come.result m.deadlines.items) in
+    let size = length-take c.come_by-come.result m.deadlines.items in
+    let new : Machine = record { teller = e; follows = m.follows.items; deadlines = c.pass.new.deadlines.items; moment = c.args.moment; own = m.own } in
+    subst (λ (old : Machine). Passes c.args.moment old new) c.self.view_is
+    (record {
+      onward = omega arith;
+      come = c.come_by-come.result;
+      are_come = c.come_by-come.ensures;
+      found = r;
+      finds = record { words = m.waiting + c.come_by-come.result; enough = omega (arith, most, limits, size); few = omega (arith, few); is = c.in_ok-reserve.ensures.found };
+      settles = subst (λ (l : List Follow). SettlesDue (IsRelayOr l (IsOverdue c.args.moment m.deadlines.items)) m.own r e) c.deref.ensures.value c.pass.ensures.settles;
+      none = (subst (λ (l : List Follow). NoneBehind l (state_of e.ledger).stages) c.deref.ensures.value c.pass.ensures.none.0, c.pass.ensures.none.1);
+      forgets = c.pass.ensures.forgets;
+      same = refl;
+    })

@@ -25,32 +25,27 @@ reach-requires-clause-room c =
     let count = c.stages-stages.ensures.count in
     omega (arith, most, room, count)
 
-pub mark-requires-clause-lanes : goal.mark-requires-clause-lanes
-mark-requires-clause-lanes c =
+pub note-requires-clause-lanes : goal.note-requires-clause-lanes
+note-requires-clause-lanes c =
     let t = c.self.inside in
     subst (λ (r : ReadySets). HasLanes (state_of c.apply.new.self) r.of) (sym c.reach.ensures)
     (lanes_reached t.ledger c.apply.new.self c.args.word c.stages-stages.result c.args.lane c.in_ok-reply.reply t.lanes c.in_ok-reply.ensures.done c.stages-stages.ensures.count c.self.invariant.1)
 
-pub mark-requires-clause-there : goal.mark-requires-clause-there
-mark-requires-clause-there c =
-    news_fit c.self.inside.ledger c.apply.new.self c.args.word (c.len-place.result - 1) c.in_ok-reply.reply c.news-news.result.now c.in_ok-reply.ensures.done (ap (λ (n : ℕ). n - 1) c.len-place.ensures) c.news-news.ensures
-    c.stages-known_before.ensures.all_stages c.stages-stages.ensures.all_stages
-
-pub mark-requires-clause-rest : goal.mark-requires-clause-rest
-mark-requires-clause-rest c =
+pub note-requires-clause-rest : goal.note-requires-clause-rest
+note-requires-clause-rest c =
     let t = c.self.inside in
     subst (λ (r : ReadySets). AreFitBut (Contains c.news-news.result.now) (state_of c.apply.new.self).stages r) (sym c.reach.ensures)
     (left_by t.ledger c.apply.new.self c.args.word (c.len-place.result - 1) c.stages-stages.result c.args.lane c.in_ok-reply.reply c.news-news.result.now t.lanes
     c.in_ok-reply.ensures.done (ap (λ (n : ℕ). n - 1) c.len-place.ensures) c.news-news.ensures c.stages-known_before.ensures.all_stages c.self.invariant.1)
 
 -- the lanes once all is written
-written : (c : goal.After-mark) → c.mark.new.sets ≡ record c.self.inside.lanes { of = lanes_of c.stages-stages.result c.args.lane c.self.inside.lanes.of; sets = c.mark.new.sets.sets }
-written c = c.mark.ensures.same ∙ ap (λ (r : ReadySets). let x : ReadySets = record r { sets = c.mark.new.sets.sets } in x) c.reach.ensures
+written : (c : goal.After-note) → c.note.new.sets ≡ record c.self.inside.lanes { of = lanes_of c.stages-stages.result c.args.lane c.self.inside.lanes.of; sets = c.note.new.sets.sets }
+written c = c.note.ensures.same ∙ ap (λ (r : ReadySets). let x : ReadySets = record r { sets = c.note.new.sets.sets } in x) c.reach.ensures
 
-seen : (c : goal.After-mark) → lanes_in c.mark.new.sets ≡ with_lane (length (state_of c.apply.new.self).plan.stages) c.args.lane (lanes_in c.self.inside.lanes)
+seen : (c : goal.After-note) → lanes_in c.note.new.sets ≡ with_lane (length (state_of c.apply.new.self).plan.stages) c.args.lane (lanes_in c.self.inside.lanes)
 seen c =
     let t = c.self.inside in
-    lanes_seen t.lanes c.mark.new.sets c.stages-stages.result (length (state_of c.apply.new.self).plan.stages) c.args.lane (written c) (c.mark.ensures.count ∙ ap (λ (r : ReadySets). length r.sets) c.reach.ensures) c.stages-stages.ensures.count
+    lanes_seen t.lanes c.note.new.sets c.stages-stages.result (length (state_of c.apply.new.self).plan.stages) c.args.lane (written c) (c.note.ensures.count ∙ ap (λ (r : ReadySets). length r.sets) c.reach.ensures) c.stages-stages.ensures.count
 
 pub invariant_of-self-2 : goal.invariant_of-self-2
 invariant_of-self-2 c =
@@ -58,16 +53,16 @@ invariant_of-self-2 c =
       subst (λ (places : ℕ). IsKept c.apply.new.self c.note.new.order.items places t.count) (sym c.note.ensures.room)
           (kept_note t.ledger c.apply.new.self c.args.word (c.len-place.result - 1) c.in_ok-reply.reply t.order.items c.note.new.order.items c.news-news.result.now (vec_capacity t.order) t.count
           c.self.invariant.0 c.in_ok-reply.ensures.done (ap (λ (n : ℕ). n - 1) c.len-place.ensures) c.news-news.ensures c.note.ensures.noted),
-      fit_state t.ledger c.apply.new.self c.args.word c.stages-stages.result c.args.lane c.in_ok-reply.reply t.lanes c.mark.new.sets c.in_ok-reply.ensures.done c.stages-stages.ensures.count c.self.invariant.1 (written c) c.mark.ensures.fit,
+      fit_state t.ledger c.apply.new.self c.args.word c.stages-stages.result c.args.lane c.in_ok-reply.reply t.lanes c.note.new.sets c.in_ok-reply.ensures.done c.stages-stages.ensures.count c.self.invariant.1 (written c) c.note.ensures.fit,
     )
 
 pub returns-clause-done : goal.returns-clause-done
 returns-clause-done c =
     let t = c.self.inside in
-    subst (λ (x : Teller). Tells c.args.word x c.in_ok-reply.reply (view_of c.apply.new.self c.note.new.order.items t.count (lanes_in c.mark.new.sets))) c.self.view_is
-    (tells_note t.ledger c.apply.new.self c.args.word (c.len-place.result - 1) c.in_ok-reply.reply t.order.items c.note.new.order.items c.news-news.result.now (vec_capacity t.order) t.count (lanes_in t.lanes) (lanes_in c.mark.new.sets)
+    subst (λ (x : Teller). Tells c.args.word x c.in_ok-reply.reply (view_of c.apply.new.self c.note.new.order.items t.count (lanes_in c.note.new.sets))) c.self.view_is
+    (tells_note t.ledger c.apply.new.self c.args.word (c.len-place.result - 1) c.in_ok-reply.reply t.order.items c.note.new.order.items c.news-news.result.now (vec_capacity t.order) t.count (lanes_in t.lanes) (lanes_in c.note.new.sets)
     c.self.invariant.0 c.in_ok-reply.ensures.done (ap (λ (n : ℕ). n - 1) c.len-place.ensures) c.news-news.ensures c.note.ensures.noted)
 
 pub returns-clause-lanes : goal.returns-clause-lanes
 returns-clause-lanes c =
-    subst (λ (x : Teller). lanes_in c.mark.new.sets ≡ with_lane (length (state_of c.apply.new.self).plan.stages) c.args.lane x.lanes) c.self.view_is (seen c)
+    subst (λ (x : Teller). lanes_in c.note.new.sets ≡ with_lane (length (state_of c.apply.new.self).plan.stages) c.args.lane x.lanes) c.self.view_is (seen c)

@@ -1,7 +1,7 @@
 use Rattle.std.proofs.Common.{take}
 use Rattle.cf_ledger.specs.Ledgers.{state_of}
 use Rattle.cf_request.specs.Relays.{NoneBehind}
-use Rattle.cf_request.proofs.relays.first_behind.Given as goal
+use Rattle.cf_request.proofs.relays.first_of.Given as goal
 
 -- none so far is behind
 abbrev pub invariant-loop-follow : goal.invariant-loop-follow

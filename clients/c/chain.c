@@ -1,0 +1,66 @@
+/* A chain of stages that one thread makes while it runs them: one call a stage, by cf_request_do. Then the same request starts again. In
+ * the end it is cancelled. */
+#include "cf.h"
+#include <stdio.h>
+#include <stdlib.h>
+
+enum { LENGTH = 16, ME = 1, OWN = 0, LANE = 0, ROOM = 4 };
+
+#define DO(call) do { if ((call) != CF_OK) { fprintf(stderr, "%s\n", #call); exit(1); } } while (0)
+
+static uint64_t word_of(cf_event event) {
+  uint64_t word;
+  event.who = ME;
+  DO(cf_word_of_event(&event, &word));
+  return word;
+}
+
+/* The word that completes the source, or attaches a stage behind another. */
+static uint64_t complete(int32_t number) { return word_of((cf_event){.call = CF_CALL_COMPLETE, .stage = 0, .value = {CF_INT, number}}); }
+
+static uint64_t attach(uint16_t before) {
+  return word_of((cf_event){.call = CF_CALL_ATTACH, .form = CF_APPLY, .sources = 1, .first = before, .function = 0});
+}
+
+/* Each call attaches a stage, finishes the one before, and claims the next. What the source is given waits for the first of them. */
+static void run(cf_handle *request, int32_t number) {
+  cf_request_call calls[3] = {{.call = CF_DO_APPLY}, {.call = CF_DO_APPLY}, {.call = CF_DO_NEXT, .who = ME}};
+  cf_task *const task = &calls[2].task;
+  cf_request_done done;
+  cf_told told[ROOM];
+  calls[0].word = complete(number);
+  for (uint16_t stage = 0; stage <= LENGTH; stage++) {
+    cf_request_call *const from = stage == 0 ? calls : stage < LENGTH ? calls + 1 : calls + 2;
+    calls[1].word = attach(stage);
+    DO(cf_request_do(request, from, (size_t)(calls + 3 - from), &done, told, ROOM));
+    if (task->held) task->answer = (cf_answer){.kind = CF_GIVE, .value = {CF_INT, task->args.first.number + 1}};
+  }
+  printf("%d calls for %d stages; stage %u gives %d\n", LENGTH + 1, LENGTH, (unsigned)told[0].stage, told[0].outcome.value.number);
+}
+
+int main(void) {
+  const cf_request_sizes sizes = {.room = LENGTH, .lanes = 1, .own = OWN};
+  cf_handle plan = {0}, request = {0};
+  cf_request_call wrong[2] = {{.call = CF_DO_FOLLOW, .relay = 0, .stage = 0}, {.call = CF_DO_REFUSE, .lane = 1}};
+  cf_request_done done;
+  cf_told told[ROOM];
+  uint16_t stage;
+  size_t n;
+  DO(cf_builder_new(&plan, 0, 0));
+  DO(cf_builder_stage(&plan, CF_SOURCE, NULL, 0, CF_NO_FUNCTION, &stage));
+  DO(cf_build(&plan));
+  DO(cf_request_new(&plan, &sizes, (uint8_t[]){LANE}, 1, &request));
+  cf_free(&plan);
+
+  run(&request, 0);
+  DO(cf_request_restart(&request));
+  run(&request, 100);
+  DO(cf_request_restart(&request));
+
+  const uint32_t code = cf_request_do(&request, wrong, 2, &done, told, ROOM);
+  printf("%zu of 2 calls: %s\n", done.calls, cf_code_name(code));
+  DO(cf_request_cancel_all(&request, ME, told, ROOM, &n));
+  printf("cancelled: %zu\n", n);
+  cf_free(&request);
+  return 0;
+}
