@@ -23,6 +23,7 @@ LATER: Dict[str, str] = {
     **dict.fromkeys(["cf_fail_as", "cf_desk_fail_as", "cf_desk_notice", "cf_desk_heed"], "1.4"),
     **dict.fromkeys(["cf_request_new", "cf_request_apply", "cf_request_next", "cf_request_follow", "cf_request_deadline", "cf_request_pass",
                      "cf_request_next_deadline", "cf_request_refuse", "cf_request_told", "cf_request_ready"], "1.5"),
+    **dict.fromkeys(["cf_history_new", "cf_history_times", "cf_history_say", "cf_history_text"], "1.5"),
 }
 TEXT = """#include "cf.h"
 #include <string.h>

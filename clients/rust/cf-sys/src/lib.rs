@@ -148,6 +148,18 @@ pub const CF_IS_CLAIMED: u32 = 2;
 pub const CF_IS_LINKED: u32 = 3;
 pub const CF_IS_SETTLED: u32 = 4;
 
+pub const CF_SAY_NAME: u32 = 0;
+pub const CF_SAY_STAGES: u32 = 1;
+pub const CF_SAY_CALLERS: u32 = 2;
+pub const CF_SAY_VALUES: u32 = 3;
+pub const CF_SAY_ERRORS: u32 = 4;
+
+pub const CF_LINES: u32 = 0;
+pub const CF_LINE: u32 = 1;
+pub const CF_ACCOUNT: u32 = 2;
+pub const CF_SCRIPT: u32 = 3;
+pub const CF_REPORT: u32 = 4;
+
 pub const CF_NO_FUNCTION: u32 = u32::MAX;
 pub const CF_NOBODY: u32 = u32::MAX;
 pub const CF_VERSION_MAJOR: u32 = 1;
@@ -417,6 +429,10 @@ extern "C" {
     pub fn cf_request_refuse(request: *mut cf_handle, lane: u8, code: u32, told: *mut cf_told, room: usize, n: *mut usize) -> u32;
     pub fn cf_request_told(request: *mut cf_handle, told: *mut cf_told, room: usize, n: *mut usize) -> u32;
     pub fn cf_request_ready(request: *mut cf_handle, lane: u8, ready: *mut u16) -> u32;
+    pub fn cf_history_new(plan: *mut cf_handle, room: u16, words: *const u64, n: usize, history: *mut cf_handle) -> u32;
+    pub fn cf_history_times(history: *mut cf_handle, times: *const u64, n: usize) -> u32;
+    pub fn cf_history_say(history: *mut cf_handle, what: u32, text: *const u8, n: usize, ends: *const usize, count: usize) -> u32;
+    pub fn cf_history_text(history: *mut cf_handle, kind: u32, text: *mut u8, room: usize, length: *mut usize) -> u32;
     pub fn cf_version() -> *const u8;
     pub fn cf_fits(major: u32, minor: u32) -> bool;
     pub fn cf_code_name(code: u32) -> *const u8;
