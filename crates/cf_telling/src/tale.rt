@@ -117,7 +117,9 @@ fn go_through(
     requires { entries.old.items ≡ [] }
     ensures { IfOk result (λ stop. AreToldOf (state_of ledger.old) words.now entries.new.items stop) }
 {
-    for (_place, word) in words.iter().enumerate() {
+    for (place, word) in words.iter().enumerate() {
+        // The words before this place are told.
+        let _place = place;
         if let Some(why) = tell_word(alloc, ledger, *word, entries, notes)? {
             return Ok(Some(why));
         }
