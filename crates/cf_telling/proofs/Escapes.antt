@@ -1,5 +1,5 @@
 -- What a character of a text of others is written as.
-use Rattle.std.proofs.Common.{◌≡◌, ◌∙◌, ℕ, ◌<◌, ◌%◌, ◌/◌, List, [], ◌∷◌, Bool, true, false, refl, ap, arith, absurd, get_or}
+use Rattle.std.proofs.Common.{◌≡◌, ◌∙◌, ℕ, ◌<◌, ◌%◌, ◌/◌, List, [], ◌∷◌, Bool, true, false, refl, ap, arith, get_or}
 use Rattle.std.specs.Prelude.{All, ◌==◌, ◌&&◌, not, if◌then◌else◌}
 use Rattle.std.specs.Char.{digit_char}
 use Rattle.std.specs.List.{list_all, range_with_len}
