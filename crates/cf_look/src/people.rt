@@ -5,8 +5,8 @@ use anyhow::Result;
 use cf_explain::stage_name;
 use cf_history::{Caller, Record};
 use cf_model::Reply;
-use cf_page::People;
 use cf_script_reading::u16_of;
+use cf_telling::People;
 use serde_json::Value as Json;
 use std::alloc::{AllocError, Global};
 

@@ -1,10 +1,7 @@
 //! What became of stages, as JSON.
-use crate::noting::Notes;
-use crate::people::People;
-use crate::saying::{write_name, write_outcome};
-use crate::text::Text;
 use cf_model::Stage;
 use cf_outcome::{Cause, Outcome};
+use cf_telling::{Notes, People, Text, write_name, write_outcome, write_passed};
 
 /// Adds what has become of a stage: its number, that of its state, and what there is to say of it.
 pub(crate) fn write_change(out: &mut Text, notes: &Notes, people: &People, i: u16, stage: Stage) {
@@ -23,16 +20,6 @@ pub(crate) fn write_change(out: &mut Text, notes: &Notes, people: &People, i: u1
         _ => {}
     }
     out.add("\"]");
-}
-
-fn write_passed(out: &mut Text, notes: &Notes, i: u16, outcome: Outcome) {
-    let is_passed = match notes.stages.get(i as usize) {
-        Some(seen) => !seen.is_own,
-        None => false,
-    };
-    if is_passed && matches!(outcome, Outcome::Fault { .. }) {
-        out.add(", passed on");
-    }
 }
 
 /// The number by which the page knows a state.

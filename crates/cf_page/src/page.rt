@@ -1,17 +1,14 @@
 //! A scene as a page.
 use crate::layout::BOX;
-use crate::noting::{Link, Run, Seen};
-use crate::people::People;
-use crate::saying::write_bare_name;
 use crate::scene::Scene;
 use crate::template::{HEAD, TAIL};
-use crate::text::Text;
 use cf_forms::{Limit, LimitKind};
+use cf_telling::{Link, People, Run, Seen, Text, Within, write_bare_name};
 use std::alloc::{AllocError, Global};
 
 /// The page of a scene: one file of HTML that loads nothing. It fails only where there is no memory.
 pub fn page_of(alloc: Global, scene: &Scene, people: &People) -> Result<String, AllocError> {
-    let mut out = Text::new(alloc);
+    let mut out = Text::new(alloc, Within::Json);
     out.add(HEAD);
     write_data(&mut out, scene, people);
     out.add(TAIL);
@@ -55,7 +52,7 @@ fn write_plan(out: &mut Text, scene: &Scene, people: &People) {
 }
 
 fn write_stages(out: &mut Text, scene: &Scene, people: &People) {
-    for (i, seen) in scene.notes.stages.iter().enumerate() {
+    for (i, seen) in scene.tale.notes.stages.iter().enumerate() {
         out.add_comma(i);
         write_stage(
             out,
@@ -80,7 +77,7 @@ fn write_callers(out: &mut Text, scene: &Scene, people: &People) {
     out.add("],\n\"lanes\":[");
     write_lanes(out, people);
     out.add("],\n\"runs\":[");
-    write_runs(out, &scene.notes.runs);
+    write_runs(out, &scene.tale.notes.runs);
     out.add("]}");
 }
 
@@ -93,17 +90,17 @@ fn write_runs(out: &mut Text, runs: &[Run]) {
 
 /// Whether each event has a time.
 fn is_timed(scene: &Scene, people: &People) -> bool {
-    !people.times.is_empty() && people.times.len() >= scene.calls.len()
+    !people.times.is_empty() && people.times.len() >= scene.count()
 }
 
 /// Adds a stage: name, form, sources, place in the picture, the place by which it is there, the stage from which its outcome
 /// came, its limits, the place by which it settled.
 fn write_stage(out: &mut Text, scene: &Scene, people: &People, i: u16, seen: &Seen) {
     out.add("[\"");
-    write_bare_name(out, &scene.notes, people, i);
+    write_bare_name(out, &scene.tale.notes, people, i);
     write_form(out, seen);
     write_origin(out, seen);
-    write_limits(out, scene.plan.limits(), i);
+    write_limits(out, scene.tale.plan.limits(), i);
     match seen.settled {
         Some((_, place)) => {
             out.add_with("],", place);
@@ -165,7 +162,7 @@ fn write_limit(out: &mut Text, limit: Limit) {
 /// Adds an edge from each source, and one for each link with the place by which it is there.
 fn write_edges(out: &mut Text, scene: &Scene) {
     let mut count = 0;
-    for (i, seen) in scene.notes.stages.iter().enumerate() {
+    for (i, seen) in scene.tale.notes.stages.iter().enumerate() {
         for j in seen.of.iter() {
             out.add_comma(count);
             out.add_with("[", *j);
@@ -174,7 +171,7 @@ fn write_edges(out: &mut Text, scene: &Scene) {
             count = 1;
         }
     }
-    for link in scene.notes.links.iter() {
+    for link in scene.tale.notes.links.iter() {
         out.add_comma(count);
         write_link(out, *link);
         count = 1;

@@ -1,10 +1,7 @@
 //! A scene as OpenTelemetry's spans, in the JSON of its protocol.
-use crate::noting::{Run, Seen};
-use crate::people::People;
-use crate::saying::{write_bare_name, write_caller, write_outcome};
 use crate::scene::Scene;
-use crate::text::Text;
 use cf_outcome::Outcome;
+use cf_telling::{People, Run, Seen, Text, Within, write_bare_name, write_caller, write_outcome};
 use std::alloc::{AllocError, Global};
 
 /// The spans of a scene: one for the request, and within it one for each call of a function. A span has a link to that of each
@@ -18,10 +15,10 @@ pub fn spans_of(
     words: &[u64],
 ) -> Result<String, AllocError> {
     let trace = number_of(words);
-    let mut out = Text::new(alloc);
+    let mut out = Text::new(alloc, Within::Json);
     write_head(&mut out, people);
     write_whole(&mut out, scene, people, trace);
-    for run in scene.notes.runs.iter() {
+    for run in scene.tale.notes.runs.iter() {
         write_span(&mut out, scene, people, trace, *run);
     }
     out.add("\n]}]}]}\n");
@@ -50,7 +47,7 @@ fn number_of(words: &[u64]) -> u64 {
 fn moment_of(scene: &Scene, people: &People, place: usize) -> u64 {
     let k = place.saturating_sub(1);
     match people.times.get(k) {
-        Some(at) if people.times.len() >= scene.calls.len() => *at,
+        Some(at) if people.times.len() >= scene.count() => *at,
         _ => (k as u64).saturating_mul(1_000),
     }
 }
@@ -64,7 +61,7 @@ fn write_whole(out: &mut Text, scene: &Scene, people: &People, trace: u64) {
     out.add_string(&people.name);
     out.add(",\"kind\":1,");
     let start = moment_of(scene, people, 1);
-    write_times(out, start, moment_of(scene, people, scene.calls.len()));
+    write_times(out, start, moment_of(scene, people, scene.count()));
     out.add("{\"key\":\"cf.verdict\",\"value\":{\"stringValue\":");
     out.add_string(&people.verdict);
     out.add("}}]}");
@@ -88,7 +85,7 @@ fn write_span(out: &mut Text, scene: &Scene, people: &People, trace: u64, run: R
     out.add("\",\"parentSpanId\":\"ffffffffffffffff\",");
     write_name_and_times(out, scene, people, run);
     write_who(out, people, run);
-    match scene.notes.stages.get(run.stage as usize) {
+    match scene.tale.notes.stages.get(run.stage as usize) {
         Some(seen) => write_rest(out, scene, people, trace, seen),
         None => out.add("]}"),
     }
@@ -96,9 +93,9 @@ fn write_span(out: &mut Text, scene: &Scene, people: &People, trace: u64, run: R
 
 fn write_name_and_times(out: &mut Text, scene: &Scene, people: &People, run: Run) {
     let start = moment_of(scene, people, run.claimed);
-    let end = moment_of(scene, people, run.finished.unwrap_or(scene.calls.len()));
+    let end = moment_of(scene, people, run.finished.unwrap_or(scene.count()));
     out.add("\"name\":\"");
-    write_bare_name(out, &scene.notes, people, run.stage);
+    write_bare_name(out, &scene.tale.notes, people, run.stage);
     out.add("\",\"kind\":1,");
     write_times(out, start, end);
 }
@@ -160,7 +157,7 @@ fn write_links(out: &mut Text, scene: &Scene, trace: u64, of: &[u16]) {
 }
 
 fn has_span(scene: &Scene, stage: u16) -> bool {
-    match scene.notes.stages.get(stage as usize) {
+    match scene.tale.notes.stages.get(stage as usize) {
         Some(seen) => seen.run.is_some(),
         None => false,
     }

@@ -1,10 +1,10 @@
 //! A scene as a trace of events, the JSON that Chrome's viewer and Perfetto open.
-use crate::noting::{Run, Seen};
-use crate::people::People;
-use crate::saying::{write_bare_name, write_caller, write_event_alone, write_outcome};
 use crate::scene::Scene;
-use crate::text::Text;
 use cf_model::Event;
+use cf_telling::{
+    People, Run, Seen, Text, Within, write_bare_name, write_caller, write_event_alone,
+    write_outcome,
+};
 use std::alloc::{AllocError, Global};
 
 /// The trace of a scene. Each caller has a row, and more of them where its calls of functions overlap. A call of a function is a
@@ -12,7 +12,7 @@ use std::alloc::{AllocError, Global};
 /// microsecond. It fails only where there is no memory.
 pub fn trace_of(alloc: Global, scene: &Scene, people: &People) -> Result<String, AllocError> {
     let rows = rows_of(alloc, scene)?;
-    let mut out = Text::new(alloc);
+    let mut out = Text::new(alloc, Within::Json);
     write_head(&mut out, people);
     write_rows(&mut out, scene, people, &rows);
     write_bars(&mut out, scene, people, &rows);
@@ -34,7 +34,7 @@ fn write_head(out: &mut Text, people: &People) {
 
 /// Adds a bar for each call of a function, with the arrows to it.
 fn write_bars(out: &mut Text, scene: &Scene, people: &People, rows: &Rows) {
-    for (k, run) in scene.notes.runs.iter().enumerate() {
+    for (k, run) in scene.tale.notes.runs.iter().enumerate() {
         write_bar(out, scene, people, *run, rows.of(k));
         write_arrows(out, scene, people, rows, k, *run);
     }
@@ -42,8 +42,8 @@ fn write_bars(out: &mut Text, scene: &Scene, people: &People, rows: &Rows) {
 
 /// Adds the marks of events.
 fn write_marks(out: &mut Text, scene: &Scene, people: &People) {
-    for (k, event) in scene.calls.iter().enumerate() {
-        write_mark(out, scene, people, k + 1, *event);
+    for (k, entry) in scene.tale.entries.iter().enumerate() {
+        write_mark(out, scene, people, k + 1, entry.event);
     }
 }
 
@@ -78,7 +78,7 @@ fn number_of(who: u8, depth: u32) -> u32 {
 fn rows_of(alloc: Global, scene: &Scene) -> Result<Rows, AllocError> {
     let mut rows = Vec::new(alloc);
     let mut of = Vec::new(alloc);
-    for run in scene.notes.runs.iter() {
+    for run in scene.tale.notes.runs.iter() {
         of.push(put(&mut rows, run.who, run.claimed, end_of(scene, *run))?)?;
     }
     Ok(Rows { rows, of })
@@ -103,7 +103,12 @@ fn put(rows: &mut Vec<Row>, who: u8, from: usize, end: usize) -> Result<u32, All
 /// Adds the names of rows: one for each caller, and those below it.
 fn write_rows(out: &mut Text, scene: &Scene, people: &People, rows: &Rows) {
     for who in 0..64 {
-        if scene.calls.iter().any(|event| event.who() == who) {
+        if scene
+            .tale
+            .entries
+            .iter()
+            .any(|entry| entry.event.who() == who)
+        {
             write_row(out, people, who, 0);
         }
     }
@@ -133,24 +138,24 @@ fn write_row(out: &mut Text, people: &People, who: u8, depth: u32) {
 fn moment_of(scene: &Scene, people: &People, place: usize) -> u64 {
     let k = place.saturating_sub(1);
     match people.since(people.times.len(), k) {
-        Some(at) if people.times.len() >= scene.calls.len() => at,
+        Some(at) if people.times.len() >= scene.count() => at,
         _ => (k as u64).saturating_mul(1_000),
     }
 }
 
 /// Where a call of a function ended; the last event of all, where it didn't.
 fn end_of(scene: &Scene, run: Run) -> usize {
-    run.finished.unwrap_or(scene.calls.len())
+    run.finished.unwrap_or(scene.count())
 }
 
 /// Adds the bar of a call of a function.
 fn write_bar(out: &mut Text, scene: &Scene, people: &People, run: Run, row: u32) {
     out.add_with(",\n{\"ph\":\"X\",\"cat\":\"stage\",\"pid\":1,\"tid\":", row);
     out.add(",\"name\":\"");
-    write_bare_name(out, &scene.notes, people, run.stage);
+    write_bare_name(out, &scene.tale.notes, people, run.stage);
     write_times(out, scene, people, run);
     write_places(out, run);
-    if let Some(seen) = scene.notes.stages.get(run.stage as usize) {
+    if let Some(seen) = scene.tale.notes.stages.get(run.stage as usize) {
         write_end(out, people, seen);
     }
     out.add("}}");
@@ -161,9 +166,9 @@ fn write_times(out: &mut Text, scene: &Scene, people: &People, run: Run) {
     let from = moment_of(scene, people, run.claimed);
     let to = moment_of(scene, people, end_of(scene, run));
     out.add("\",\"ts\":");
-    out.add_micros(from);
+    out.add_thousandths(from);
     out.add(",\"dur\":");
-    out.add_micros(to.saturating_sub(from))
+    out.add_thousandths(to.saturating_sub(from))
 }
 
 /// Adds the places of a call's claim and finish.
@@ -189,13 +194,13 @@ fn write_end(out: &mut Text, people: &People, seen: &Seen) {
 
 /// Adds an arrow to call `k` from each source whose function was called.
 fn write_arrows(out: &mut Text, scene: &Scene, people: &People, rows: &Rows, k: usize, run: Run) {
-    let Some(seen) = scene.notes.stages.get(run.stage as usize) else {
+    let Some(seen) = scene.tale.notes.stages.get(run.stage as usize) else {
         return;
     };
     for (at, j) in seen.of.iter().enumerate() {
         let is_first = !seen.of.iter().take(at).any(|other| *other == *j);
         if let (true, Some(number)) = (is_first, run_of(scene, *j)) {
-            if let Some(source) = scene.notes.runs.get(number) {
+            if let Some(source) = scene.tale.notes.runs.get(number) {
                 let from = starts_at(scene, people, *source, rows.of(number));
                 let to = ArrowEnd {
                     row: rows.of(k),
@@ -209,8 +214,8 @@ fn write_arrows(out: &mut Text, scene: &Scene, people: &People, rows: &Rows, k: 
 
 /// The number of the call of a stage's function, if it was finished.
 fn run_of(scene: &Scene, stage: u16) -> Option<usize> {
-    let number = scene.notes.stages.get(stage as usize)?.run?;
-    let run = *scene.notes.runs.get(number)?;
+    let number = scene.tale.notes.stages.get(stage as usize)?.run?;
+    let run = *scene.tale.notes.runs.get(number)?;
     if run.finished.is_some() {
         Some(number)
     } else {
@@ -255,7 +260,7 @@ fn write_arrow_end(out: &mut Text, id: u32, end: ArrowEnd) {
     out.add_with(",\"cat\":\"source\",\"name\":\"source\",\"id\":", id);
     out.add_with(",\"pid\":1,\"tid\":", end.row);
     out.add(",\"ts\":");
-    out.add_micros(end.at);
+    out.add_thousandths(end.at);
     out.add("}");
 }
 
@@ -270,9 +275,9 @@ fn write_mark(out: &mut Text, scene: &Scene, people: &People, place: usize, even
     );
     out.add(",");
     out.add("\"name\":\"");
-    write_event_alone(out, &scene.notes, people, event);
+    write_event_alone(out, &scene.tale.notes, people, event);
     out.add("\",\"ts\":");
-    out.add_micros(moment_of(scene, people, place));
+    out.add_thousandths(moment_of(scene, people, place));
     out.add_with(",\"args\":{\"place\":", place);
     out.add("}}");
 }

@@ -1,8 +1,8 @@
-//! What an account says for people alone.
+//! What is said for people alone.
 use cf_model::Reply;
 use std::alloc::Global;
 
-/// What an account says for people alone. Each list may be shorter than what it is of, or empty.
+/// What a host, an account or a script says for people alone. Each list may be shorter than what it is of, or empty.
 #[derive(Drop)]
 pub struct People {
     /// What the account is of.
@@ -28,7 +28,7 @@ pub struct People {
 }
 
 impl People {
-    /// Of an account that says nothing.
+    /// Of one who says nothing.
     pub fn new(alloc: Global) -> People {
         People {
             name: String::new(alloc),
@@ -44,8 +44,16 @@ impl People {
         }
     }
 
+    /// The name of a stage, if it has one.
+    pub(crate) fn name_of(&self, stage: u16) -> Option<&str> {
+        match self.names.get(stage as usize) {
+            Some(name) if !name.is_empty() => Some(name.as_str()),
+            _ => None,
+        }
+    }
+
     /// How long after the first event the one behind `k` others was done, in nanoseconds, if each has a time.
-    pub(crate) fn since(&self, count: usize, k: usize) -> Option<u64> {
+    pub fn since(&self, count: usize, k: usize) -> Option<u64> {
         if self.times.len() != count {
             return None;
         }

@@ -1,19 +1,13 @@
-//! An event in words, within a JSON string.
+//! What was done and what came of it, in the words of docs/FORMATS.md, "Histories in words".
 use crate::noting::Notes;
 use crate::people::People;
 use crate::text::Text;
-use cf_forms::{Answer, Args};
+use cf_forms::{Answer, Args, Form};
 use cf_model::{Attached, Claimed, Event, Failure, Finished, Reply, Ticked};
 use cf_outcome::{Cause, Outcome, Value};
 
 /// Adds who does what, and what comes of it.
-pub(crate) fn write_event(
-    out: &mut Text,
-    notes: &Notes,
-    people: &People,
-    event: Event,
-    reply: Reply,
-) {
+pub fn write_event(out: &mut Text, notes: &Notes, people: &People, event: Event, reply: Reply) {
     write_caller(out, people, event.who());
     match event {
         Event::Complete { stage, value, .. } => {
@@ -63,7 +57,7 @@ fn write_answered(out: &mut Text, notes: &Notes, people: &People, answer: Answer
 }
 
 /// Adds who does what, of an event of which nothing more is told than the call.
-pub(crate) fn write_event_alone(out: &mut Text, notes: &Notes, people: &People, event: Event) {
+pub fn write_event_alone(out: &mut Text, notes: &Notes, people: &People, event: Event) {
     write_caller(out, people, event.who());
     match event {
         Event::Complete { stage, .. } => write_call(out, notes, people, "completes", stage),
@@ -186,8 +180,19 @@ fn write_attach(out: &mut Text, notes: &Notes, people: &People, reply: Reply) {
     out.add(" attaches ");
     write_name(out, notes, people, i);
     match notes.stages.get(i as usize) {
-        Some(seen) => write_behind(out, notes, people, &seen.of),
+        Some(seen) => {
+            write_form(out, people, i, seen.form);
+            write_behind(out, notes, people, &seen.of)
+        },
         None => {}
+    }
+}
+
+/// Adds the form of a stage that has a name. One without has that of its form.
+fn write_form(out: &mut Text, people: &People, stage: u16, form: Form) {
+    if people.name_of(stage).is_some() {
+        out.add(", ");
+        out.add(form.name());
     }
 }
 
@@ -200,17 +205,17 @@ fn write_behind(out: &mut Text, notes: &Notes, people: &People, of: &[u16]) {
 }
 
 /// Adds a stage's number, and its name or that of its form.
-pub(crate) fn write_name(out: &mut Text, notes: &Notes, people: &People, stage: u16) {
+pub fn write_name(out: &mut Text, notes: &Notes, people: &People, stage: u16) {
     out.add_value(stage);
     out.add(" ");
     write_bare_name(out, notes, people, stage)
 }
 
 /// Adds a stage's name, or that of its form.
-pub(crate) fn write_bare_name(out: &mut Text, notes: &Notes, people: &People, stage: u16) {
-    match people.names.get(stage as usize) {
-        Some(name) if !name.is_empty() => out.add_inside(name),
-        _ => match notes.stages.get(stage as usize) {
+pub fn write_bare_name(out: &mut Text, notes: &Notes, people: &People, stage: u16) {
+    match people.name_of(stage) {
+        Some(name) => out.add_inside(name),
+        None => match notes.stages.get(stage as usize) {
             Some(seen) => out.add(seen.form.name()),
             None => out.add("stage"),
         },
@@ -218,7 +223,7 @@ pub(crate) fn write_bare_name(out: &mut Text, notes: &Notes, people: &People, st
 }
 
 /// Adds a caller's name.
-pub(crate) fn write_caller(out: &mut Text, people: &People, who: u8) {
+pub fn write_caller(out: &mut Text, people: &People, who: u8) {
     match people.lanes.get(who as usize) {
         Some(name) if !name.is_empty() => out.add_inside(name),
         _ => out.add_with("caller ", who),
@@ -246,7 +251,7 @@ fn write_error(out: &mut Text, people: &People, code: u32) {
 }
 
 /// Adds what a stage settled with.
-pub(crate) fn write_outcome(out: &mut Text, people: &People, outcome: Outcome) {
+pub fn write_outcome(out: &mut Text, people: &People, outcome: Outcome) {
     match outcome {
         Outcome::Value(v) => write_value(out, people, v),
         Outcome::Fault { cause, .. } => match cause {
@@ -255,5 +260,16 @@ pub(crate) fn write_outcome(out: &mut Text, people: &People, outcome: Outcome) {
             Cause::TimedOut => out.add("timed out"),
             Cause::BadAnswer => out.add("a bad answer"),
         },
+    }
+}
+
+/// Adds that a fault was passed on: neither a call nor the stage's own function gave it.
+pub fn write_passed(out: &mut Text, notes: &Notes, stage: u16, outcome: Outcome) {
+    let is_passed = match notes.stages.get(stage as usize) {
+        Some(seen) => !seen.is_own,
+        None => false,
+    };
+    if is_passed && matches!(outcome, Outcome::Fault { .. }) {
+        out.add(", passed on");
     }
 }

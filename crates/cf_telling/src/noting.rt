@@ -7,50 +7,50 @@ use std::alloc::{AllocError, Global};
 
 /// A stage.
 #[derive(Drop)]
-pub(crate) struct Seen {
-    pub(crate) form: Form,
-    pub(crate) of: Vec<u16>,
+pub struct Seen {
+    pub form: Form,
+    pub of: Vec<u16>,
     /// The place by which it is there.
-    pub(crate) born: usize,
+    pub born: usize,
     /// What it settled with, and the place of the event by which it did.
-    pub(crate) settled: Option<(Outcome, usize)>,
+    pub settled: Option<(Outcome, usize)>,
     /// Whether a call or its own function settled it.
-    pub(crate) is_own: bool,
+    pub is_own: bool,
     /// The stage that its function named.
-    pub(crate) linked: Option<u16>,
+    pub linked: Option<u16>,
     /// The run of its function, by its number.
-    pub(crate) run: Option<usize>,
+    pub run: Option<usize>,
     /// The stage from which its outcome came.
-    pub(crate) from: Option<u16>,
-    pub(crate) x: u32,
-    pub(crate) y: u32,
+    pub from: Option<u16>,
+    pub x: u32,
+    pub y: u32,
 }
 
 /// A call of a stage's function.
 #[derive(Clone, Copy)]
-pub(crate) struct Run {
-    pub(crate) who: u8,
-    pub(crate) stage: u16,
+pub struct Run {
+    pub who: u8,
+    pub stage: u16,
     /// Places of the claim, and of the finish where there is one.
-    pub(crate) claimed: usize,
-    pub(crate) finished: Option<usize>,
-    pub(crate) is_late: bool,
+    pub claimed: usize,
+    pub finished: Option<usize>,
+    pub is_late: bool,
 }
 
 /// A stage takes the outcome of another, by the event at a place.
 #[derive(Clone, Copy)]
-pub(crate) struct Link {
-    pub(crate) stage: u16,
-    pub(crate) to: u16,
-    pub(crate) place: usize,
+pub struct Link {
+    pub stage: u16,
+    pub to: u16,
+    pub place: usize,
 }
 
 /// What is noted.
 #[derive(Drop)]
-pub(crate) struct Notes {
-    pub(crate) stages: Vec<Seen>,
-    pub(crate) runs: Vec<Run>,
-    pub(crate) links: Vec<Link>,
+pub struct Notes {
+    pub stages: Vec<Seen>,
+    pub runs: Vec<Run>,
+    pub links: Vec<Link>,
 }
 
 impl Notes {
@@ -229,7 +229,7 @@ impl Notes {
     }
 
     /// A stage that stands in for another has its outcome from that.
-    pub(crate) fn relay(&mut self, stage: u16, to: u16) {
+    pub fn relay(&mut self, stage: u16, to: u16) {
         let Some((theirs, _)) = self.settled_at(to) else {
             return;
         };
