@@ -1,4 +1,5 @@
-//! Tests of what several callers share: the desk, its example, the ledger, the machine of a request, workers, runs and races.
+//! Tests of what several callers share: the desk, its example, the ledger, the machine of a request, a row in a store,
+//! workers, runs and races.
 //! They use public calls alone, and are a crate of their own, since a crate with tests is proved twice, with them and without.
 #![tactic(auto)]
 
@@ -14,3 +15,5 @@ mod plans;
 mod pool;
 #[cfg(test)]
 mod request;
+#[cfg(test)]
+mod row;

@@ -1,0 +1,183 @@
+use crate::row::steps::{Engine, Step, take};
+use cf_outcome::{Cause, Outcome, Value};
+use cf_row::{LedgerFault, PutFault, Reply};
+
+/// Caller 0, or 1, gives the source the number 5.
+const COMPLETE_BY_0: u64 = 0x0100000100000005;
+
+const COMPLETE_BY_1: u64 = 0x0101000100000005;
+
+/// Caller 0, or 1, claims the apply, and gives it the number 6.
+const CLAIM_BY_0: u64 = 0x0400001000000000;
+
+const FINISH_BY_0: u64 = 0x0500001100000006;
+
+const CLAIM_BY_1: u64 = 0x0401001000000000;
+
+const FINISH_BY_1: u64 = 0x0501001100000006;
+
+/// Caller 0 fails the apply with code 9, and caller 1 cancels it.
+const FAIL_BY_0: u64 = 0x0200001000000009;
+
+const CANCEL_BY_1: u64 = 0x0301001000000000;
+
+/// Caller 0 attaches an apply of the source by function 3, which is stage 2, and claims it.
+const ATTACH_BY_0: u64 = 0x0700000103000003;
+
+const CLAIM_2_BY_0: u64 = 0x0400002000000000;
+
+/// Bits that no event has.
+const NO_WORD: u64 = 0xff00000000000000;
+
+const DONE: Result<(), PutFault> = Ok(());
+
+const SETTLED: Result<Reply, LedgerFault> = Ok(Reply::Flag(true));
+
+const SIX: Outcome = Outcome::Value(Value::Int(6));
+
+const NINE: Outcome = Outcome::Fault {
+    cause: Cause::Thrown(9),
+    wrapped: false,
+};
+
+const CANCELLED: Outcome = Outcome::Fault {
+    cause: Cause::Cancelled,
+    wrapped: false,
+};
+
+/// Both plan for the first place with number 0. The first session's put stands, but its answer is lost. The second
+/// session meets it. Its next put lands, but its answer is lost, and is asked for again.
+const DOUBTS: [(u8, Step); 15] = [
+    (0, Step::Plan(&[COMPLETE_BY_0], DONE)),
+    (1, Step::Plan(&[COMPLETE_BY_0], DONE)),
+    (0, Step::Ask(true)),
+    (0, Step::GiveUp),
+    (1, Step::Ask(false)),
+    (1, Step::Met(false)),
+    (1, Step::Sees),
+    (1, Step::IsOwn(0, false)),
+    (1, Step::Records(0)),
+    (1, Step::Plan(&[COMPLETE_BY_0], Err(PutFault::NoWord))),
+    (1, Step::Plan(&[COMPLETE_BY_1], DONE)),
+    (1, Step::Ask(true)),
+    (1, Step::Ask(false)),
+    (1, Step::Met(true)),
+    (1, Step::Sees),
+];
+
+/// The first session plans again for the first place, and meets its own first put there. The new one is lost.
+const FINDS: [(u8, Step); 9] = [
+    (0, Step::Plan(&[COMPLETE_BY_0], DONE)),
+    (0, Step::Ask(true)),
+    (0, Step::GiveUp),
+    (0, Step::Plan(&[COMPLETE_BY_0], DONE)),
+    (0, Step::Ask(false)),
+    (0, Step::Met(false)),
+    (0, Step::Sees),
+    (0, Step::IsOwn(0, true)),
+    (0, Step::Records(1)),
+];
+
+/// The second session claims the apply, and is gone. The first finds its claim, and fails the stage. The claim is open
+/// until the second session finishes it, which is too late.
+const GONE: [(u8, Step); 15] = [
+    (0, Step::Number(Some(0))),
+    (0, Step::Lands(Engine::Sound, &[COMPLETE_BY_0])),
+    (1, Step::Saw(SETTLED)),
+    (1, Step::Number(Some(1))),
+    (1, Step::Lands(Engine::Sound, &[CLAIM_BY_1])),
+    (0, Step::NumberOf(9, None)),
+    (0, Step::Sees),
+    (0, Step::NumberOf(9, Some(1))),
+    (0, Step::Claimed(1, Some(1))),
+    (0, Step::Lands(Engine::Sound, &[FAIL_BY_0])),
+    (0, Step::Claimed(1, Some(1))),
+    (1, Step::Sees),
+    (1, Step::Lands(Engine::Sound, &[FINISH_BY_1])),
+    (1, Step::Claimed(1, None)),
+    (1, Step::Outcome(1, Some(NINE))),
+];
+
+/// A group attaches a stage and claims it. Then there is no room for another one before it is made. The second session
+/// has two tokens.
+const GROUPS: [(u8, Step); 12] = [
+    (
+        0,
+        Step::Lands(Engine::Sound, &[COMPLETE_BY_0, ATTACH_BY_0, CLAIM_2_BY_0]),
+    ),
+    (0, Step::Records(3)),
+    (0, Step::Claimed(0, Some(2))),
+    (0, Step::Plan(&[ATTACH_BY_0], Err(PutFault::NoWord))),
+    (0, Step::Grow(1)),
+    (0, Step::Reserve(4)),
+    (0, Step::Plan(&[ATTACH_BY_0], DONE)),
+    (1, Step::Sees),
+    (1, Step::Plan(&[NO_WORD], Err(PutFault::NoWord))),
+    (
+        1,
+        Step::Plan(
+            &[CLAIM_BY_1, CLAIM_BY_1, CLAIM_BY_1],
+            Err(PutFault::NoTokens),
+        ),
+    ),
+    (1, Step::Lands(Engine::Sound, &[CLAIM_BY_1, FINISH_BY_1])),
+    (1, Step::Plan(&[CLAIM_BY_1], Err(PutFault::NoTokens))),
+];
+
+/// Others have all numbers.
+const CROWDED: [(u8, Step); 4] = [
+    (0, Step::Crowd),
+    (0, Step::Sees),
+    (0, Step::Number(None)),
+    (0, Step::Plan(&[COMPLETE_BY_0], Err(PutFault::NoNumber))),
+];
+
+/// An engine overwrites: the second session doesn't know that the first has finished the apply, and is told that it has
+/// cancelled it.
+const OVERWRITTEN: [(u8, Step); 6] = [
+    (0, Step::Lands(Engine::Sound, &[COMPLETE_BY_0])),
+    (1, Step::Sees),
+    (0, Step::Lands(Engine::Sound, &[CLAIM_BY_0, FINISH_BY_0])),
+    (0, Step::Outcome(1, Some(SIX))),
+    (1, Step::Lands(Engine::Overwrites, &[CANCEL_BY_1])),
+    (1, Step::Outcome(1, Some(CANCELLED))),
+];
+
+/// An engine tears a group: the finish doesn't stand.
+const TORN: [(u8, Step); 6] = [
+    (0, Step::Lands(Engine::Sound, &[COMPLETE_BY_0])),
+    (0, Step::Lands(Engine::Tears, &[CLAIM_BY_0, FINISH_BY_0])),
+    (0, Step::Outcome(1, Some(SIX))),
+    (1, Step::Sees),
+    (1, Step::Lands(Engine::Sound, &[CANCEL_BY_1])),
+    (1, Step::Outcome(1, Some(CANCELLED))),
+];
+
+/// An engine tells that a put stands, and loses it.
+const LOST: [(u8, Step); 6] = [
+    (0, Step::Lands(Engine::Sound, &[COMPLETE_BY_0])),
+    (1, Step::Sees),
+    (0, Step::Lands(Engine::Loses, &[CLAIM_BY_0, FINISH_BY_0])),
+    (0, Step::Outcome(1, Some(SIX))),
+    (1, Step::Lands(Engine::Sound, &[CANCEL_BY_1])),
+    (1, Step::Outcome(1, Some(CANCELLED))),
+];
+
+/// The second session's first token in each of them.
+const TESTS: [(u32, &[(u8, Step)]); 8] = [
+    (0, &DOUBTS),
+    (0, &FINDS),
+    (0, &GONE),
+    (8_388_606, &GROUPS),
+    (0, &CROWDED),
+    (0, &OVERWRITTEN),
+    (0, &TORN),
+    (0, &LOST),
+];
+
+#[test]
+fn two_sessions_know_what_stands(rt: HostRuntime) {
+    for (token, steps) in TESTS {
+        take(&rt, rt.alloc(), token, steps);
+    }
+}
