@@ -10,3 +10,4 @@ mod names;
 mod races;
 mod reports;
 mod scripts;
+mod telling;
