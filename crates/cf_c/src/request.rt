@@ -194,8 +194,8 @@ pub extern "C" fn cf_request_restart(alloc: Global, h: &mut CfHandle) -> u32
     ask!(alloc, h, held => doing::restart(&mut held))
 }
 
-/// Makes calls one after another, up to the first that is refused. Then it tells how many were done, and the stages that are
-/// settled.
+/// Makes calls one after another, up to the first that is refused. Then it tells how many were done, and the stages
+/// that are settled.
 #[unsafe(no_mangle)]
 pub extern "C" fn cf_request_do(
     alloc: Global,
@@ -204,7 +204,8 @@ pub extern "C" fn cf_request_do(
     done: &mut CfRequestDone,
     told: &mut [CfTold],
 ) -> u32
-    ensures { HandleWrites DoesCallsIn h.old h.new result (calls.old, done.old, told.old) (calls.new, done.new, told.new) }
+    ensures { HandleWrites DoesCallsIn h.old h.new result (calls.old, done.old, told.old)
+        (calls.new, done.new, told.new) }
 {
     ask!(alloc, h, held => row::do_calls(&mut held, calls, done, told))
 }
