@@ -384,6 +384,21 @@ class Properties(unittest.TestCase):
                 self.assertEqual((report.whole, list(map(str, report.failed))), (True, []))
 
 
+class Chance(unittest.TestCase):
+    def test_each_way_of_an_arrival_is_tried(self):
+        def test(world):
+            stage = world.service.request().adopt(world.one_of(1, 2, 3))
+            world.at_end(lambda: seen.add(stage.result()) or True, "seen")
+
+        seen = set()
+        self.assertEqual((orders(test, chance=50).orders, seen), (50, {1, 2, 3}))
+
+    def test_what_goes_wrong_is_tried(self):
+        for service in (services.own_word_for_anothers, services.done_elsewhere, services.charged_again):
+            with self.subTest(service.__name__):
+                self.assertTrue(orders(service, chance=500, seed=3).failed)
+
+
 class Reduction(unittest.TestCase):
     def test_the_ends_are_the_same_with_and_without_it(self):
         tried = [(name, 1, fault) for name in PLANS for fault in FAULTS] + [("one stage", 2, "killed")]
