@@ -1,18 +1,8 @@
-"""Runs crates/cf_stress, and counts what its runs had."""
-import json
-import os
-import subprocess
+"""Counts what random runs of desks had."""
 from collections import Counter
 
 import model
-from program import TOP
-from stress_checks import names_of
-
-PROGRAM = os.environ.get("CF_STRESS") or os.path.join(TOP, "crates", "cf_stress", "out", "cf_stress")
-
-
-def run_of(script, words):
-    return subprocess.run([PROGRAM] + words, input=json.dumps(script), capture_output=True, text=True, timeout=120)
+from desk_checks import names_of
 
 
 def is_mixed(history):
