@@ -17,6 +17,7 @@
 
 mod deadlines;
 mod faults;
+mod growing;
 mod lanes;
 pub mod laws;
 mod machine;

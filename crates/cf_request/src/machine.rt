@@ -3,6 +3,7 @@ ghost use Rattle.std.specs.Prelude.{◌≡◌, ◌+◌, ◌-◌, ◌^◌, ◌<�
 ghost use Rattle.cf_forms.specs.Plans.{has_place, with_room};
 ghost use Rattle.cf_model.specs.States.{start};
 ghost use Rattle.cf_request.specs.Deadlines.{AreInOrder, Forgets, IsNextOpen, NoneOpen};
+ghost use Rattle.cf_request.specs.Growing.{Grows, IsNoGrowth};
 ghost use Rattle.cf_request.specs.Lanes.{IsIdle, NoneReadyIn, ready_below};
 ghost use Rattle.cf_request.specs.Ready.{IsLaneCount};
 ghost use Rattle.cf_request.specs.Machines.{AppliesWord, CancelsAll, GoesOn, IsNoCancel, IsNoDeadline, IsNoFollow, IsNoNext, IsNoPass, IsNoWord, OnlyFinds, Passes, Refuses, Restarts, SetsDeadline, SetsFollow, free_in, open_in, state_in};
@@ -12,6 +13,7 @@ ghost use Rattle.cf_request.specs.Telling.{AreFresh, AreSettled, IsOnce};
 
 use crate::deadlines::{Deadline, come_by, next_open, pass, set};
 use crate::faults::MachineFault;
+use crate::growing::room_for;
 use crate::lanes::{check_held, finish_held, is_idle, take};
 use crate::refusals::{Ending, end_all, open_stages};
 use crate::relays::{Follow, catch_up, catch_up_with};
@@ -336,6 +338,20 @@ impl Machine {
             Ending::OfAll,
             who,
         );
+        Ok(())
+    }
+
+    /// Makes room for as many stages more as there are by now, and for 16 at least, or else for as many as its plan has
+    /// place for. It does all words again. It is refused for the first of: no place for one stage more, memory.
+    pub fn grow(&mut self, alloc: Global) -> Result<(), MachineFault>
+        ensures grows { OnOk result (Grows self.old self.new) }
+        ensures refused { OnErr result (self.new ≡ self.old) }
+        ensures why { IfErr result (λ fault. IsNoGrowth self.old.teller.ledger fault) }
+    {
+        let Some(more) = room_for(self.teller.ledger()) else {
+            return Err(MachineFault::Full);
+        };
+        self.teller.grow(alloc, more)?;
         Ok(())
     }
 

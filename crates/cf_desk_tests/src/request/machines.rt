@@ -1,3 +1,4 @@
+use crate::checks::{holds, must};
 use crate::request::steps::{Step, opened, take};
 use cf_forms::{Answer, Args, LimitKind};
 use cf_ledger::{Finish, Held, LedgerFault, Reply, StepFault, Taken};
@@ -98,10 +99,23 @@ const ATTACHES: [Step; 5] = [
     Step::Ready(3, 1),
 ];
 
+/// Once there is room, all is as it was, and one more is attached.
+const GROWN: [Step; 6] = [
+    Step::Told(&[1]),
+    Step::Len(2),
+    Step::Ready(2, 1),
+    Step::Ready(3, 1),
+    Step::Apply(ATTACH, 3, Ok(Reply::Attach(Attached::At(8)))),
+    Step::Ready(3, 2),
+];
+
 #[test]
 fn attached_stages_have_lanes(rt: HostRuntime) {
     let mut machine = opened(&rt, rt.alloc());
     take(&rt, &mut machine, &ATTACHES);
+    must(&rt, machine.grow(rt.alloc()));
+    holds(&rt, machine.ledger().room() == 16, "room");
+    take(&rt, &mut machine, &GROWN);
     drop(machine);
 }
 
