@@ -280,6 +280,13 @@ impl Request {
         answer
     }
 
+    /// Makes room for more stages, by doing all words again: for as many more as there are by now, and for 16 more at least, as far as the bounds let
+    /// them in. Nothing else changes. `ROOM` if not even one more could come, `NO_MEMORY`.
+    pub fn grow(&mut self) -> Result<(), Refused> {
+        // SAFETY: alone: `h` is this call's.
+        self.0.call(|h| unsafe { sys::cf_request_grow(h) })
+    }
+
     /// Starts again as it was opened, with the memory that it has.
     pub fn restart(&mut self) -> Result<(), Refused> {
         // SAFETY: alone: `h` is this call's.

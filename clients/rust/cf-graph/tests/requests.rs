@@ -173,6 +173,27 @@ fn calls_are_made_in_one() {
     assert_eq!((request.run(&mut calls, &mut told), calls.is_empty(), told.is_empty()), (Ok(()), true, true));
 }
 
+/// What is told, follows, is due and is claimed stays.
+#[test]
+fn a_request_grows() {
+    let (mut request, mut told) = request(2);
+    request.apply(source(), 0, &mut told).unwrap();
+    request.apply(source(), 0, &mut told).unwrap();
+    request.follow(1, 0, &mut told).unwrap();
+    request.deadline(0, 9, Limit::Timeout).unwrap();
+    assert_eq!(request.apply(source(), 0, &mut told), Err(Refused::NO_ROOM));
+    request.grow().unwrap();
+    for number in 2..18 {
+        assert_eq!(request.apply(source(), 0, &mut told), Ok(Reply::Attached(Some(number))));
+    }
+    assert_eq!(request.apply(source(), 0, &mut told), Err(Refused::NO_ROOM));
+    request.pass(9, &mut told).unwrap();
+    let late = fault(Cause::TimedOut, false);
+    assert_eq!(told.iter().collect::<Vec<_>>(), [(0, late), (1, late)]);
+    let mut full = sources(4_096).0;
+    assert_eq!(full.grow(), Err(Refused::ROOM));
+}
+
 /// A refused call changes nothing.
 #[test]
 fn what_cannot_be_done_is_refused() {

@@ -17,6 +17,7 @@ const LANE: u8 = 0;
 pub(crate) struct Ledger {
     /// There until this is dropped.
     machine: Option<Request>,
+    /// For how many stages there was room at first.
     room: u16,
     pub(crate) stages: u16,
     /// Which stage each relay of this request follows.
@@ -140,11 +141,17 @@ impl Ledger {
 
     /// Attaches a stage, whose function has the stage's own number, and gives the number.
     pub(crate) fn attach(&mut self, who: u8, form: Form, of: &[u16], has_function: bool, told: &mut Told) -> Result<u16, Refusal> {
-        let number = self.stages;
-        if number == self.room {
-            self.grow()?;
+        let (number, now) = (self.stages, self.now);
+        if number == MOST_STAGES {
+            return Err(Refusal::Full);
         }
-        self.act(word::attach(who, form, of, if has_function { number } else { 0 }), told);
+        let word = word::attach(who, form, of, if has_function { number } else { 0 });
+        let mut applied = self.machine().apply(word, LANE, told);
+        if applied == Err(Refused::NO_ROOM) {
+            self.machine().grow().map_err(|_| Refusal::NoLedger)?;
+            applied = self.machine().apply(word, LANE, told);
+        }
+        self.record.event(now, applied.expect("memory for a word"));
         self.stages = number + 1;
         Ok(number)
     }
@@ -172,36 +179,13 @@ impl Ledger {
     pub(crate) fn words(&mut self) -> Vec<u64> {
         self.machine().words().expect("the words are there")
     }
-
-    /// Makes room for three times as many stages more, by a machine that does all words again.
-    fn grow(&mut self) -> Result<(), Refusal> {
-        if self.room == MOST_STAGES {
-            return Err(Refusal::Full);
-        }
-        let room = self.room.saturating_mul(4).min(MOST_STAGES);
-        self.machine = Some(self.grown(room).map_err(|_| Refusal::NoLedger)?);
-        self.room = room;
-        Ok(())
-    }
-
-    /// A machine with more room that stands where this one stands. What it tells meanwhile was told.
-    fn grown(&mut self, room: u16) -> Result<Request, Refused> {
-        let (mut machine, mut told) = (opened(room)?, Told::default());
-        for word in self.machine().words()? {
-            machine.apply(word, LANE, &mut told)?;
-        }
-        for (relay, stage) in &self.relays {
-            machine.follow(*relay, *stage, &mut told)?;
-        }
-        Ok(machine)
-    }
 }
 
 impl Drop for Ledger {
     /// Keeps the machine for a later request of this thread, unless it is large, or enough are kept.
     fn drop(&mut self) {
-        let room = self.room;
-        let machine = self.machine.take().filter(|_| room <= SLOTS);
+        let (room, is_small) = (self.room, self.room.max(self.stages) <= SLOTS);
+        let machine = self.machine.take().filter(|_| is_small);
         let _ = KEPT.try_with(|kept| {
             let mut kept = kept.borrow_mut();
             let machine = machine.filter(|_| kept.len() < MOST_KEPT);

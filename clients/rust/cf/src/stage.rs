@@ -67,8 +67,8 @@
 //! value that it gives stays with the request, which drops it once the stage is settled. `Core::ring` settles the stage by the
 //! caller `CLOCK`: with that value, or as timed out. An alarm that is dropped lets the stage fail with `Refusal::NoClock`.
 //!
-//! **Room.** A request has at most 4,096 stages. The ledger has room for some of them at first, and makes more by doing its
-//! words again. Where there is none, the call gives a handle of a stage that has failed with `Refusal::Full`: its `at` is an
+//! **Room.** A request has at most 4,096 stages. The machine has room for some of them at first, and grows where
+//! there is none. Where there is none, the call gives a handle of a stage that has failed with `Refusal::Full`: its `at` is an
 //! error, and nothing was attached.
 //!
 //! **Which code calls a user's.** `Core::called` (a stage's function), `Polling::poll` (a future), `Core::tell` (wakers, and the
