@@ -226,6 +226,33 @@ mod tests {
     use crate::record::Item;
     use crate::word::{CANCEL, COMPLETE, SOME};
 
+    /// A few small ones, which are as they were opened.
+    #[test]
+    fn few_machines_are_kept() {
+        let many = |room| (0..2 * MOST_KEPT).map(|_| Ledger::new(room).unwrap()).collect::<Vec<_>>();
+        let count = || KEPT.with(|kept| kept.borrow().len());
+        drop(many(SLOTS + 1));
+        assert_eq!(count(), 0);
+        let (mut ledgers, mut told) = (many(4), Told::default());
+        for ledger in &mut ledgers {
+            ledger.attach(0, Form::Source, &[], false, &mut told).unwrap();
+        }
+        drop(ledgers);
+        assert_eq!(count(), MOST_KEPT);
+        let mut again = Ledger::new(3).unwrap();
+        assert_eq!((count(), again.room, again.words()), (MOST_KEPT - 1, 4, Vec::new()));
+        let large = Ledger::new(5).unwrap();
+        assert_eq!((count(), large.room), (MOST_KEPT - 1, 5));
+        for _ in 0..SLOTS {
+            again.attach(0, Form::Source, &[], false, &mut told).unwrap();
+        }
+        assert_eq!(again.attach(0, Form::Source, &[], false, &mut told), Ok(SLOTS));
+        drop(again);
+        assert_eq!(count(), MOST_KEPT - 1);
+        drop(large);
+        assert_eq!(count(), MOST_KEPT);
+    }
+
     /// What another ledger would tell of the same words, or this one of others.
     #[test]
     fn what_differs_does_not_come_again() {
