@@ -10,3 +10,4 @@ pub mod Later
 pub mod Restarts
 pub mod Rows
 pub mod Machines
+pub mod Gathered

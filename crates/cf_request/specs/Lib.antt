@@ -6,4 +6,5 @@ pub mod Deadlines
 pub mod Lanes
 pub mod Refusals
 pub mod Machines
+pub mod Gathering
 pub mod Rows
