@@ -61,6 +61,8 @@ def rows_of_python(tools: Tools, made: Path) -> List[Row]:
         Row("Python's order of three processes", ["library", "python3"], [[python, "clients/python/order.py"]], ("clients/python", "order.py")),
         Row("Python's order that charges twice", ["library", "python3"], [[python, "clients/python/twice.py"]], ("docs/TESTING.md", "twice.py")),
         Row("Python's orders that charge once", ["library", "python3"], [[python, "clients/python/once.py"]], ("docs/TESTING.md", "once.py")),
+        Row("Python's order over a store that charges twice", ["library", "python3"], [[python, "clients/python/killed.py"]], ("docs/TESTING.md", "killed.py")),
+        Row("Python's orders over a store that charge once", ["library", "python3"], [[python, "clients/python/keyed.py"]], ("docs/TESTING.md", "keyed.py")),
         Row("services of Python's in every order", ["library", "python3"],
             [["env", "CF_NO_MODULE=1", python, "-m", "unittest", "discover", "-s", "clients/python/tests/testing"]]),
         Row("random orders of Python's service beside explore", ["library", "python3", "cf_look"],

@@ -267,7 +267,7 @@ static uint64_t asked_of(cf_handle *request) {
 }
 
 /* A call of a request: what it is, and the stages, the moment or the lane that it names. */
-typedef enum { ATTACH, FOLLOW, DEADLINE, COMPLETE, NEXT, PASS, REFUSE, CANCEL, DO } request_call;
+typedef enum { ATTACH, FOLLOW, DEADLINE, COMPLETE, NEXT, PASS, REFUSE, CANCEL, GROW, DO } request_call;
 typedef struct { request_call call; uint16_t first, second; } request_step;
 
 /* Attaches a source, or completes a stage. */
@@ -293,6 +293,7 @@ static uint32_t call_request(cf_handle *request, const request_step *step, cf_ta
     case PASS: return cf_request_pass(request, step->first, told, 2, n);
     case REFUSE: return cf_request_refuse(request, (uint8_t)step->first, 7, told, 2, n);
     case CANCEL: return cf_request_cancel_all(request, (uint8_t)step->first, told, 2, n);
+    case GROW: return cf_request_grow(request);
     case DO: /* one call, which is done or not */
         code = cf_request_do(request, &(cf_request_call){.call = CF_DO_FOLLOW, .relay = step->first, .stage = step->second}, 1, &done, told, 2);
         *n = code == CF_OK ? done.told : *n;
@@ -346,7 +347,7 @@ static uint32_t request_with(long numbers[3], const request_step *steps, size_t 
 static uint32_t request(long numbers[3]) {
     static const request_step steps[] = {
         {ATTACH, 0, 1}, {ATTACH, 0, 0}, {ATTACH, 0, 1}, {FOLLOW, 3, 0}, {FOLLOW, 4, 1}, {DEADLINE, 5, 20}, {DEADLINE, 2, 30},
-        {COMPLETE, 0, 0}, {NEXT, 0, 0}, {NEXT, 0, 0}, {FOLLOW, 5, 4}, {PASS, 10, 0}, {NEXT, 1, 0}, {ATTACH, 0, 1}, {REFUSE, 1, 0},
+        {COMPLETE, 0, 0}, {NEXT, 0, 0}, {NEXT, 0, 0}, {FOLLOW, 5, 4}, {PASS, 10, 0}, {NEXT, 1, 0}, {GROW, 0, 0}, {ATTACH, 0, 1}, {REFUSE, 1, 0},
         {DEADLINE, 6, 12}, {PASS, 30, 0}, {PASS, 30, 0}, {ATTACH, 0, 1}, {DO, 7, 0}, {ATTACH, 0, 1}, {CANCEL, 1, 0},
     };
     return request_with(numbers, steps, sizeof steps / sizeof *steps);

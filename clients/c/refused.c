@@ -114,6 +114,7 @@ static void request_calls(cf_handle *h, uint32_t wanted) {
   ROW(cf_request_told(h, out.told, 2, &out.n), wanted);
   ROW(cf_request_ready(h, 0, &out.number), wanted);
   ROW(cf_request_cancel_all(h, 0, out.told, 2, &out.n), wanted);
+  ROW(cf_request_grow(h), wanted);
   ROW(cf_request_restart(h), wanted);
   ROW(cf_request_do(h, &out.call, 1, &out.done, out.told, 2), wanted);
 }
@@ -423,7 +424,7 @@ static void by_numbers(uint16_t stage) {
 static void by_other_numbers(void) {
   cf_handle *builder = &held[BUILDER], *plan = &held[PLAN], *graph = &held[GRAPH], *ledger = &held[LEDGER], *caller = &held[CALLER];
   const uint16_t three[3] = {SOURCE, SOURCE, SOURCE};
-  cf_handle empty = {0}, many[65] = {{0}};
+  cf_handle empty = {0}, full = {0}, many[65] = {{0}};
   cf_event event = {.call = 8};
   cf_task task = {.held = 1, .stage = TWICE};
   cf_step step = {.who = 64};
@@ -483,6 +484,9 @@ static void by_other_numbers(void) {
   ROW(cf_request_refuse(asked, 2, 1, out.told, 2, &out.n), CF_NO_LANE);
   ROW(cf_request_ready(asked, 2, &out.number), CF_NO_LANE);
   ROW(cf_request_cancel_all(asked, 64, out.told, 2, &out.n), CF_NO_WORD);
+  HOLDS(cf_request_new(plan, &(cf_request_sizes){.room = 4096 - STAGES, .lanes = 2}, lane_of, STAGES, &full) == CF_OK);
+  ROW(cf_request_grow(&full), CF_ROOM);
+  cf_free(&full);
   ROW(cf_request_do(asked, calls, 2, &done, out.told, 2), CF_NO_SUCH_NUMBER);
   HOLDS(done.calls == 1 && done.told == 0);
   ROW(cf_apply(graph, UINT64_MAX, &out.reply), CF_NO_WORD);

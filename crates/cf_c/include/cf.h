@@ -60,7 +60,7 @@
  * cf_plan_of, cf_desk_open, cf_desk_open_with, cf_desk_notice, cf_close_begin, cf_ledger_new, cf_ledger_of,
  * cf_ledger_apply, cf_ledger_step, cf_ledger_apply_all, cf_ledger_grow, cf_request_new, cf_request_apply,
  * cf_request_next, cf_request_follow, cf_request_deadline, cf_request_pass, cf_request_refuse, cf_request_cancel_all,
- * cf_request_do and cf_run_script. No other call takes any.
+ * cf_request_grow, cf_request_do and cf_run_script. No other call takes any.
  *
  * Codes. Each call answers a cf_code, except cf_free and the last four calls of this header. The code is CF_OK (0)
  * if the call did what it was asked. The comments list the other codes of each call. If several apply, the call
@@ -990,7 +990,7 @@ typedef struct { cf_reply reply; size_t told; } cf_applied;
  *   - CF_NO_LANE: there is no such lane.
  *   - CF_NO_MEMORY.
  *   - CF_NO_WORD, CF_NO_STAGE: as for cf_ledger_apply.
- *   - CF_NO_ROOM: there is no room for the stage that the word attaches. */
+ *   - CF_NO_ROOM: there is no room for the stage that the word attaches. cf_request_grow makes some. */
 uint32_t cf_request_apply(cf_handle *request, uint64_t word, uint8_t lane, cf_applied *applied, cf_told *told, size_t room);
 
 /* What cf_request_next is asked, and how many stages there were to tell.
@@ -1071,9 +1071,17 @@ uint32_t cf_request_ready(cf_handle *request, uint8_t lane, uint16_t *ready);
  * Codes: CF_NO_MEMORY, and CF_NO_WORD if who is above 63. */
 uint32_t cf_request_cancel_all(cf_handle *request, uint8_t who, cf_told *told, size_t room, size_t *n);
 
+/* Makes room for more stages, by doing all words again. Nothing else changes. There is room for as many more as there
+ * are stages by now, and for 16 more at least. If the bounds of CF_ROOM don't let so many in, there is room for as many
+ * more as they let in.
+ *
+ * Codes: CF_ROOM if not even one more could come, and CF_NO_MEMORY. */
+uint32_t cf_request_grow(cf_handle *request);
+
 /* Starts the request again, as it was opened: nothing is done, follows or is due, and the moment is 0. The lanes of the
- * plan's stages, the room and the own caller stay. The request keeps its memory. So it costs less to keep one for the
- * next request of the plan than to open a new one. Only the stages that are settled from the start are to be told then. */
+ * plan's stages, the room, with what cf_request_grow made, and the own caller stay. The request keeps its memory. So it
+ * costs less to keep one for the next request of the plan than to open a new one. Only the stages that are settled from
+ * the start are to be told then. */
 uint32_t cf_request_restart(cf_handle *request);
 
 /* A call of a request, as a row for cf_request_do. It asks for the call of its number:
@@ -1137,13 +1145,13 @@ uint32_t cf_code_text(uint32_t code, uint8_t *text, size_t room, size_t *length)
 /* The version of this header. A library of a later version with the same first number has all that stands here,
  * unchanged. */
 #define CF_VERSION_MAJOR 1
-#define CF_VERSION_MINOR 6
+#define CF_VERSION_MINOR 7
 #define CF_VERSION_PATCH 0
 
 /* None of the next four calls answers a cf_code. The texts that they answer are static and end in a zero byte. Your
  * program doesn't free them. */
 
-/* Answers the version of the library, such as "1.6.0". */
+/* Answers the version of the library, such as "1.7.0". */
 const char *cf_version(void);
 
 /* Answers whether a program that was written for this version of the header runs with the library. */

@@ -158,7 +158,7 @@ pub const CF_IS_SETTLED: u32 = 4;
 pub const CF_NO_FUNCTION: u32 = u32::MAX;
 pub const CF_NOBODY: u32 = u32::MAX;
 pub const CF_VERSION_MAJOR: u32 = 1;
-pub const CF_VERSION_MINOR: u32 = 6;
+pub const CF_VERSION_MINOR: u32 = 7;
 
 #[repr(C)]
 #[derive(Clone, Copy, Debug, Default, PartialEq, Eq)]
@@ -449,6 +449,7 @@ extern "C" {
     pub fn cf_request_told(request: *mut cf_handle, told: *mut cf_told, room: usize, n: *mut usize) -> u32;
     pub fn cf_request_ready(request: *mut cf_handle, lane: u8, ready: *mut u16) -> u32;
     pub fn cf_request_cancel_all(request: *mut cf_handle, who: u8, told: *mut cf_told, room: usize, n: *mut usize) -> u32;
+    pub fn cf_request_grow(request: *mut cf_handle) -> u32;
     pub fn cf_request_restart(request: *mut cf_handle) -> u32;
     pub fn cf_request_do(request: *mut cf_handle, calls: *mut cf_request_call, n: usize, done: *mut cf_request_done, told: *mut cf_told, room: usize) -> u32;
     pub fn cf_version() -> *const u8;

@@ -10,12 +10,12 @@ import java.util.concurrent.Executors;
 import java.util.concurrent.Future;
 import java.util.concurrent.TimeUnit;
 
-/** Ledgers and their cores: cores used again, attaches that fail, words, and numbers that would read past an array's end. */
-final class LedgerTest {
+/** Machines and their cores: cores used again, attaches that fail, words, and numbers that would read past an array's end. */
+final class MachineTest {
     private static final Service SERVICE = new Service(Runnable::run);
     private static final int WHO = Request.FIRST_THREAD;
 
-    private LedgerTest() {}
+    private MachineTest() {}
 
     private static long source() {
         return Words.attach(WHO, Form.SOURCE, 0, 0, 0, 0);
@@ -25,27 +25,31 @@ final class LedgerTest {
     static void usedAgain() throws Exception {
         Flow flow = new Flow("again");
         Flow.Step<Integer> first = flow.promise();
-        Ledger one = new Ledger(flow.plan(), 8);
-        one.own(1, true);
-        one.attach(Words.attach(WHO, Form.APPLY, 1, 0, 0, 1), WHO);
-        one.apply(Words.complete(WHO, 0, 7), WHO, -1);
-        is(one.claimed(), 1);
-        is(one.events(), 3);
+        Machine one = new Machine(flow.plan(), 8);
+        one.attach(Words.attach(WHO, Form.APPLY, 1, 0, 0, 1), Machine.BY_EXECUTOR, WHO);
+        one.apply(Words.complete(WHO, 0, 7), WHO);
+        is(one.claimed() + " " + one.ready() + " " + one.ready(0) + " " + one.told() + " " + one.told(0) + " " + one.number(0), "0 1 1 1 "
+                + (History.GIVES << 16 | 1 << 21) + " 7");
+        is(one.events(), 2);
         one.rest();
         long began = Native.ticks();
-        Ledger two = new Ledger(flow.plan(), 8);
-        two.attach(Words.attach(WHO, Form.APPLY, 1, 0, 0, 1), WHO);
-        two.apply(Words.complete(WHO, 0, 7), WHO, -1);
-        is(two.claimed(), -1);
+        Machine two = new Machine(flow.plan(), 8);
+        two.attach(Words.attach(WHO, Form.APPLY, 1, 0, 0, 1), Machine.HERE, WHO);
+        two.apply(Words.complete(WHO, 0, 7), WHO);
+        is(two.claimed() + " " + two.ready() + " " + two.claimed(0) + " " + two.kind(0) + " " + two.first(0), "1 0 1 " + History.ONE + " 7");
+        two.finish(1, false, 8, WHO);
+        is(two.answer() + " " + two.told() + " " + two.number(0), History.WON + " 1 8");
         long[] kept = two.kept();
-        is(two.events(), 2);
-        is(kept.length, 2 + 2 * 2);
-        is(kept[2] >= began && kept[4] >= kept[2], true);
-        is(kept[3] + " " + kept[5], "1 2");
-        is(Words.name(kept[0]) + " " + Words.name(kept[1]), "attach complete");
+        is(two.events(), 4);
+        is(kept.length, 4 + 2 * 3);
+        is(kept[4] >= began && kept[6] >= kept[4] && kept[8] >= kept[6], true);
+        is(kept[5] + " " + kept[7] + " " + kept[9], "1 3 4");
+        is(Words.name(kept[0]) + " " + Words.name(kept[1]) + " " + Words.name(kept[2]), "attach complete claim");
         two.rest();
-        // What was asked for behind a word that is refused is told by nobody later.
-        is(one.kept().length > 3 && Words.name(one.kept()[2]).equals("claim"), true);
+        // One that goes on has the lanes of before.
+        one.apply(Words.claim(WHO, 1), WHO);
+        is(one.answer() + " " + one.claimed() + " " + one.first(0) + " " + one.told(), History.GRANTED + " 1 7 0");
+        one.rest();
         // The same by requests: the executor's functions stay its own.
         ExecutorService pool = Executors.newSingleThreadExecutor(run -> new Thread(run, "pool"));
         Service pooled = new Service(pool);
@@ -105,20 +109,6 @@ final class LedgerTest {
 
     /** What an attach that failed has said of its stage isn't true of the next one of that number. */
     static void failedAttach() {
-        Ledger ledger = new Ledger(null, 8);
-        ledger.attachLater(source());
-        ledger.own(1, true);
-        ledger.own(1, false);
-        ledger.attach(Words.attach(WHO, Form.APPLY, 1, 0, 0, 1), WHO);
-        ledger.apply(Words.complete(WHO, 0, 7), WHO, -1);
-        is(ledger.claimed(), -1);
-        is(ledger.news(), 2);
-        ledger.own(1, true);
-        ledger.own(1, true);
-        ledger.own(2, true);
-        ledger.attach(Words.attach(WHO, Form.APPLY, 1, 0, 0, 2), WHO);
-        is(ledger.claimed(), 2);
-        ledger.rest();
         Request[] request = new Request[1];
         ExecutorService pool = Executors.newSingleThreadExecutor(run -> new Thread(run, "pool"));
         request[0] = new Service(pool).request("nearly full");
@@ -135,16 +125,16 @@ final class LedgerTest {
 
     /** A history tells both causes, of which requests have but the first. */
     static void failedAs() {
-        Ledger ledger = new Ledger(null, 8);
-        ledger.attachLater(source());
-        ledger.attachLater(Words.attach(WHO, Form.HANDLE, 1, 0, 0, 1));
-        ledger.attachLater(source());
+        Machine machine = new Machine(null, 8);
+        machine.attachLater(source(), Machine.HERE);
+        machine.attachLater(Words.attach(WHO, Form.HANDLE, 1, 0, 0, 1), Machine.HERE);
+        machine.attachLater(source(), Machine.HERE);
         for (long word : new long[] {Words.failAs(WHO, 0, Words.BAD_ANSWER), Words.claim(WHO, 1),
             Words.failAs(WHO, 2, Words.TIMED_OUT), Words.failAs(WHO, 2, Words.BAD_ANSWER)}) {
-            ledger.apply(word, Ledger.NOBODY, -1);
+            machine.apply(word, Machine.NOBODY);
         }
         String[] threads = {"main"};
-        History history = new History("causes", null, ledger, new String[3], new Object[0], new Throwable[0], threads);
+        History history = new History("causes", null, machine, new String[3], new Object[0], new Throwable[0], threads);
         is(history.script(), "{\"cf\":3,\"room\":3,\"stages\":[],\"steps\":[[\"attach\",{\"form\":\"source\"}],"
                 + "[\"attach\",{\"form\":\"handle\",\"of\":[0],\"fn\":{\"const\":1}}],[\"attach\",{\"form\":\"source\"}],"
                 + "[\"failAs\",0,\"badanswer\"],[\"claim\",2,1],[\"failAs\",2,\"timeout\"],[\"failAs\",2,\"badanswer\"]]}");
@@ -155,7 +145,7 @@ final class LedgerTest {
         is(said.contains("main claims 1 handle and is granted, with a bad answer\n"), true);
         is(said.contains("main times out 2 source\n") && said.contains("2 source ends: timed out\n"), true);
         is(said.contains("main fails 2 source with a bad answer, too late\n"), true);
-        ledger.rest();
+        machine.rest();
     }
 
     /** Numbers that are told beside an array or a place don't make the library read past them. */
@@ -170,27 +160,32 @@ final class LedgerTest {
         wide[1] = -1;
         wide[2] = 5000;
         is(Native.plan(wide) < 0, true);
-        long core = Native.create(true);
+        long core = Machine.create(true);
         for (int room : new int[] {-1, 4097, 65536 + 32, Integer.MAX_VALUE, Integer.MIN_VALUE}) {
-            is(Native.open(core, 0, room, null, 0) != Native.OK, true);
+            is(Machine.open(core, 0, room, null, 0, null) != Native.OK, true);
         }
         for (int n : new int[] {-1, 2, Integer.MAX_VALUE, Integer.MIN_VALUE}) {
-            is(Native.open(core, 0, 8, new long[1], n) != Native.OK, true);
+            is(Machine.open(core, 0, 8, new long[1], n, null) != Native.OK, true);
         }
-        is(Native.open(core, 0, 8, new long[] {-1}, 1) != Native.OK, true);
-        is(Native.open(core, 0, 8, new long[] {source(), 5, 1}, 1), Native.OK);
+        is(Machine.open(core, 0, 8, new long[] {-1}, 1, null) != Native.OK, true);
+        is(Machine.open(core, 0, 8, new long[] {source(), 5, 1}, 1, new long[0]), Native.OK);
         for (int waiting : new int[] {-1, 65, Integer.MAX_VALUE, Integer.MIN_VALUE}) {
-            is(Native.apply(core, waiting, source(), WHO, -1) & 0xff, 26L);
+            is(Machine.apply(core, waiting, source(), 0, WHO) & 0xff, 26L);
         }
-        is((int) Native.apply(core, 0, Words.complete(WHO, 0, 3), Integer.MAX_VALUE, Integer.MAX_VALUE) & 0xff, 26);
-        is((int) Native.apply(core, 0, Words.complete(WHO, 0, 3), Integer.MAX_VALUE, -1) & 0xff, 0);
         for (int stage : new int[] {-1, 1, 4096, Integer.MAX_VALUE}) {
-            is(Native.ask(core, stage) != Native.OK, true);
+            is(Machine.ask(core, stage) != Native.OK, true);
+            is(Machine.deadline(core, stage, 5, false, 0) != Native.OK, true);
+            is((Machine.finish(core, 0, stage, false, 0, WHO) & 0xff) != Native.OK, true);
         }
-        for (int n : new int[] {3, 100, Integer.MAX_VALUE}) {
-            is(Native.keep(core, new long[0], n) != Native.OK && Native.keep(core, new long[200], n) != Native.OK, true);
+        is((int) Machine.pass(core, 0, -1, Integer.MAX_VALUE) & 0xff, 0);
+        is((int) Machine.apply(core, 0, Words.complete(WHO, 0, 3), Integer.MAX_VALUE, Integer.MAX_VALUE) & 0xff, 34);
+        is((int) Machine.apply(core, 0, Words.complete(WHO, 0, 3), 0, WHO) & 0xff, 0);
+        for (int n : new int[] {-1, 3, 100, Integer.MAX_VALUE}) {
+            is(Machine.words(core, new long[0], 0, n) != Native.OK && Machine.words(core, new long[200], 0, n) != Native.OK, true);
+            is(Machine.moments(core, new long[2], n) != Native.OK, true);
         }
-        is(Native.keep(core, new long[100], 2), Native.OK);
-        Native.destroy(core);
+        is(Machine.words(core, new long[100], 0, 2), Native.OK);
+        is(Machine.words(core, new long[100], 2, 0) + Machine.moments(core, new long[100], 2), Native.OK);
+        Machine.destroy(core);
     }
 }
