@@ -61,6 +61,8 @@ def rows_of_python(tools: Tools, made: Path) -> List[Row]:
         Row("Python's order of three processes", ["library", "python3"], [[python, "clients/python/order.py"]], ("clients/python", "order.py")),
         Row("Python's order that charges twice", ["library", "python3"], [[python, "clients/python/twice.py"]], ("docs/TESTING.md", "twice.py")),
         Row("Python's orders that charge once", ["library", "python3"], [[python, "clients/python/once.py"]], ("docs/TESTING.md", "once.py")),
+        Row("Python's order over a store that charges twice", ["library", "python3"], [[python, "clients/python/killed.py"]], ("docs/TESTING.md", "killed.py")),
+        Row("Python's orders over a store that charge once", ["library", "python3"], [[python, "clients/python/keyed.py"]], ("docs/TESTING.md", "keyed.py")),
         Row("services of Python's in every order", ["library", "python3"],
             [["env", "CF_NO_MODULE=1", python, "-m", "unittest", "discover", "-s", "clients/python/tests/testing"]]),
         Row("random orders of Python's service beside explore", ["library", "python3", "cf_look"],
@@ -131,12 +133,22 @@ def rows_of_java(tools: Tools, made: Path) -> List[Row]:
     ]
 
 
-def rows(tools: Tools, made: Path) -> List[Row]:
+def edited() -> List[str]:
+    """The crates whose wrong bodies are tried together."""
+    return sorted(path.name for path in (TOP / "sweeps/must-fail").iterdir())
+
+
+def rows_of_edits() -> List[Row]:
+    return [Row(f"wrong bodies of {name}", ["rt", f"proofs below {name}"], [["sweeps/together", name]]) for name in edited()]
+
+
+def rows(tools: Tools, made: Path, is_gate: bool) -> List[Row]:
     header, clang, browser = HEADER + "/cf.h", tools["clang"], "Chromium with its driver, selenium for Python"
     compiling = [clang, "-std=c11", "-O1", *WARNED, "-I" + HEADER]
     ample, asked, meets, overlapping = ([*compiling, name + ".c", str(made / "libcf.a"), "-pthread", "-o", str(made / Path(name).name)]
                                         for name in ["sweeps/ample", "sweeps/bytes", "sweeps/meets", "conformance/desks/overlaps"])
     return [
+        *(rows_of_edits() if is_gate else []),
         Row("the edits that the gate leaves out, read", ["rt"], [["sweeps/edits", "--read"]]),
         Row("the edits that spoil the clients, read", ["python3"], [["sweeps/spoilt", "--read"]]),
         Row("what a program can check of the pages", ["python3"], [["sweeps/pages"]]),

@@ -503,9 +503,43 @@ static void show_desk_calls(void) {
     free_desk(&plan, callers);
 }
 
+/* What a caller and another are refused once there is no place for a record, or for a word. To refuse takes no memory, nor do looks then. */
+static void call_full(cf_handle callers[2]) {
+    cf_handle *a = &callers[0], *b = &callers[1];
+    cf_reply reply = {0};
+    cf_outcome outcome = {0};
+    uint16_t left = 0;
+    tell(cf_desk_complete(a, 0, (cf_value){CF_INT, 3}, &reply), &reply);
+    tell(cf_desk_cancel(a, 0, &reply), &reply);
+    tell(cf_desk_tick(b, 5, &reply), &reply); /* the log is full */
+    uint32_t read = cf_desk_read(b, 0, &outcome), first = cf_desk_left(b, &left);
+    say("  read %u %d, left %u %u\n", read, outcome.value.number, first, left);
+    uint32_t again = cf_desk_read(b, 0, &outcome), third = cf_desk_read(b, 0, &outcome), full = cf_desk_read(b, 0, &outcome);
+    say("  read %u, %u, and with no place for a record %u\n", again, third, full);
+    tell(cf_desk_claim(b, 1, &reply), &reply); /* so is what b may hold */
+}
+
+static void show_full(void) {
+    cf_handle plan = {0}, callers[2] = {{0}, {0}};
+    long again = 0;
+    uint32_t code = make_plan(&plan, &again);
+    if (code == CF_OK)
+        code = cf_desk_open(&plan, callers, 2, 2, 3);
+    if (code == CF_OK && again == 0) {
+        say("C full desk:\n");
+        call_full(callers);
+    } else {
+        say("C full desk: no memory\n");
+    }
+    cf_free(&callers[0]);
+    cf_free(&callers[1]);
+    cf_free(&plan);
+}
+
 int main(void) {
     show_calls();
     show_desk_calls();
+    show_full();
     for (size_t k = 0; k < sizeof OPENINGS / sizeof *OPENINGS; k++)
         show(OPENINGS[k].name, OPENINGS[k].open);
     return 0;

@@ -19,6 +19,7 @@ if TYPE_CHECKING:
     import cf
     from cf.service import (Flow, History, LoopService, Request, RequestFull, Service, Span, SpanFile, Spans, Stage,
                             describe_nothing, describe_types, spans_of, spans_to)
+    from cf.shared import DurableRequest, DurableStage, Functions
     from cf.testing import Arrival, Failure, Report, World, orders, pure, touches
 
     def load(number: int) -> str: ...
@@ -75,6 +76,19 @@ if TYPE_CHECKING:
         service.request("r", describe=len)  # type: ignore[arg-type]
         service.request("r", describe="types")  # type: ignore[arg-type]
         print(requests)
+
+    def stored(world: World, functions: Functions) -> "DurableStage[int]":
+        store = world.store(killed=1, lost=2)
+        store.worker("one", functions)
+        shop = store.process("shop", functions, workers=0, ahead=1.5)
+        request: DurableRequest = shop.request("order")
+        shop.calls(lambda: request.promise().complete(1), name="a client")
+        effects: List[Any] = store.effects
+        now: float = shop.now()
+        world.at_end(lambda: store.is_settled("order", "size") and store.outcome("order", "size") == 1, "it is there")
+        store.worker("two")  # type: ignore[call-arg]
+        print(effects, now)
+        return request.supply(size, "x")
 
     def checkout(world: World) -> "Stage[int]":
         typed_charges: List[int] = []

@@ -27,11 +27,12 @@ class Told:
 
     def __init__(self):
         self.wrong, self.counted, self.asked, self.orders, self.tried, self.programs, self.too_large = [], 0, 0, 0, 0, 0, 0
-        self.program_orders = self.program_tried = self.whole = 0
+        self.program_orders = self.program_tried = self.whole = self.kept = self.kept_orders = self.kept_tried = 0
 
     def __str__(self):
         return (f"{self.asked} questions of {self.orders} orders have the same ends in {self.tried}, {self.whole} of them whole; {self.counted} "
-                f"have the same numbers of orders; {self.programs} programs of {self.program_orders} orders have the same ends in {self.program_tried}; {self.too_large} were "
+                f"have the same numbers of orders; {self.programs} programs of {self.program_orders} orders have the same ends in {self.program_tried}; {self.kept} over a store of "
+                f"{self.kept_orders} orders have the same ends in {self.kept_tried}; {self.too_large} were "
                 f"too large; {len(self.wrong)} otherwise")
 
 

@@ -11,3 +11,4 @@ pub mod Restarts
 pub mod Rooms
 pub mod Rows
 pub mod Machines
+pub mod Gathered

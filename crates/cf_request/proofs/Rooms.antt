@@ -1,5 +1,5 @@
 -- A machine with room for more stages.
-use Rattle.std.proofs.Common.{◌≡◌, ℕ, ◌+◌, ◌≤◌, Bool, true, List, [], ◌∷◌, length, ap, sym, arith, subst}
+use Rattle.std.proofs.Common.{◌≡◌, ℕ, ◌+◌, ◌≤◌, true, List, [], ◌∷◌, length, ap, sym, arith, subst}
 use Rattle.cf_forms.specs.Plans.{has_place}
 use Rattle.cf_forms.proofs.PlanLemmas.{place_is}
 use Rattle.cf_model.specs.declared.events.Event.{Event}
@@ -7,13 +7,8 @@ use Rattle.cf_model.specs.Events.{answered}
 use Rattle.cf_model.specs.States.{State, start}
 use Rattle.cf_ledger.specs.Ledgers.{AreTaken, Ledger, roomier, state_of, with_more}
 use Rattle.cf_ledger.proofs.Growth.{answered_more}
-use Rattle.cf_request.specs.Deadlines.{AreSet}
-use Rattle.cf_request.specs.Machines.{IsMachine}
-use Rattle.cf_request.specs.Ready.{FitState, HasLanes, IsFit, ReadySets, none_ready}
-use Rattle.cf_request.specs.Relays.{AreRelays, AreThere, NoneBehind}
-use Rattle.cf_request.specs.Telling.{AreFresh, AreSettled, AreSettledBy, IsKept, Teller, most_stages}
-use Rattle.cf_request.specs.declared.deadlines.Deadline.{Deadline}
-use Rattle.cf_request.specs.declared.relays.Follow.{Follow}
+use Rattle.cf_request.specs.Ready.{FitState, IsFit, ReadySets, none_ready}
+use Rattle.cf_request.specs.Telling.{AreFresh, AreSettled, AreSettledBy, IsKept, most_stages}
 use Rattle.cf_request.proofs.Restarts.{most_of}
 
 -- ---- what was settled
@@ -67,9 +62,9 @@ kept_grown l new more order places places' count h is taken place room =
     })
 
 -- and the sets, once all is written
-pub fit_grown : (s t : State) (more stages room : ℕ) (r made r' : ReadySets) → FitState s r → t ≡ roomier more s → stages ≡ length s.plan.stages → room ≡ s.plan.room + more → made ≡ none_ready r.of (length r.sets) (length r.of + room) →
+pub fit_grown : (s t : State) (more room : ℕ) (r made r' : ReadySets) → FitState s r → t ≡ roomier more s → room ≡ s.plan.room + more → made ≡ none_ready r.of (length r.sets) (length r.of + room) →
     r' ≡ (record made { sets = r'.sets }) → ((i : ℕ) → IsFit s.stages r' i) → FitState t r'
-fit_grown s t more stages room r made r' h is count free first same fit =
+fit_grown s t more room r made r' h is free first same fit =
     let size = ap (λ (x : ReadySets). length x.of) same in
     let was = ap (λ (x : ReadySets). length x.of) first in
     let places = ap (λ (x : ReadySets). x.places) same in
@@ -80,19 +75,3 @@ fit_grown s t more stages room r made r' h is count free first same fit =
       room = omega (arith, places, had, all, free);
       fit = fit;
     })
-
--- ---- the machine's
-
-pub machine_grown : (a b : Teller) (more : ℕ) (follows : List Follow) (deadlines : List Deadline) (own : ℕ) → state_of b.ledger ≡ roomier more (state_of a.ledger) → IsMachine a follows deadlines own → IsMachine b follows deadlines own
-machine_grown a b more follows deadlines own is h =
-    record {
-      relays = subst (λ (s : State). AreThere s follows) (sym is) h.relays;
-      limits = subst (λ (s : State). AreSet s deadlines) (sym is) (record { there = h.limits.there; in_order = h.limits.in_order });
-      caller = h.caller;
-    }
-
-pub relays_grown : (a b : Teller) (more : ℕ) (follows : List Follow) (flags : List Bool) (waiting : ℕ) → state_of b.ledger ≡ roomier more (state_of a.ledger) → AreRelays (state_of a.ledger).stages follows flags waiting → AreRelays (state_of b.ledger).stages follows flags waiting
-relays_grown a b more follows flags waiting is h = subst (λ (s : State). AreRelays s.stages follows flags waiting) (sym is) h
-
-pub none_grown : (a b : Teller) (more : ℕ) (follows : List Follow) → state_of b.ledger ≡ roomier more (state_of a.ledger) → NoneBehind follows (state_of a.ledger).stages → NoneBehind follows (state_of b.ledger).stages
-none_grown a b more follows is h = subst (λ (s : State). NoneBehind follows s.stages) (sym is) h

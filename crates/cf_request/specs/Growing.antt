@@ -1,5 +1,5 @@
 -- Room for more stages.
-use Rattle.std.specs.Prelude.{◌≡◌, ◌⊎◌, ℕ, ◌+◌, ◌<◌, ◌≤◌, true, false, length, max}
+use Rattle.std.specs.Prelude.{◌≡◌, ◌⊎◌, ℕ, ◌+◌, ◌<◌, ◌≤◌, true, length, max}
 use Rattle.cf_forms.specs.Plans.{has_place}
 use Rattle.cf_model.specs.States.{start}
 use Rattle.cf_ledger.specs.Ledgers.{AreTaken, Ledger, roomier, state_of, with_more}

@@ -226,7 +226,7 @@ impl Teller {
     pub fn grow(&mut self, alloc: Global, more: u16) -> Result<(), AllocError>
         requires { has_place self.old.ledger.plan.stages (self.old.ledger.plan.room + more) ≡ true }
         ensures grown { OnOk result (self.new ≡ record self.old { ledger = with_more self.old.ledger more }) }
-        ensures taken { AreTaken (start self.old.ledger.plan) self.old.ledger.events }
+        ensures taken { OnOk result (AreTaken (start self.old.ledger.plan) self.old.ledger.events) }
         ensures state { OnOk result (state_of self.new.ledger ≡ roomier more (state_of self.old.ledger)) }
         ensures refused { OnErr result (self.new ≡ self.old) }
     {

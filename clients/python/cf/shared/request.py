@@ -279,8 +279,8 @@ class DurableRequest:
         self._service, self._view = service, view
         self.name: str = view.name
         self.number: int = view.opened.number
-        self._lock = threading.RLock()
-        self._writes = threading.RLock()  # taken before the other one by who puts
+        self._lock = service._host.lock()
+        self._writes = service._host.lock()  # taken before the other one by who puts
         self._transacts: Set[int] = set()  # the threads that run a transactional function of it
         self._stages: Dict[int, DurableStage[Any]] = {}
         self.is_queued = self.is_leaving = False
@@ -608,7 +608,7 @@ class DurableRequest:
         with self._lock:
             stage = self._stages.get(number)
             if stage is None:
-                stage = self._stages[number] = DurableStage(self, number)
+                stage = self._stages[number] = (self._service._host.stage or DurableStage)(self, number)
         self._show_these([number])
         return stage
 

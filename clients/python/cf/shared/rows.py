@@ -12,6 +12,8 @@ import time
 from typing import (Any, Callable, ContextManager, Dict, Iterable, List, Mapping, NamedTuple, Optional, Sequence,
                     Tuple, TypeVar)
 
+from .host import HOST, Host
+
 T = TypeVar("T")
 Entry = Tuple[int, int]  # a word and its token
 COUNT_BITS = 23  # of a token
@@ -66,18 +68,19 @@ class Gone(Broken):
         super().__init__(request, 0, "the store has no such request")
 
 
-def sure(call: Callable[[], T], name: str, place: int, patience: float, note: Callable[[], None] = lambda: None) -> T:
+def sure(call: Callable[[], T], name: str, place: int, patience: float, note: Callable[[], None] = lambda: None,
+         host: Host = HOST) -> T:
     """What a call is answered that may be made again, whatever became of it before. `note` is told of each time
     without an answer."""
-    until, pause = time.monotonic() + patience, 0.01
+    until, pause = host.monotonic() + patience, 0.01
     while True:
         try:
             return call()
         except Unknown as error:
             note()
-            if time.monotonic() > until:
+            if host.monotonic() > until:
                 raise Unknown(f"request {name!r}, place {place}: the store doesn't answer: {error}") from error
-            time.sleep(pause)
+            host.sleep(pause)
             pause = min(pause * 2, 0.5)
 
 

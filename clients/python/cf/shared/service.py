@@ -7,7 +7,6 @@ import math
 import os
 import socket
 import threading
-import time
 import weakref
 from typing import Any, Callable, Dict, List, NamedTuple, Optional, Sequence, Set, Tuple, TypeVar
 
@@ -17,11 +16,12 @@ from ..service.words import (ANSWER, ARGS, CLAIM, COMPOSE_FORMS, FAIL, FINISH, F
                              ONE, OUTCOME, SECOND, SECOND_SOME, THROWS, TWO, VALUE, Told)
 from ..values import Form
 from .codec import Abandoned, Json, RemoteError
-from .view import Done, RowView, Watcher, new_session
+from .view import SESSION_BITS, Done, RowView, Watcher
 from .functions import F, Functions, Known
+from .host import HOST, Host
 from .plans import text_of, tried_again
 from .request import DurableRequest, DurableStage
-from .rows import Broken, Glance, Gone, Grouped, Store, StoreError, Timer, Transaction, Unknown, sure
+from .rows import Broken, Glance, Gone, Grouped, Opened, Store, StoreError, Timer, Transaction, Unknown, sure
 
 T = TypeVar("T")
 LOGGER = logging.getLogger("cf.shared")
@@ -89,6 +89,7 @@ class DurableService(concurrent.futures.Executor):
         groups: Whether puts that come at the same time become one commit.
         note: Told of each answer of the store; for tests.
         describe: What histories tell of values and exceptions, as of `cf.service.Service`.
+        host: Has the clock, the threads and what comes by chance; for tests.
 
     Raises:
         ValueError: `max_workers` is below 0, or `lease` isn't above 0 and finite."""
@@ -97,7 +98,8 @@ class DurableService(concurrent.futures.Executor):
 
     def __init__(self, store: Store, max_workers: Optional[int] = None, *, functions: Optional[Functions] = None,
                  codec: Optional[Json] = None, lease: float = 10, takes_all: bool = False, groups: bool = False,
-                 note: Optional[Callable[..., None]] = None, describe: Describe = describe_all) -> None:
+                 note: Optional[Callable[..., None]] = None, describe: Describe = describe_all,
+                 host: Host = HOST) -> None:
         workers = min(32, (os.cpu_count() or 1) + 4) if max_workers is None else max_workers
         if workers < 0:
             raise ValueError("max_workers must not be below 0")
@@ -105,13 +107,14 @@ class DurableService(concurrent.futures.Executor):
             raise ValueError("lease must be above 0 and finite")
         self.store: Store = Grouped(store) if groups else store
         self.codec: Json = codec or Json()
-        self.session: int = new_session()
+        self._host = host
+        self.session: int = host.number(SESSION_BITS)
         self.functions: Functions = Functions()
         if functions is not None:
             self.functions.add(functions)
         self._workers, self._takes_all, self._lease = workers, takes_all, lease
         self._note, self._describe = note, describe
-        self._pool = concurrent.futures.ThreadPoolExecutor(max(workers, 1), f"cf-shared-{next(self._numbers)}")
+        self._pool = host.pool(max(workers, 1), f"cf-shared-{next(self._numbers)}")
         self._requests: Dict[str, DurableRequest] = {}
         # those that were closed
         self._left: "weakref.WeakValueDictionary[str, DurableRequest]" = weakref.WeakValueDictionary()
@@ -119,12 +122,11 @@ class DurableService(concurrent.futures.Executor):
         self._unknown: Dict[str, Tuple[str, int]] = {}
         self.broken: Dict[str, BaseException] = {}  # requests that can't be gone on with here, and why
         self._lock, self._stops, self._process = threading.Lock(), threading.Event(), os.getpid()
-        self._watcher, self._next_beat, self._next_look = Watcher(self.store, lease), 0.0, 0.0
+        self._watcher, self._next_beat, self._next_look = Watcher(self.store, lease, host), 0.0, 0.0
         self._mark: Any = None
         self._is_named = False
         self._firing: Set[Tuple[str, int, float]] = set()
-        self._pump = threading.Thread(target=self._run_pump, name="cf-shared", daemon=True)
-        self._pump.start()
+        self._pump = host.pump(self._run_pump, "cf-shared")
 
     # What users call.
 
@@ -149,7 +151,7 @@ class DurableService(concurrent.futures.Executor):
             RuntimeError: The service is shut down, or this process is a child of `fork`.
             Unknown: The store didn't answer for a minute.
             Broken: The row can't be gone on with."""
-        request = self._opened(name or f"request {new_session():x}", text_of(None, self.functions), False)
+        request = self._opened(name or self._named("request"), text_of(None, self.functions), False)
         request._describe = describe or request._describe
         return request
 
@@ -173,7 +175,7 @@ class DurableService(concurrent.futures.Executor):
         if len(given) > len(flow._promises):
             raise ValueError(f"{flow.name} has {len(flow._promises)} promises")
         payloads = [None if it is None else self.codec.write(it) for it in given]
-        request = self._opened(name or f"{flow.name} {new_session():x}", text_of(flow, self.functions), True)
+        request = self._opened(name or self._named(flow.name), text_of(flow, self.functions), True)
         request._describe = describe or request._describe
         request._complete_all(list(zip(flow._promises, payloads)))
         self._serve(request)
@@ -185,10 +187,10 @@ class DurableService(concurrent.futures.Executor):
         Raises:
             KeyError: There is none of this name.
             Unknown, Broken: As in `request`."""
-        found = sure(lambda: self.store.find(name), name, 0, PATIENCE)
+        found = self._sure(lambda: self.store.find(name), name)
         if found is None:
             raise KeyError(name)
-        return self._kept(DurableRequest(self, RowView(self.store, found, self.session, PATIENCE, self._note)))
+        return self._kept(self._made(found))
 
     def submit(self, fn: Callable[..., T], /, *args: Any, **kwargs: Any) -> "DurableStage[T]":
         """Has a registered function called. It is a request of one stage, which is closed once that is settled.
@@ -208,7 +210,7 @@ class DurableService(concurrent.futures.Executor):
 
         Returns:
             The requests."""
-        resumed = [self._taken(name) for name in sure(self.store.ends, "", 0, PATIENCE)]
+        resumed = [self._taken(name) for name in self._sure(self.store.ends, "")]
         for request in resumed:
             if request is not None:
                 self._serve(request)
@@ -242,13 +244,23 @@ class DurableService(concurrent.futures.Executor):
             raise RuntimeError("a child of fork can't use its parent's service")
         if self._stops.is_set():
             raise RuntimeError("cannot schedule new futures after shutdown")
-        found = sure(lambda: self.store.open(name, plan), name, 0, PATIENCE)
+        found = self._sure(lambda: self.store.open(name, plan), name)
         if same and found.plan != plan:
             raise Broken(name, 0, "it was begun with another plan")
-        kept = self._kept(DurableRequest(self, RowView(self.store, found, self.session, PATIENCE, self._note)))
+        kept = self._kept(self._made(found))
         if kept.number != found.number:  # it was dropped meanwhile, and another of its name begun
             return self._opened(name, plan, same)
         return kept
+
+    def _named(self, first: str) -> str:
+        """A name that no other request has."""
+        return f"{first} {self._host.number(SESSION_BITS):x}"
+
+    def _sure(self, call: Callable[[], T], name: str) -> T:
+        return sure(call, name, 0, PATIENCE, host=self._host)
+
+    def _made(self, found: Opened) -> DurableRequest:
+        return DurableRequest(self, RowView(self.store, found, self.session, PATIENCE, self._note, self._host))
 
     def _kept(self, request: DurableRequest) -> DurableRequest:
         """The one object of a request that this service has: this one, or the one that was there before."""
@@ -297,7 +309,7 @@ class DurableService(concurrent.futures.Executor):
 
     def _break(self, name: str, error: BaseException, request: Optional[DurableRequest] = None) -> None:
         """Leaves a request alone. Others go on."""
-        LOGGER.error("%s", error)
+        self._host.breaks(error)
         if not isinstance(error, Gone):  # (another of its name may be begun)
             self.broken[name] = error
         with self._lock:
@@ -326,7 +338,7 @@ class DurableService(concurrent.futures.Executor):
                 self._stops.wait(0.2)
 
     def _round(self) -> None:
-        now, looks = time.monotonic(), self._beat()
+        now, looks = self._host.monotonic(), self._beat()
         if looks:
             self._keep_glances()
         if now >= self._next_look:
@@ -355,7 +367,7 @@ class DurableService(concurrent.futures.Executor):
 
     def _beat(self) -> bool:
         """Says that this session is there, and looks who else is, if it is time to; whether it was."""
-        now = time.monotonic()
+        now = self._host.monotonic()
         if now < self._next_beat:
             return False
         self._next_beat = now + self._lease / 5
@@ -370,13 +382,13 @@ class DurableService(concurrent.futures.Executor):
     def _keep_glances(self) -> None:
         """Keeps what lists tell of requests that have rested since the last beat, for a part of the time until the next
         one. The rest comes then, and a list does without what fails."""
-        until = time.monotonic() + self._lease / 50
+        until = self._host.monotonic() + self._lease / 50
         made: List[Tuple[DurableRequest, Glance]] = []
         for request in list(self._requests.values()):
-            if time.monotonic() > until or len(made) == MOST_GLANCES:
+            if self._host.monotonic() > until or len(made) == MOST_GLANCES:
                 break
             with contextlib.suppress(Unknown, StoreError, ValueError, TypeError):
-                glance = request._glance(self.session, time.time())
+                glance = request._glance(self.session, self._host.time())
                 if glance is not None:
                     made.append((request, glance))
         if made:
@@ -449,18 +461,20 @@ class DurableService(concurrent.futures.Executor):
         do."""
         if not getattr(self._works, "is_here", False):
             raise error
-        LOGGER.critical("a callback has raised", exc_info=error)
+        self._host.raised("a callback has raised", error)
 
     def _guarded(self, name: str, call: Callable[..., None], *given: Any) -> None:
         self._works.is_here = True
         try:
             call(*given)
+        except self._host.leaves:
+            raise
         except Broken as error:
             self._break(name, error, next((it for it in given if isinstance(it, DurableRequest)), None))
         except (Unknown, StoreError) as error:
-            LOGGER.warning("request %r: %s", name, error)
-        except BaseException:
-            LOGGER.critical("request %r", name, exc_info=True)
+            self._host.warns(f"request {name!r}: {error}", name)
+        except BaseException as error:
+            self._host.raised(f"request {name!r}", error)
 
     # Work.
 
@@ -507,7 +521,7 @@ class DurableService(concurrent.futures.Executor):
             except Unknown as error:
                 if finish is None or self._stops.is_set():
                     raise
-                LOGGER.warning("%s", error)
+                self._host.warns(str(error), request.name)
             except Broken:
                 raise
             except Exception as error:
@@ -518,8 +532,9 @@ class DurableService(concurrent.futures.Executor):
                                   self._error(RemoteError(type(error).__name__, str(error)[:LONGEST_WHY])))
                 else:  # nothing is taken now, so that it wasn't the value
                     told = finish
-                    LOGGER.warning("request %r, stage %d: nothing can be put: %s", request.name, finish.stage, error)
-                    self._stops.wait(0.5)
+                    self._host.warns(f"request {request.name!r}, stage {finish.stage}: nothing can be put: {error}",
+                                     request.name)
+                    self._host.rest(self._stops, 0.5)
         if len(chosen) > 1:
             self._serve(request)
         if done and chosen and not done[-1].reply[ANSWER]:
@@ -565,8 +580,8 @@ class DurableService(concurrent.futures.Executor):
                          f"stage {stage} composes, and no promise is named for what comes")
         if known is None and request.name not in self._unknown:
             self._unknown[request.name] = (str(said.get("fn")), stage)
-            LOGGER.warning("request %r, stage %d: function %s, version %s isn't known here", request.name, stage,
-                           said.get("fn"), said.get("version"))
+            self._host.warns(f"request {request.name!r}, stage {stage}: function {said.get('fn')}, version "
+                             f"{said.get('version')} isn't known here", "")
         return known
 
     def _claimed(self, request: DurableRequest, stage: int, done: Done) -> Claimed:
@@ -623,10 +638,12 @@ class DurableService(concurrent.futures.Executor):
 
     def _composed(self, request: DurableRequest, claimed: Claimed) -> Finish:
         try:
-            given = claimed.known.call(request, *claimed.args, **claimed.kwargs)
+            given = self._host.call(claimed.known, request, *claimed.args, **claimed.kwargs)
             if not isinstance(given, DurableStage) or given.request._view is not request._view:
                 raise TypeError(f"{claimed.known.name} has to give a stage of the request")
             return Finish(claimed.stage, LINKS, self.codec.write({"stage": given.number}))
+        except self._host.leaves:
+            raise
         except BaseException as error:
             return Finish(claimed.stage, THROWS, self._error(error))
 
@@ -634,8 +651,10 @@ class DurableService(concurrent.futures.Executor):
         try:
             if claimed.error is not None:
                 raise claimed.error
-            value = claimed.known.call(*first, *claimed.args, **claimed.kwargs)
+            value = self._host.call(claimed.known, *first, *claimed.args, **claimed.kwargs)
             return Finish(claimed.stage, GIVES, None if value is None else self.codec.write(value))
+        except self._host.leaves:
+            raise
         except BaseException as error:
             return Finish(claimed.stage, THROWS, self._error(error))
 
@@ -660,8 +679,8 @@ class DurableService(concurrent.futures.Executor):
             except Unknown as error:
                 if self._stops.is_set():
                     raise
-                LOGGER.warning("request %r, stage %d: %s", request.name, claimed.stage, error)
-                time.sleep(0.05)
+                self._host.warns(f"request {request.name!r}, stage {claimed.stage}: {error}", request.name)
+                self._host.sleep(0.05)
                 finish = LOST
             except Broken:
                 raise
@@ -670,8 +689,8 @@ class DurableService(concurrent.futures.Executor):
                     raise
                 finish = Finish(claimed.stage, THROWS, self._error(error)) if is_open else LOST
                 if not is_open:  # it was the store, and no function was called
-                    LOGGER.warning("request %r, stage %d: %s", request.name, claimed.stage, error)
-                    self._stops.wait(0.5)
+                    self._host.warns(f"request {request.name!r}, stage {claimed.stage}: {error}", request.name)
+                    self._host.rest(self._stops, 0.5)
             finally:
                 request._show_settled()
             if finish is not LOST:

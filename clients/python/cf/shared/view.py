@@ -3,7 +3,6 @@ and where it loses replays and decides again."""
 import contextlib
 import json
 import os
-import time
 from array import array
 from typing import (Any, Callable, ContextManager, Dict, Iterable, List, Mapping, NamedTuple, Optional, Sequence, Set,
                     Tuple, TypeVar)
@@ -18,11 +17,13 @@ from ..service.words import (ANSWER, ATTACH, CLAIM, COMPLETE, COMPOSE_FORMS, FAI
                              IS_CLAIMED, IS_PENDING, IS_READY, IS_SETTLED, LINKS, MOST_STAGES, NOT_YET, NUMBER, THROWS,
                              TICK, RequestFull, Told)
 from .codec import Json
+from .host import HOST, Host
 from .plans import SharedPlan, said_in
 from .rows import COUNT_BITS, Broken, Entry, Gone, Opened, Put, Store, Unknown, sure
 
 CALLERS = int(os.environ.get("CF_CALLERS", "64"))  # fewer, for tests of sessions that share a number
 COUNTS = 1 << COUNT_BITS
+SESSION_BITS = 39  # of a token
 ROOM = 8  # stages that may be attached at first
 LONG_GONE = 100  # leases
 T = TypeVar("T")
@@ -31,7 +32,7 @@ Wanted = Sequence[Tuple[int, Optional[bytes]]]  # words, each with its payload
 
 def new_session() -> int:
     """A number that no other session has: 39 bits by chance."""
-    return int.from_bytes(os.urandom(5), "big") >> 1
+    return HOST.number(SESSION_BITS)
 
 
 class Done(NamedTuple):
@@ -96,10 +97,11 @@ class RowView:
         opened: The request, as the store gave it.
         session: The session whose view it is.
         patience: For how many seconds the store may be silent, before `Unknown` is raised.
-        note: Told of each answer that this view got; for tests."""
+        note: Told of each answer that this view got; for tests.
+        host: Has the clock and what comes by chance."""
 
     def __init__(self, store: Store, opened: Opened, session: int, patience: float = 60,
-                 note: Optional[Callable[..., None]] = None) -> None:
+                 note: Optional[Callable[..., None]] = None, host: Host = HOST) -> None:
         self.store: Store = store
         self.name: str = opened.name
         self.session: int = session
@@ -127,7 +129,7 @@ class RowView:
         self._numbers: Dict[int, int] = {}
         self._landed, self._patience = False, patience
         # by chance: where two have one session, their tokens differ all the same
-        self._count = int.from_bytes(os.urandom(3), "big") % COUNTS
+        self._count, self._host = host.number(COUNT_BITS), host
         self._note = note or (lambda *_: None)
         self._behind: Dict[int, List[int]] = {}
         self._own: Dict[int, bytes] = {}  # the payloads that this view put
@@ -250,7 +252,7 @@ class RowView:
 
     def sure(self, call: Callable[[], Any]) -> Any:
         """What a call is answered that may be made again, whatever became of it before."""
-        return sure(call, self.name, self.place, self._patience, self._count_unknown)
+        return sure(call, self.name, self.place, self._patience, self._count_unknown, self._host)
 
     def _count_unknown(self) -> None:
         self.unknown += 1
@@ -493,14 +495,14 @@ class Watcher:
     the engine answered. A pause between two looks counts for half of these seconds at most, since this process, or
     the machine, stood still then, and others may have, too."""
 
-    def __init__(self, store: Store, seconds: float) -> None:
-        self._store, self._seconds = store, seconds
+    def __init__(self, store: Store, seconds: float, host: Host = HOST) -> None:
+        self._store, self._seconds, self._host = store, seconds, host
         self._seen: Dict[int, Tuple[Optional[int], float]] = {}
-        self._time, self._last = 0.0, time.monotonic()
+        self._time, self._last = 0.0, host.monotonic()
 
     def look(self) -> None:
         """Reads all beats."""
-        now = time.monotonic()
+        now = self._host.monotonic()
         self._time, self._last = self._time + min(now - self._last, self._seconds / 2), now
         try:
             beats = self._store.beats()

@@ -14,6 +14,7 @@ passes before.
 
 docs/TESTING.md leads through it. The files:
 
+    sharing.py     processes over a store, and their moves; rows.py, processes.py and answers.py stand below it
     run.py         one run: the moves that are possible, and making one
     world.py       what a test is given; arrivals.py, loop.py and carriers.py stand below it
     footprints.py  what moves touch, and which are independent by that; marks.py: what a test may say of functions

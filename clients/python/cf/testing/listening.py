@@ -177,7 +177,7 @@ class Listening(State):
         self.wait_for(name, [self._place(stage) for stage in stages], is_over, timeout)
 
     def wait_for(self, name: str, things: Sequence[Thing], is_over: Callable[[], bool], timeout: Optional[float],
-                 ways: Sequence[Any] = ()) -> Any:
+                 ways: Sequence[Any] = (), possible: Optional[Callable[[], Sequence[int]]] = None) -> Any:
         """Lets others go on until something is so, or one of several ways is chosen, which is given then."""
         if self._is_over:
             self.fail(f"{name} is never settled")
@@ -188,7 +188,7 @@ class Listening(State):
         flight: Optional[Flight] = getattr(self._carried, "flight", None)
         if flight is None or flight.carrier is None:
             self.fail(f"a callback waits for {name}, in the thread that settled its stage")
-        flight.wait, flight.is_late = Wait(name, tuple(things), is_over, tuple(ways)), False
+        flight.wait, flight.is_late = Wait(name, tuple(things), is_over, tuple(ways), possible), False
         if timeout is not None:
             self._limit_wait(flight, flight.wait, timeout)
         flight.carrier.pause()

@@ -104,4 +104,4 @@ class Report:
 
 def actor_of(move: Move) -> Move:
     """Who makes a move."""
-    return move[1:3] if move[0] in ("begin", "call", "end", "go", "choose", "tell") else move[:2]
+    return move[1:3] if move[0] in ("begin", "call", "end", "go", "choose", "tell", "job", "ask") else move[:2]

@@ -21,7 +21,7 @@ import asyncio
 import concurrent.futures
 from typing import Any, Callable, Dict, List, Set
 
-from ..service.history import describe_all
+from ..service.history import History, describe_all
 from ..service.service import Service
 from ..service.stage import Stage
 from ..service.watch import is_settled
@@ -35,6 +35,7 @@ from .state import LEAVES, Failed, Flight, Settings, Timer
 MAIN: Thing = ("main", 0)
 OF_STAGE = ("complete", "fail", "cancel", "abandon", "set_result", "set_exception", "or_timeout", "complete_on_timeout",
             "done", "cancelled", "running")
+OF_STORES = ("job", "ask", "look", "due", "gone", "kill", "land", "spare")  # moves, which sharing.py has
 FREE_NUMBERS = 60  # of workers, that histories tell apart
 
 
@@ -68,6 +69,8 @@ class Run(Listening):
         keys += self._limits()
         if self.loop is not None:
             keys += self.loop.moves()
+        if self.store is not None:
+            keys += self.store.moves(keys)
         if self.settings.is_clock_free and self._may_stop(keys):
             keys.append(("stop",))
         return keys
@@ -112,7 +115,12 @@ class Run(Listening):
             self.touch(("flight", *key[1:3]), CHANGES)
         elif key[0] in ("come", "by"):
             self.touch((key[0], key[1]), CHANGES)
-        getattr(self, "_do_" + key[0])(*key[1:])
+        if self.store is not None:
+            self.store.rows.told.clear()
+        if self.store is not None and key[0] in OF_STORES:
+            self.store.do(key)
+        else:
+            getattr(self, "_do_" + key[0])(*key[1:])
         footprint, self._footprint = self._footprint, None
         self._look(footprint)
         return footprint
@@ -137,7 +145,8 @@ class Run(Listening):
 
     def _do_go(self, *thing: Any) -> None:
         flight = self.flights[thing]
-        self.touch(USER, CHANGES)
+        for each in flight.touches:
+            self.touch(each, CHANGES)
         for each in flight.wait.things if flight.wait is not None else ():
             self.touch(each, READS)
         flight.wait = None
@@ -298,6 +307,8 @@ class Run(Listening):
     def _see_end(self, future: Any) -> None:
         if not isinstance(future, (concurrent.futures.Future, asyncio.Future)):
             return
+        if self.store is not None and self.store.is_of_dead(future):
+            return
         if not future.done():
             self.fail(f"{getattr(future, 'name', 'the test')} is never settled")
         if isinstance(future, asyncio.Future) and not future.cancelled() and future.exception() is not None:
@@ -311,16 +322,26 @@ class Run(Listening):
                 CARRIERS.give(flight.carrier)
         if self.loop is not None:
             self.loop.end()
+        if self.store is not None:
+            self.store.close()
+
+    def histories(self) -> List[History]:
+        """The history of each request, and of each one of a store."""
+        stored = [] if self.store is None else self.store.histories()
+        return [request.history() for request in self.requests] + stored
 
     # In words.
 
     def told(self) -> List[str]:
         """What the last move settled, but relays, whose futures are told."""
-        return [f"{stage.name} {_end_of(stage)}" for stage in self._settled if not stage.name.startswith("relay of ")]
+        told = [f"{stage.name} {_end_of(stage)}" for stage in self._settled if not stage.name.startswith("relay of ")]
+        return told if self.store is None else told + self.store.rows.told
 
     def text(self, key: Move) -> str:
         """What a move is called. It is asked before the move is done."""
         word = key[0]
+        if self.store is not None and word in OF_STORES:
+            return self.store.text(key)
         if word == "come":
             way = self.outside[key[1]].ways[key[2]]
             name = self.outside[key[1]].name
@@ -365,6 +386,8 @@ def _next_of(thing: Thing, flight: Flight) -> List[Move]:
     if wait is None:
         return [(flight.word, *thing)]
     if wait.ways:
+        if wait.possible is not None:
+            return [("ask", *thing, flight.asked, k) for k in wait.possible()]
         return [("choose", *thing, k) for k in range(len(wait.ways))]
     return [("go", *thing)] if flight.is_late or wait.is_over() else []
 

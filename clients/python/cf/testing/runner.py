@@ -111,7 +111,7 @@ class Runner:
 def failure_of(ran: Ran) -> Failure:
     """A run that failed and was told, as a value."""
     told = [Told(_short(text), [_short(it) for it in settled]) for text, settled in ran.told]
-    return Failure(_short(ran.why), ran.row, told, [request.history() for request in ran.run.requests])
+    return Failure(_short(ran.why), ran.row, told, ran.run.histories())
 
 
 def _short(text: str) -> str:
@@ -120,4 +120,4 @@ def _short(text: str) -> str:
 
 
 def _words(run: Run) -> List[List[int]]:
-    return [request.history().words for request in run.requests]
+    return [history.words for history in run.histories()]

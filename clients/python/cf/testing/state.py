@@ -1,6 +1,6 @@
 """What a run consists of, what its moves touch, and what has to hold between them."""
 import threading
-from typing import TYPE_CHECKING, Any, Callable, Dict, List, NamedTuple, NoReturn, Optional, Set, Tuple, Type
+from typing import TYPE_CHECKING, Any, Callable, Dict, List, NamedTuple, NoReturn, Optional, Sequence, Set, Tuple, Type
 
 from ..service.history import describe_all
 from ..service.request import Request
@@ -12,6 +12,7 @@ from .footprints import CHANGES, CHECKED, USER, Behind, Footprint, Move, Place, 
 
 if TYPE_CHECKING:
     from .loop import WorldLoop
+    from .sharing import WorldStore
 
 
 class Failed(BaseException):
@@ -43,6 +44,7 @@ class Wait(NamedTuple):
     things: Tuple[Thing, ...]
     is_over: Callable[[], bool]
     ways: Tuple[Any, ...] = ()  # of which one is chosen, where it waits for that
+    possible: Optional[Callable[[], Sequence[int]]] = None  # which of them are, where that isn't all
 
 
 class Flight:
@@ -55,6 +57,10 @@ class Flight:
         self.is_late = False  # the time for which it waits is over
         self.chosen: Any = None
         self.carrier: Optional[Carrier] = None
+        self.touches: List[Thing] = [USER]  # with each move
+        self.process: Optional[object] = None  # of a store, of which it is a thread
+        self.asked = 0  # how often it asked the store for something, or was about to call a function
+        self.is_caller = self.is_fresh = False  # what a test has it call; it hasn't asked the store for anything yet
 
 
 class Tail:
@@ -95,6 +101,7 @@ class State:
         self.checks: List[Tuple[Callable[[], object], str]] = []
         self.ends: List[Tuple[Callable[[], object], str]] = []
         self.loop: "Optional[WorldLoop]" = None
+        self.store: "Optional[WorldStore]" = None
         self.weight = 1  # in how many ways workers could have been chosen
         self.why = ""  # it fails
         self._footprint: Optional[Footprint] = None

@@ -5,9 +5,11 @@ from ..service.loop import LoopService
 from ..service.service import Service
 from .arrivals import Arrival, Way
 from .loop import WorldLoop
+from .state import NeedsThreads
 
 if TYPE_CHECKING:
     from .run import Run
+    from .sharing import WorldStore
 
 T = TypeVar("T")
 
@@ -94,10 +96,31 @@ class World:
         chosen: T = self._run.wait_for("a choice", (), lambda: True, None, values)
         return chosen
 
+    def store(self, *, lost: int = 0, unanswered: int = 0, late: int = 0, silent: int = 0, killed: int = 0,
+              slow: int = 0) -> "WorldStore":
+        """A store that processes share, as `cf.shared` has them. What may go wrong in it is bounded for each order.
+
+        Args:
+            lost: How many calls of the store never come there.
+            unanswered: How many are done, and the answer is lost.
+            late: How many puts are on their way for a while, and come later, if their place is still free then.
+            silent: How often the store is silent until the caller gives up.
+            killed: How many processes are killed.
+            slow: How often a process is taken for gone that is there."""
+        from .answers import Bounds
+        from .sharing import WorldStore
+
+        if not self._run.settings.has_threads:
+            raise NeedsThreads
+        if self._run.store is None:
+            self._run.store = WorldStore(self._run, Bounds(lost, unanswered, late, silent, killed, slow))
+        return self._run.store
+
     def outcomes(self) -> List[str]:
         """What each stage of each request ended in, as texts of `cf run`, for comparing the ends of orders."""
-        return [line for request in self._run.requests for line in request.history().report().splitlines()
+        told = [line for request in self._run.requests for line in request.history().report().splitlines()
                 if line.startswith("stage ")]
+        return told if self._run.store is None else told + self._run.store.outcomes()
 
     def _outside(self, ways: Sequence[Way], name: str) -> "Arrival[Any]":
         number = len(self._run.outside)

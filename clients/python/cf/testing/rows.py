@@ -1,0 +1,285 @@
+"""The rows of a world's store: what stands, what is on its way, and a store of each process that goes through the
+search."""
+import contextlib
+from typing import (TYPE_CHECKING, Any, Callable, ContextManager, Dict, Generator, List, Optional, Sequence, Tuple,
+                    TypeVar)
+
+from ..service.history import describe_all
+from ..service.words import (ATTACH, CANCEL, CANCELLED, CLAIM, COMPLETE, FAIL, FAIL_AS, FINISH, LINKS, THROWN, THROWS,
+                             TIMED_OUT, VALUE)
+from ..shared.codec import Json
+from ..shared.rows import Entry, Glance, Listed, Memory, Opened, Put, Store, Timer, Transaction
+from ..shared.view import RowView
+from .answers import NOT_ASKED, OF_PUTS, OF_READS, OF_WRITES
+from .footprints import CHANGES, READS, Thing
+
+if TYPE_CHECKING:
+    from .processes import Process
+    from .sharing import WorldStore
+
+T = TypeVar("T")
+ROWS: Thing = ("rows",)  # which requests there are
+DONE = {CLAIM: "is claimed", COMPLETE: "is completed", FAIL: "is failed", CANCEL: "is cancelled",
+        FAIL_AS: "is failed"}
+FINISHED = {THROWS: "has raised", LINKS: "is linked"}
+
+
+class Rows:
+    """What stands. Each call touches what it reads or changes."""
+
+    def __init__(self, touch: Callable[[Thing, str], None]) -> None:
+        self.memory: Memory = Memory()
+        self.names: List[str] = []  # of requests, in the order in which they were opened
+        self.views: Dict[str, RowView] = {}  # what a reader of all words knows
+        self.effects: List[Any] = []  # of transactional functions
+        self.held: Dict[str, object] = {}  # the open transactions that will put to a request
+        self.told: List[str] = []  # what came to stand in this move
+        self.timers: Dict[Tuple[str, int], Tuple[int, Timer]] = {}  # with the number of each
+        self._touch, self._timers_made = touch, 0
+
+    def view(self, name: str) -> Optional[RowView]:
+        """What is known of a request by all its words, or None where there is none."""
+        return self.views.get(name)
+
+    def text_of(self, put: Put) -> str:
+        """What a put is called."""
+        parts = []
+        for place, (word, _) in enumerate(put.entries, put.at + 1):
+            kind, tag = word >> 56, word >> 32 & 0xF
+            if kind == ATTACH:
+                parts.append(f"{_said(put.payloads.get(place, b'{}')).get('name', 'a stage')} is attached")
+            else:
+                done = FINISHED.get(tag, "is finished") if kind == FINISH else DONE.get(kind, "is changed")
+                parts.append(f"{self.name_of(put.request, word >> 36 & 0xFFF)} {done}")
+        return f"puts to {put.request}: {', '.join(parts)}"
+
+    def name_of(self, request: str, stage: int) -> str:
+        """What a stage is called."""
+        view = self.view(request)
+        return f"stage {stage}" if view is None or stage >= len(view.forms) else str(view.said(stage)["name"])
+
+    def open(self, name: str, plan: str) -> Opened:
+        """As `Store.open`."""
+        is_new = self.memory.find(name) is None
+        self._touch(ROWS, CHANGES if is_new else READS)
+        opened = self.memory.open(name, plan)._replace(opened=0.0)
+        if is_new:
+            self._touch(("row", name), CHANGES)
+            self.views[name] = RowView(self.memory, opened, 0)
+            if name not in self.names:
+                self.names.append(name)
+        return opened
+
+    def append(self, put: Put) -> Optional[List[Entry]]:
+        """As `Store.append`."""
+        stands = self.memory.append(put)
+        self._touch(("row", put.request), READS if stands else CHANGES)
+        self._touch(("held", put.request), READS)
+        if stands is None:
+            view = self.views[put.request]
+            for done in view.catch_up():
+                self.told += [f"{view.said(stage)['name']} {ended(view, stage)}" for stage in done.settled]
+        else:
+            self.told.append("another's word stands there")
+        return stands
+
+    def read(self, name: str, at: int, number: int) -> List[Entry]:
+        """As `Store.read`."""
+        self._touch(("row", name), READS)
+        return self.memory.read(name, at, number)
+
+    def hold(self, name: str, transaction: Optional[object]) -> None:
+        """Has puts to a request wait for the end of a transaction, or no longer."""
+        self._touch(("held", name), CHANGES)
+        if transaction is None:
+            self.held.pop(name, None)
+        else:
+            self.held[name] = transaction
+
+    def change(self, name: str, act: Callable[[], T]) -> T:
+        """Does what changes a request otherwise."""
+        self._touch(("row", name), CHANGES)
+        return act()
+
+    def drop(self, name: str, at: Optional[int]) -> bool:
+        """As `Store.drop`."""
+        self._touch(ROWS, CHANGES)
+        did = self.change(name, lambda: self.memory.drop(name, at))
+        if did:
+            del self.views[name]
+            self.timers = {key: it for key, it in self.timers.items() if key[0] != name}
+        return did
+
+    def end(self, name: str, at: int, number: int) -> None:
+        """As `Store.end`."""
+        self.change(name, lambda: self.memory.end(name, at, number))
+        if name not in self.memory.ends():
+            self.timers = {key: it for key, it in self.timers.items() if key[0] != name}
+
+    def set_timer(self, timer: Timer) -> None:
+        """As `Store.set_timer`."""
+        self.change(timer.request, lambda: self.memory.set_timer(timer))
+        self._timers_made += 1
+        self.timers[timer.request, timer.stage] = (self._timers_made, timer)
+
+    def drop_timer(self, name: str, stage: int, number: int) -> None:
+        """As `Store.drop_timer`."""
+        self.change(name, lambda: self.memory.drop_timer(name, stage, number))
+        self.timers.pop((name, stage), None)
+
+
+class ProcessStore(Store):
+    """The store as one process has it. What it asks is a move, but where its process looks what is new."""
+
+    is_transactional = True
+
+    def __init__(self, world: "WorldStore", process: "Process") -> None:
+        self.rows: Rows = world.rows
+        self._world, self._process = world, process
+
+    def open(self, name: str, plan: str) -> Opened:
+        return self._world.ask(self._process, OF_WRITES, f"opens {name}", lambda: self.rows.open(name, plan))
+
+    def find(self, name: str) -> Optional[Opened]:
+        self._world.touch(ROWS, READS)
+        found = self.rows.memory.find(name)
+        return None if found is None else found._replace(opened=0.0)
+
+    def append_groups(self, puts: Sequence[Put]) -> List[Optional[List[Entry]]]:
+        return [self._put(put) for put in puts]
+
+    def _put(self, put: Put) -> Optional[List[Entry]]:
+        return self._world.ask(self._process, OF_PUTS, self.rows.text_of(put), lambda: self.rows.append(put), put)
+
+    def read(self, name: str, at: int = 0, number: int = 0) -> List[Entry]:
+        return self._world.ask(self._process, OF_READS, f"reads {name}", lambda: self.rows.read(name, at, number))
+
+    def payloads(self, name: str, places: Sequence[int], number: int = 0) -> Dict[int, bytes]:
+        return self.rows.memory.payloads(name, places, number)  # (what stands never changes)
+
+    def ends(self) -> Dict[str, int]:
+        ends = self.rows.memory.ends()
+        self._world.touch(ROWS, READS)
+        for name in ends:
+            if self._process.works_on(name):
+                self._world.touch(("row", name), READS)
+        return ends
+
+    def changed(self, seconds: float) -> None:
+        """The search says when a process looks."""
+
+    def listing(self) -> List[Listed]:
+        self._world.touch(ROWS, READS)
+        return [it._replace(opened=0.0) for it in self.rows.memory.listing()]
+
+    def end(self, name: str, at: int, number: int = 0) -> None:
+        self._world.ask(self._process, OF_WRITES, f"closes {name}", lambda: self.rows.end(name, at, number))
+
+    def reopen(self, name: str, number: int = 0) -> None:
+        self._world.ask(self._process, OF_WRITES, f"opens {name} again",
+                        lambda: self.rows.change(name, lambda: self.rows.memory.reopen(name, number)))
+
+    def drop(self, name: str, at: Optional[int] = None) -> bool:
+        return self._world.ask(self._process, OF_WRITES, f"drops {name}", lambda: self.rows.drop(name, at))
+
+    def beat(self, session: int) -> None:
+        self.rows.memory.beat(session)
+
+    def beats(self) -> Dict[int, int]:
+        return self.rows.memory.beats()
+
+    def drop_beat(self, session: int) -> None:
+        self.rows.memory.drop_beat(session)
+
+    def now(self) -> float:
+        return self._process.host.monotonic()
+
+    def set_timer(self, timer: Timer) -> None:
+        self._world.ask(self._process, OF_WRITES, f"sets the limit of {self.rows.name_of(timer.request, timer.stage)}",
+                        lambda: self.rows.set_timer(timer))
+
+    def due(self, now: float) -> List[Timer]:
+        return list(self._process.due_now)
+
+    def drop_timer(self, request: str, stage: int, number: int = 0) -> None:
+        self._world.ask(self._process, OF_WRITES, f"forgets the limit of {self.rows.name_of(request, stage)}",
+                        lambda: self.rows.drop_timer(request, stage, number))
+
+    def keep_glances(self, glances: Sequence[Glance]) -> None:
+        """Nobody looks at lists."""
+
+    def transaction(self) -> ContextManager[Transaction]:
+        return self._transaction()
+
+    @contextlib.contextmanager
+    def _transaction(self) -> Generator[Transaction, None, None]:
+        made = WorldTransaction(self, self._world, self._process)
+        try:
+            yield made
+        finally:
+            made.ends()
+
+
+class WorldTransaction(Transaction):
+    """A transaction, whose connection is a list: what is appended to it comes to stand in `WorldStore.effects`. While
+    its place of a row is taken and it is open, others wait with puts to that row."""
+
+    def __init__(self, store: ProcessStore, world: "WorldStore", process: "Process") -> None:
+        self.connection: List[Any] = []
+        self._rows, self._world, self._process = store.rows, world, process
+        self._put: Optional[Put] = None
+        self._is_open = True
+
+    def append(self, put: Put) -> bool:
+        def takes() -> bool:
+            stands = self._rows.read(put.request, put.at, put.number)
+            if not stands:
+                self._put = put
+                self._rows.hold(put.request, self)
+            return not stands
+        # (no move of its own, unless it waits: nobody else can put then until the transaction has ended)
+        return self._world.ask(self._process, NOT_ASKED, f"waits for its place in {put.request}", takes, put)
+
+    def commit(self) -> None:
+        assert self._put is not None
+        self._world.ask(self._process, OF_WRITES, f"commits, and {self._rows.text_of(self._put)}", self._commit)
+
+    def _commit(self) -> None:
+        if self._is_open and self._put is not None:
+            self._world.touch(("effects",), CHANGES)
+            self._rows.append(self._put)
+            self._rows.effects += self.connection
+        self.ends()
+
+    def ends(self) -> None:
+        """It is over. What wasn't committed is undone."""
+        self._is_open = False
+        if self._put is not None and self._rows.held.get(self._put.request) is self:
+            self._rows.hold(self._put.request, None)
+
+
+def _said(given: bytes) -> Dict[str, Any]:
+    said: Dict[str, Any] = Json().read(given)
+    return said
+
+
+def outcome(view: RowView, stage: int) -> Any:
+    """The value or the exception that a stage ended with, or None where it isn't settled."""
+    told, codec = view.told[stage], Json()
+    if not view.is_settled(stage):
+        return None
+    if told.kind == VALUE:
+        return view.read(told.number, codec.read) if told.some else None
+    if told.kind == THROWN:
+        return view.read(told.code, codec.read_error)
+    if told.kind == CANCELLED:
+        return codec.read_error(b'{"error":"CancelledError","text":"","args":[]}')
+    found = view.read_if_any(view.failed_of((stage,), told.kind), codec.read_error)
+    return found if found is not None else TimeoutError() if told.kind == TIMED_OUT else RuntimeError("a bad answer")
+
+
+def ended(view: RowView, stage: int) -> str:
+    """What a settled stage came to, in words."""
+    if view.told[stage].kind == CANCELLED and not view.told[stage].wrapped:
+        return "is cancelled"
+    return f"ends: {describe_all(outcome(view, stage))}"

@@ -1,0 +1,417 @@
+"""A store of a world, its processes, and their moves.
+
+    job p n       thread n of process p begins: it works on a request, or does what a test says
+    ask p n m k   what it asked of the store is answered in way k, or a function is called, and it goes on; it is the
+                  mth time
+    go p n        it goes on with what it waited for
+    look p        the process looks what is new, and one of its threads begins with that
+    due p r s n   the process finds that the limit of stage s of request r is over, which was the nth
+    gone p q      the process takes q for gone, and one of its threads abandons what q has claimed
+    kill p        the process is killed
+    land n        the nth put that was on its way comes to the store
+    spare         nobody is killed any more, or taken for gone while it is there
+
+A process looks only where that leads to something. Its look, and the first read that follows, are one move: between
+them nothing of it could be seen. What has to be done in the store stands in footprints as the rows that are read and
+changed; all that one process does stands there as a change of that process, so no two of its moves are swapped unseen.
+"""
+import json
+from typing import TYPE_CHECKING, Any, Callable, Dict, List, Optional, Sequence, Tuple, TypeVar
+
+from ..service.history import History
+from ..shared.codec import Json
+from ..shared.functions import Functions
+from ..shared.plans import tried_again
+from ..shared.rows import Put, Timer, Unknown
+from ..shared.service import PATIENCE
+from ..shared.view import RowView
+from .answers import OF_CALLS, OF_READS, Answer, Bounds
+from .carriers import CARRIERS, Carrier, Gone
+from .footprints import CHANGES, READS, USER, Move, Thing
+from .processes import Job, Process, WorldStage
+from .rows import Rows, ended, outcome
+from .state import Flight
+
+if TYPE_CHECKING:
+    from .run import Run
+
+T = TypeVar("T")
+KILLS: Thing = ("kills",)
+FAULTS: Thing = ("faults",)
+LOOKS = 5  # at beats, until a silent process is taken for gone
+
+
+class WorldStore:
+    """Rows in memory that processes of a world share. `World.store` gives it.
+
+    Attributes:
+        granted: Each granted claim that a process was told of: the process's name, the request's and the stage.
+        answered: Each word that a process was told to stand: the process's name, the request's, place and word."""
+
+    def __init__(self, run: "Run", bounds: Bounds) -> None:
+        self.run: "Run" = run
+        self.bounds: Bounds = bounds
+        self.processes: List[Process] = []
+        self.rows: Rows = Rows(self.touch)
+        self.granted: List[Tuple[str, str, int]] = []
+        self.answered: List[Tuple[str, str, int, int]] = []
+        self._flying: List[Put] = []  # puts that are on their way, also those that have come
+        self._landed: List[int] = []
+        self._dead: List[Flight] = []
+
+    # What a test calls.
+
+    def process(self, name: str, functions: Optional[Functions] = None, *, workers: int = 1, takes_all: bool = False,
+                lease: float = 10, ahead: float = 0) -> Process:
+        """A process with a service over this store, which works on the requests that it has begun or opened.
+
+        Args:
+            name: What it is called where an order is told.
+            functions: The functions that it knows.
+            workers: How many threads run functions. With 0 it runs none.
+            takes_all: Whether it works on all requests.
+            lease: As of `DurableService`.
+            ahead: How many seconds its clock is ahead of the world's."""
+        made = Process(self, len(self.processes), name, functions, workers, takes_all, lease, ahead)
+        self.rows.memory.beat(made.session)
+        self.processes.append(made)
+        return made
+
+    def worker(self, name: str, functions: Functions, *, workers: int = 1, lease: float = 10) -> Process:
+        """A process that works on all requests, as `cf.shared.Worker` does."""
+        return self.process(name, functions, workers=workers, takes_all=True, lease=lease)
+
+    def outcome(self, request: str, stage: str) -> Any:
+        """The value or the exception that the first stage of this name ended with, by all words that stand. None where
+        it isn't settled."""
+        view = self.rows.view(request)
+        self.touch(("row", request), READS)
+        number = None if view is None else self._numbered(view, stage)
+        return None if view is None or number is None else outcome(view, number)
+
+    def is_settled(self, request: str, stage: str) -> bool:
+        """Whether the first stage of this name is settled, by all words that stand."""
+        view = self.rows.view(request)
+        self.touch(("row", request), READS)
+        number = None if view is None else self._numbered(view, stage)
+        return view is not None and number is not None and view.is_settled(number)
+
+    @property
+    def effects(self) -> List[Any]:
+        """What transactional functions have appended to their connection, and what stands."""
+        self.touch(("effects",), READS)
+        return self.rows.effects
+
+    def outcomes(self) -> List[str]:
+        """What each stage of each request came to, by all words that stand, for comparing the ends of orders."""
+        told = []
+        for name in self.rows.names:
+            view = self.rows.view(name)
+            for number in range(0 if view is None else len(view.forms)):
+                if view is not None:
+                    how = ended(view, number) if view.is_settled(number) else "is open"
+                    told.append(f"{name}: {view.said(number)['name']} {how}")
+        return told
+
+    def histories(self) -> List[History]:
+        """The history of each request, by all words that stand, in the order in which they were opened."""
+        for name, view in self.rows.views.items():
+            for process in self.processes:
+                self.rows.memory.name_session(process.session, process.name, name, view.opened.number)
+        return [self.rows.views[name].history(Json()) for name in self.rows.names if name in self.rows.views]
+
+    @staticmethod
+    def _numbered(view: RowView, stage: str) -> Optional[int]:
+        return next((k for k in range(len(view.forms)) if view.said(k)["name"] == stage), None)
+
+    def is_of_dead(self, future: object) -> bool:
+        """Whether a future is a stage as a process has it that was killed."""
+        return isinstance(future, WorldStage) and future._host().process.is_dead
+
+    # What processes ask.
+
+    def touch(self, thing: Thing, how: str) -> None:
+        """This move touches a thing."""
+        self.run.touch(thing, how)
+
+    def current(self) -> Optional[Flight]:
+        """What goes on in this thread, or None where the search itself does."""
+        flight: Optional[Flight] = getattr(self.run._carried, "flight", None)
+        return flight
+
+    def flight_of(self, process: Process) -> Optional[Flight]:
+        """The thread of a process that this is, or None: then what it does is a part of another's move."""
+        flight = self.current()
+        return flight if flight is not None and flight.process is process else None
+
+    def ask(self, process: Process, answers: Sequence[Answer], text: str, act: Callable[[], T],
+            put: Optional[Put] = None) -> T:
+        """Asks the store for something, which is a move of its own, and is answered as the search says."""
+        flight = self.flight_of(process)
+        if process.is_dead:
+            raise Gone
+        if flight is None or flight.is_fresh and answers is OF_READS or not answers and self._possible(OF_READS, put):
+            if flight is not None:
+                flight.is_fresh = False
+            return act()
+        flight.is_fresh = False
+        ways = answers or OF_CALLS
+        chosen: Answer = self.run.wait_for(text, (), _always, None, ways, lambda: self._possible(ways, put))
+        if chosen.costs:
+            self.touch(FAULTS, CHANGES)
+            self.bounds = self.bounds.less(chosen.costs)
+        if chosen.is_told:
+            return act()
+        if chosen.stands:
+            try:
+                act()
+            except Exception:  # which nobody is told
+                pass
+        if chosen.is_late and put is not None:
+            self._flying.append(put)
+        if chosen.is_silent:
+            process.host.clock += PATIENCE + 1
+        raise Unknown("no answer")
+
+    def _possible(self, answers: Sequence[Answer], put: Optional[Put]) -> List[int]:
+        if put is not None and put.request in self.rows.held:
+            return []  # a transaction is open that has the place
+        return [k for k, answer in enumerate(answers) if self.bounds.allows(answer.costs)]
+
+    # Moves.
+
+    def moves(self, others: Sequence[Move]) -> List[Move]:
+        """What processes may do beside what their threads do."""
+        keys: List[Move] = []
+        living = [it for it in self.processes if not it.is_dead]
+        free = [it for it in living if self._is_free(it)]
+        for process in living:
+            keys += self._of(process)
+        keys += self._noticed(free)
+        keys += [("land", number) for number, put in enumerate(self._flying) if self._may_land(number, put)]
+        slow: List[Move] = [move for other in living if self._flights(other) for move in self._gone(other, free)]
+        slow = slow if self.bounds.slow > 0 else []
+        kills: List[Move] = [("kill", it.key) for it in living if self.bounds.killed > 0 and self._flights(it)]
+        if (slow or kills) and (self.run.settings.is_reduced or not (keys or others)):
+            keys.append(("spare",))
+        return keys + slow + kills
+
+    def _of(self, process: Process) -> List[Move]:
+        keys: List[Move] = [("job", process.key, job.number) for job in process.callers]
+        if self._is_free(process):
+            job = self._next_job(process)
+            if job is not None:
+                keys.append(("job", process.key, job.number))
+            elif any(self._matters(process, name) for name in self.rows.names) or process.stuck:
+                keys.append(("look", process.key))
+        return keys
+
+    def _noticed(self, free: List[Process]) -> List[Move]:
+        """Limits that have passed, and processes that are gone. The first process notices that is free: which one it is
+        makes no difference to what stands."""
+        keys: List[Move] = []
+        for number, timer in self.rows.timers.values():
+            by = next((it for it in free if self._is_due(it, timer)), None)
+            if by is not None:
+                keys.append(("due", by.key, self.rows.names.index(timer.request), timer.stage, number))
+        return keys + [key for other in self.processes if other.is_dead for key in self._gone(other, free)]
+
+    def _gone(self, other: Process, free: List[Process]) -> List[Move]:
+        by = next((it for it in free if it is not other and self._has_claim(it, other)), None)
+        return [] if by is None else [("gone", by.key, other.number)]
+
+    def _may_land(self, number: int, put: Put) -> bool:
+        view = self.rows.view(put.request)
+        return (number not in self._landed and view is not None and view.opened.number == put.number
+                and view.seen == put.at and put.request not in self.rows.held)
+
+    def _flights(self, process: Process) -> List[Flight]:
+        return [flight for flight in self.run.flights.values() if flight.process is process]
+
+    def _is_free(self, process: Process) -> bool:
+        """Whether a thread of its pool is free."""
+        busy = sum(not flight.is_caller for flight in self._flights(process))
+        return busy < max(process.workers, 1) and not process._stops.is_set()
+
+    def _next_job(self, process: Process) -> Optional[Job]:
+        return next((job for job in process.queue if job.word == "_fire" or job.word == "_work"
+                     and self._matters(process, job.request)), None)
+
+    def _matters(self, process: Process, name: str) -> bool:
+        """Whether a process that looks at a request finds something to do in it, or to tell somebody of."""
+        view, request = self.rows.view(name), process._requests.get(name) or process._left.get(name)
+        if view is None or not process.works_on(name) or name in process.broken:
+            return False
+        is_open = name in self.rows.memory.ends()
+        if is_open and process.workers and any(self._knows(process, view, stage) for stage in view.ready):
+            return True
+        if request is None:
+            return False
+        shows = any(isinstance(stage, WorldStage) and not stage.is_shown() and view.is_settled(number)
+                    for number, stage in list(request._stages.items()))
+        closes = is_open and bool(view.plan.rows) and view.is_done()
+        return shows or closes or is_open and self._relays(view) or bool(request._view.found)
+
+    def _knows(self, process: Process, view: RowView, stage: int) -> bool:
+        said = view.said(stage)
+        again = tried_again(said)
+        said = said if again is None else view.said(again)
+        return process.functions.named(str(said.get("fn")), int(said.get("version", 0))) is not None
+
+    @staticmethod
+    def _relays(view: RowView) -> bool:
+        """Whether promises of stages that composed are to be settled."""
+        for promise, place in view.links.items():
+            if not view.is_settled(promise):
+                given = view.read(place, lambda it: int(json.loads(it)["stage"]))
+                if view.is_settled(given):
+                    return True
+        for stage in view.unlinked:
+            promise = int(view.said(stage).get("to", stage))
+            if promise not in view.links and not view.is_settled(promise):
+                return True
+        return False
+
+    def _is_due(self, process: Process, timer: Timer) -> bool:
+        view = self.rows.view(timer.request)
+        return (process.works_on(timer.request) and view is not None and timer[:3] not in process._firing
+                and not view.is_settled(timer.stage))
+
+    def _has_claim(self, process: Process, other: Process) -> bool:
+        """Whether a process works on a request in which the other one has claimed something."""
+        return any(other.session in view.open_claims().values() and process.works_on(name)
+                   for name, view in self.rows.views.items())
+
+    def do(self, key: Move) -> None:
+        """Does a move."""
+        if len(key) > 1 and isinstance(key[1], str):
+            process = self.processes[int(key[1][1:])]
+            self.touch(process.thing, CHANGES)
+            getattr(self, "_do_" + key[0])(process, *key[2:])
+        else:
+            getattr(self, "_do_" + key[0])(*key[1:])
+
+    def _do_job(self, process: Process, number: int) -> None:
+        for jobs in (process.queue, process.callers):
+            for job in [job for job in jobs if job.number == number]:
+                jobs.remove(job)
+                self._begin(process, job)
+
+    def _begin(self, process: Process, job: Job) -> None:
+        is_caller = job.word == "calls"
+        name = job.request if is_caller else process.name
+        flight = Flight(name, lambda: self.run._raised_by(job.act, name))
+        flight.process, flight.is_caller, flight.touches = process, is_caller, [process.thing]
+        flight.is_fresh = not is_caller
+        if is_caller:
+            flight.touches.append(USER)
+            self.touch(USER, CHANGES)
+        thing = (process.key, job.number)
+        self.run.flights[thing] = flight
+        self.run._carry(flight)
+        if flight.word == "end":
+            del self.run.flights[thing]
+
+    def _do_ask(self, process: Process, number: int, _: int, way: int) -> None:
+        flight = self.run.flights[process.key, number]
+        flight.asked += 1
+        self.run._do_choose(process.key, number, way)
+
+    def _do_look(self, process: Process) -> None:
+        process.stuck.clear()
+        self._round(process, self.processes)
+        self._begin_next(process)
+
+    def _begin_next(self, process: Process) -> None:
+        job = self._next_job(process) or next((job for job in process.queue if job.word == "_work"), None)
+        if job is not None:
+            process.queue.remove(job)
+            self._begin(process, job)
+
+    def _round(self, process: Process, beating: Sequence[Process]) -> None:
+        """Some time passes, others that are there say so, and a process looks at the store."""
+        process.host.clock += process.lease / 4
+        for other in beating:
+            if not other.is_dead:
+                self.rows.memory.beat(other.session)
+        process._round()
+
+    def _do_due(self, process: Process, request: int, stage: int, _: int) -> None:
+        timer = self.rows.timers[self.rows.names[request], stage][1]
+        self.touch(("row", timer.request), READS)
+        process.due_now[:] = [timer]
+        self._round(process, self.processes)
+        process.due_now.clear()
+        self._begin_next(process)
+
+    def _do_gone(self, process: Process, number: int) -> None:
+        other = self.processes[number]
+        self.touch(other.thing, READS)
+        if not other.is_dead:
+            self.touch(KILLS, CHANGES)
+            self.bounds = self.bounds.less(("slow",))
+        for _ in range(LOOKS):
+            process.host.clock += process.lease / 4
+            for each in self.processes:
+                if each is not other and not each.is_dead:
+                    self.rows.memory.beat(each.session)
+            process._beat()
+        self._round(process, [each for each in self.processes if each is not other])
+        self._begin_next(process)
+
+    def _do_kill(self, process: Process) -> None:
+        self.touch(KILLS, CHANGES)
+        self.bounds = self.bounds.less(("killed",))
+        process.is_dead = True
+        for thing, flight in list(self.run.flights.items()):
+            if flight.process is process:
+                self._dead.append(self.run.flights.pop(thing))
+        for name, holder in list(self.rows.held.items()):
+            if getattr(holder, "_process", None) is process:
+                self.rows.hold(name, None)
+
+    def _do_land(self, number: int) -> None:
+        self._landed.append(number)
+        self.touch(("land", number), CHANGES)
+        self.rows.append(self._flying[number])
+
+    def _do_spare(self) -> None:
+        self.touch(KILLS, CHANGES)
+        self.bounds = self.bounds._replace(killed=0, slow=0)
+
+    def text(self, key: Move) -> str:
+        """What a move is called."""
+        word = key[0]
+        if word == "land":
+            put = self._flying[key[1]]
+            return f"the put that was on its way comes: {self.rows.text_of(put)}"
+        if word == "spare":
+            return "nobody is killed any more"
+        process = self.processes[int(key[1][1:])]
+        if word == "job":
+            job = next(job for job in (*process.callers, *process.queue) if job.number == key[2])
+            return f"{job.request} begins" if job.word == "calls" else f"{process.name} works on {job.request}"
+        if word == "ask":
+            flight = self.run.flights[key[1:3]]
+            assert flight.wait is not None
+            answer: Answer = flight.wait.ways[key[4]]
+            return f"{flight.name} {flight.wait.name}{'; ' * bool(answer.text)}{answer.text}"
+        if word == "due":
+            timer = self.rows.timers[self.rows.names[key[2]], key[3]][1]
+            view = self.rows.view(timer.request)
+            name = f"stage {key[3]}" if view is None else view.said(key[3])["name"]
+            return f"{process.name} finds that the limit of {name} has passed"
+        if word == "gone":
+            return f"{process.name} takes {self.processes[key[2]].name} for gone"
+        return f"{process.name} looks what is new" if word == "look" else f"{process.name} is killed"
+
+    def close(self) -> None:
+        """Ends the threads of processes that were killed."""
+        for flight in self._dead:
+            if flight.carrier is not None:
+                flight.carrier.end()
+                CARRIERS.give(flight.carrier)
+
+
+def _always() -> bool:
+    return True
