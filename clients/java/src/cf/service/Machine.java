@@ -304,9 +304,7 @@ final class Machine {
 
     /** Has the stage settled at a moment: with the value of this number, or as timed out. */
     void deadline(int stage, long moment, boolean gives, int number) {
-        core();
-        flush();
-        check(deadline(core.at, stage, moment, gives, number));
+        done(deadline(core().at, waiting, stage, moment, gives, number));
     }
 
     /** Lets time pass up to a moment. */
@@ -472,7 +470,6 @@ final class Machine {
         int events = events();
         long[] all = new long[events + 2 * core.memory.getInt(MOMENTS)];
         check(words(core.at, all, 0, events));
-        check(moments(core.at, all, events));
         return all;
     }
 
@@ -531,7 +528,7 @@ final class Machine {
 
     static native long link(long core, int waiting, long word, int relay, int stage, int who);
 
-    static native int deadline(long core, int stage, long moment, boolean gives, int number);
+    static native long deadline(long core, int waiting, int stage, long moment, boolean gives, int number);
 
     static native long pass(long core, int waiting, long moment, int who);
 
@@ -554,8 +551,6 @@ final class Machine {
     /** A request of a plan, 0 for the one without stages, with room, in which the first n of these words are done, with their moments. */
     static native int open(long core, long plan, int room, long[] kept, int n, long[] executors);
 
+    /** The n words from a place on, and behind them the moments for which there is place: of each its ticks, and how many events were done by then. */
     static native int words(long core, long[] into, int from, int n);
-
-    /** The moments, from a place on: of each its ticks, and how many events were done by then. */
-    static native int moments(long core, long[] into, int from);
 }

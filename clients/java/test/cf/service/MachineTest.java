@@ -174,7 +174,7 @@ final class MachineTest {
         }
         for (int stage : new int[] {-1, 1, 4096, Integer.MAX_VALUE}) {
             is(Machine.ask(core, stage) != Native.OK, true);
-            is(Machine.deadline(core, stage, 5, false, 0) != Native.OK, true);
+            is((Machine.deadline(core, 0, stage, 5, false, 0) & 0xff) != Native.OK, true);
             is((Machine.finish(core, 0, stage, false, 0, WHO) & 0xff) != Native.OK, true);
         }
         is((int) Machine.pass(core, 0, -1, Integer.MAX_VALUE) & 0xff, 0);
@@ -182,10 +182,9 @@ final class MachineTest {
         is((int) Machine.apply(core, 0, Words.complete(WHO, 0, 3), 0, WHO) & 0xff, 0);
         for (int n : new int[] {-1, 3, 100, Integer.MAX_VALUE}) {
             is(Machine.words(core, new long[0], 0, n) != Native.OK && Machine.words(core, new long[200], 0, n) != Native.OK, true);
-            is(Machine.moments(core, new long[2], n) != Native.OK, true);
         }
         is(Machine.words(core, new long[100], 0, 2), Native.OK);
-        is(Machine.words(core, new long[100], 2, 0) + Machine.moments(core, new long[100], 2), Native.OK);
+        is(Machine.words(core, new long[100], 2, 0) + Machine.words(core, new long[1], 1, 1), Native.OK);
         Machine.destroy(core);
     }
 }
