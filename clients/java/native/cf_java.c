@@ -368,7 +368,7 @@ CALL(jlong, finish)(JNIEnv *env, jclass class, jlong at, jint waiting, jint stag
   return end(&it, code, answer);
 }
 
-/* Finishes a stage by this word, which links it to a relay. If that was in time, the relay follows a stage from now on. */
+/* Finishes a stage by this word, which links it to a relay, unless it is 0. If that was in time, the relay follows a stage from now on. */
 CALL(jlong, link)(JNIEnv *env, jclass class, jlong at, jint waiting, jlong word, jint relay, jint stage, jint who) {
   (void)env, (void)class;
   struct crossing it;
@@ -376,7 +376,7 @@ CALL(jlong, link)(JNIEnv *env, jclass class, jlong at, jint waiting, jlong word,
   size_t told = 0;
   begin(&it, at);
   uint32_t code = do_waiting(&it, waiting);
-  if (code == CF_OK) code = do_word(&it, (uint64_t)word, HERE, &reply);
+  if (code == CF_OK && word != 0) code = do_word(&it, (uint64_t)word, HERE, &reply);
   if (code != CF_OK) return end(&it, code, 0);
   if (reply.answer == CF_WON && relay >= 0) {
     it.core->settles = true;

@@ -62,6 +62,8 @@ final class Machine {
     /** The words and their moments, where the core was given back, and a bit for each stage whose function an executor calls. */
     private long[] kept, executors = NONE;
     private int keptWords;
+    /** What sets again what isn't in the words. */
+    private Runnable again;
     /** What was told: of a stage its number and outcome, of a claim its stage and arguments. */
     private final List<int[]> witness = WITNESSED ? new ArrayList<>() : null;
 
@@ -199,10 +201,22 @@ final class Machine {
         return plan == null ? NO_PLAN : plan.pool;
     }
 
-    /** Has a core again, if it was given back. */
+    /** Has a core again, if it was given back, in which all is as it was. */
     private Core core() {
         if (core == null) {
+            long[] words = kept;
             open(stages - planned());
+            if (again != null) {
+                try {
+                    again.run();
+                } catch (Throwable refused) {
+                    core.freed.now();
+                    core = null;
+                    kept = words;
+                    throw refused;
+                }
+                again = null;
+            }
         }
         return core;
     }
@@ -302,9 +316,13 @@ final class Machine {
         done(link(core().at, waiting, word, relay, stage, who));
     }
 
-    /** Has the stage settled at a moment: with the value of this number, or as timed out. */
-    void deadline(int stage, long moment, boolean gives, int number) {
-        done(deadline(core().at, waiting, stage, moment, gives, number));
+    /** From now on the relay follows that stage. */
+    void follow(int relay, int stage) {
+        done(link(core().at, waiting, 0, relay, stage, NOBODY));
+    }
+
+    void deadline(int stage, Stage.Limit limit) {
+        done(deadline(core().at, waiting, stage, limit.moment, limit.gives, limit.number));
     }
 
     /** Lets time pass up to a moment. */
@@ -501,8 +519,8 @@ final class Machine {
         return TIMES && count < kept.length ? now - Math.round((Native.ticks() - kept[count]) * Native.nanosPerTick()) : now;
     }
 
-    /** Gives the core back. A word that comes nevertheless has another one do all words again. */
-    void rest() {
+    /** Gives the core back. A word that comes nevertheless has another one do all words again, and then this, if it isn't null. */
+    void rest(Runnable again) {
         if (core == null) {
             return;
         }
@@ -510,6 +528,7 @@ final class Machine {
         Core core = this.core;
         keptWords = events();
         kept = all;
+        this.again = again;
         this.core = null;
         if (stages - planned() > MOST_KEPT || keptWords > 16 * MOST_KEPT || !pool().put(core)) {
             core.freed.now();

@@ -31,7 +31,7 @@ final class MachineTest {
         is(one.claimed() + " " + one.ready() + " " + one.ready(0) + " " + one.told() + " " + one.told(0) + " " + one.number(0), "0 1 1 1 "
                 + (History.GIVES << 16 | 1 << 21) + " 7");
         is(one.events(), 2);
-        one.rest();
+        one.rest(null);
         long began = Native.ticks();
         Machine two = new Machine(flow.plan(), 8);
         two.attach(Words.attach(WHO, Form.APPLY, 1, 0, 0, 1), Machine.HERE, WHO);
@@ -45,11 +45,11 @@ final class MachineTest {
         is(kept[4] >= began && kept[6] >= kept[4] && kept[8] >= kept[6], true);
         is(kept[5] + " " + kept[7] + " " + kept[9], "1 3 4");
         is(Words.name(kept[0]) + " " + Words.name(kept[1]) + " " + Words.name(kept[2]), "attach complete claim");
-        two.rest();
+        two.rest(null);
         // One that goes on has the lanes of before.
         one.apply(Words.claim(WHO, 1), WHO);
         is(one.answer() + " " + one.claimed() + " " + one.first(0) + " " + one.told(), History.GRANTED + " 1 7 0");
-        one.rest();
+        one.rest(null);
         // The same by requests: the executor's functions stay its own.
         ExecutorService pool = Executors.newSingleThreadExecutor(run -> new Thread(run, "pool"));
         Service pooled = new Service(pool);
@@ -145,7 +145,7 @@ final class MachineTest {
         is(said.contains("main claims 1 handle and is granted, with a bad answer\n"), true);
         is(said.contains("main times out 2 source\n") && said.contains("2 source ends: timed out\n"), true);
         is(said.contains("main fails 2 source with a bad answer, too late\n"), true);
-        machine.rest();
+        machine.rest(null);
     }
 
     /** Numbers that are told beside an array or a place don't make the library read past them. */
