@@ -246,33 +246,28 @@ static void write_claim(struct crossing *it, uint32_t stage, const cf_args *args
   it->claimed++;
 }
 
-/* Finishes what the task holds, if it does, and claims for the caller all stages whose functions it calls itself. What fails behind the first
- * step is done by whoever asks for more. */
-static uint32_t claim_all(struct crossing *it, uint8_t who, cf_task *task) {
-  struct core *core = it->core;
+/* One step of a caller: finishes what the task holds, if it does, and claims the lowest stage whose function the caller calls itself. */
+static uint32_t step(struct crossing *it, uint8_t who, cf_task *task) {
   cf_request_step step = {who, HERE, 0};
-  for (bool first = true;; first = false) {
-    if (it->claimed == CLAIMED) {
-      it->more = true;
-      return CF_OK;
-    }
-    uint32_t held = task->held, code = cf_request_next(&core->request, &step, task, it->told + it->n, TOLD - it->n);
-    if (code != CF_OK && code != CF_NOTHING) {
-      it->more |= !first;
-      return first ? code : CF_OK;
-    }
-    take(it, step.told);
-    core->block.events += (int32_t)held + (code == CF_OK);
-    if (code == CF_NOTHING) return CF_OK;
-    write_claim(it, task->stage, &task->args);
-    task->held = 0;
-  }
+  uint32_t held = task->held, code = cf_request_next(&it->core->request, &step, task, it->told + it->n, TOLD - it->n);
+  if (code != CF_OK && code != CF_NOTHING) return code;
+  take(it, step.told);
+  it->core->block.events += (int32_t)held + (code == CF_OK);
+  if (code == CF_OK) write_claim(it, task->stage, &task->args);
+  return CF_OK;
 }
 
-/* Claims behind something that was done: what fails is done by whoever asks for more. */
-static void claim_behind(struct crossing *it, jint who) {
-  cf_task task = {0};
-  if (who >= 0 && claim_all(it, (uint8_t)who, &task) != CF_OK) it->more = true;
+/* Claims all other stages whose functions the caller calls itself. What has no place or fails here is done by whoever asks for more. */
+static uint32_t claim_all(struct crossing *it, jint who) {
+  uint16_t left = 0;
+  uint32_t code = CF_OK;
+  if (who >= 0) cf_request_ready(&it->core->request, HERE, &left);
+  for (; left > 0 && code == CF_OK && it->claimed < CLAIMED; left--) {
+    cf_task task = {0};
+    code = step(it, (uint8_t)who, &task);
+  }
+  it->more |= left > 0 || code != CF_OK;
+  return code;
 }
 
 /* Which stages became ready whose functions executors call, by the events that weren't looked at. What is ready is of no other lane, once all
@@ -345,7 +340,7 @@ CALL(jlong, apply)(JNIEnv *env, jclass class, jlong at, jint waiting, jlong word
   if (code == CF_OK && word != 0) {
     it.core->block.number = (int32_t)reply.number;
     if (who < 0) write_args(it.core->block.args, &reply.args);
-    else if ((uint64_t)word >> 56 != 4) claim_behind(&it, who);
+    else if ((uint64_t)word >> 56 != 4) claim_all(&it, who);
     else if (reply.answer == CF_GRANTED) write_claim(&it, (uint32_t)(word >> 36 & 0xfff), &reply.args);
   }
   return end(&it, code, reply.answer);
@@ -361,18 +356,19 @@ CALL(jlong, finish)(JNIEnv *env, jclass class, jlong at, jint waiting, jint stag
   task.answer.value.kind = number < 0 ? CF_NIL : CF_INT, task.answer.value.number = number < 0 ? 0 : number;
   uint32_t code = do_waiting(&it, waiting), answer = CF_WON;
   if (code != CF_OK) return end(&it, code, 0);
-  code = claim_all(&it, (uint8_t)who, &task);
+  code = step(&it, (uint8_t)who, &task);
+  if (code == CF_OK) claim_all(&it, who);
   if (code != CF_NOT_HELD) return end(&it, code, task.finished);
   /* Somebody has settled it: its word says so. */
   cf_reply reply = {0};
   uint64_t tag = throws ? 2 : number < 0 ? 0 : 1;
   code = do_word(&it, (uint64_t)5 << 56 | (uint64_t)(who & 63) << 48 | (uint64_t)(stage & 0xfff) << 36 | tag << 32 |
                           (tag ? (uint32_t)number : 0), HERE, &reply);
-  if (code == CF_OK) answer = reply.answer, claim_behind(&it, who);
+  if (code == CF_OK) answer = reply.answer, claim_all(&it, who);
   return end(&it, code, answer);
 }
 
-/* Finishes a stage by this word, which links it to a relay. If that was in time, the relay follows a stage from now on. */
+/* Finishes a stage by this word, which links it to a relay, unless it is 0. If that was in time, the relay follows a stage from now on. */
 CALL(jlong, link)(JNIEnv *env, jclass class, jlong at, jint waiting, jlong word, jint relay, jint stage, jint who) {
   (void)env, (void)class;
   struct crossing it;
@@ -380,24 +376,27 @@ CALL(jlong, link)(JNIEnv *env, jclass class, jlong at, jint waiting, jlong word,
   size_t told = 0;
   begin(&it, at);
   uint32_t code = do_waiting(&it, waiting);
-  if (code == CF_OK) code = do_word(&it, (uint64_t)word, HERE, &reply);
+  if (code == CF_OK && word != 0) code = do_word(&it, (uint64_t)word, HERE, &reply);
   if (code != CF_OK) return end(&it, code, 0);
   if (reply.answer == CF_WON && relay >= 0) {
     it.core->settles = true;
     code = cf_request_follow(&it.core->request, (uint16_t)relay, (uint16_t)stage, it.told + it.n, TOLD - it.n, &told);
     take(&it, told);
   }
-  claim_behind(&it, who);
+  claim_all(&it, who);
   return end(&it, code, reply.answer);
 }
 
-/* Sets a deadline of a stage: it times out then, or gets the value of this number, -1 for null. */
-CALL(jint, deadline)(JNIEnv *env, jclass class, jlong at, jint stage, jlong moment, jboolean gives, jint number) {
+/* Does the words that wait, and sets a deadline of a stage: it times out then, or gets the value of this number, -1 for null. */
+CALL(jlong, deadline)(JNIEnv *env, jclass class, jlong at, jint waiting, jint stage, jlong moment, jboolean gives, jint number) {
   (void)env, (void)class;
-  struct core *core = CORE(at);
+  struct crossing it;
   cf_value value = {number < 0 ? CF_NIL : CF_INT, number < 0 ? 0 : number};
-  core->settles = true;
-  return (jint)cf_request_deadline(&core->request, (uint16_t)stage, (uint64_t)moment, gives ? CF_GIVE_VALUE : CF_TIMEOUT, value);
+  begin(&it, at);
+  it.core->settles = true;
+  uint32_t code = do_waiting(&it, waiting), kind = gives ? CF_GIVE_VALUE : CF_TIMEOUT;
+  if (code == CF_OK) code = cf_request_deadline(&it.core->request, (uint16_t)stage, (uint64_t)moment, kind, value);
+  return end(&it, code, 0);
 }
 
 /* Lets time pass up to a moment, and tells that of the next deadline. */
@@ -410,7 +409,7 @@ CALL(jlong, pass)(JNIEnv *env, jclass class, jlong at, jint waiting, jlong momen
   uint32_t code = do_waiting(&it, waiting);
   if (code == CF_OK) code = cf_request_pass(&it.core->request, (uint64_t)moment, it.told, TOLD, &told);
   take(&it, code == CF_OK ? told : 0);
-  if (code == CF_OK) claim_behind(&it, who);
+  if (code == CF_OK) claim_all(&it, who);
   code = code == CF_PAST_MOMENT ? CF_OK : code;
   it.core->block.due = INT64_MAX;
   if (cf_request_next_deadline(&it.core->request, &next) == CF_OK) it.core->block.due = (int64_t)next.moment;
@@ -421,13 +420,12 @@ CALL(jlong, pass)(JNIEnv *env, jclass class, jlong at, jint waiting, jlong momen
 CALL(jlong, more)(JNIEnv *env, jclass class, jlong at, jint who) {
   (void)env, (void)class;
   struct crossing it;
-  cf_task task = {0};
   size_t told = 0;
   begin(&it, at);
   cf_request_told(&it.core->request, it.told, TOLD, &told);
   take(&it, told);
-  uint32_t code = who < 0 ? CF_OK : claim_all(&it, (uint8_t)who, &task);
-  return end(&it, code, 0);
+  uint32_t code = claim_all(&it, who);
+  return end(&it, it.n + it.claimed > 0 ? CF_OK : code, 0);
 }
 
 /* How a stage was settled, as what is told, in the first place there; else -1. */
@@ -542,13 +540,14 @@ CALL(jint, open)(JNIEnv *env, jclass class, jlong at, jlong plan, jint room, jlo
   return (jint)code;
 }
 
-/* The n words from a place on. */
+/* The n words from a place on, and behind them the moments for which there is place: of each its ticks and how many events were done by then. */
 CALL(jint, words)(JNIEnv *env, jclass class, jlong at, jlongArray into, jint from, jint n) {
   (void)class;
   struct core *core = CORE(at);
   uint64_t words[512];
   size_t left;
-  if (from < 0 || n < 0 || (*env)->GetArrayLength(env, into) < n) return CF_NO_WORD;
+  jsize place = (*env)->GetArrayLength(env, into) - n, moments = 2 * core->block.moments;
+  if (from < 0 || n < 0 || place < 0) return CF_NO_WORD;
   for (jint k = 0, part; k < n; k += part) {
     uint32_t code = cf_ledger_words(&core->request, (size_t)from + (size_t)k, words, 512, &left);
     if (code != CF_OK) return (jint)code;
@@ -556,16 +555,7 @@ CALL(jint, words)(JNIEnv *env, jclass class, jlong at, jlongArray into, jint fro
     if ((size_t)part > left) return CF_NO_WORD;
     (*env)->SetLongArrayRegion(env, into, k, part, (const jlong *)words);
   }
-  return CF_OK;
-}
-
-/* The moments, from a place of the row on: of each its ticks and how many events were done by then. */
-CALL(jint, moments)(JNIEnv *env, jclass class, jlong at, jlongArray into, jint from) {
-  (void)class;
-  struct core *core = CORE(at);
-  jsize length = (*env)->GetArrayLength(env, into);
-  if (from < 0 || from > length || length - from < 2 * core->block.moments) return CF_NO_WORD;
-  (*env)->SetLongArrayRegion(env, into, from, 2 * core->block.moments, (const jlong *)core->moments);
+  (*env)->SetLongArrayRegion(env, into, n, place < moments ? place : moments, (const jlong *)core->moments);
   return CF_OK;
 }
 

@@ -136,7 +136,7 @@ public final class History {
                 ends[2 * k + 1] = machine.number(0);
             }
         }
-        machine.rest();
+        machine.rest(null);
         this.told = Arrays.copyOf(told, tolds);
         this.ends = ends;
         this.replies = replies;

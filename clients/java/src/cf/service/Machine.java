@@ -62,6 +62,8 @@ final class Machine {
     /** The words and their moments, where the core was given back, and a bit for each stage whose function an executor calls. */
     private long[] kept, executors = NONE;
     private int keptWords;
+    /** What sets again what isn't in the words. */
+    private Runnable again;
     /** What was told: of a stage its number and outcome, of a claim its stage and arguments. */
     private final List<int[]> witness = WITNESSED ? new ArrayList<>() : null;
 
@@ -199,10 +201,22 @@ final class Machine {
         return plan == null ? NO_PLAN : plan.pool;
     }
 
-    /** Has a core again, if it was given back. */
+    /** Has a core again, if it was given back, in which all is as it was. */
     private Core core() {
         if (core == null) {
+            long[] words = kept;
             open(stages - planned());
+            if (again != null) {
+                try {
+                    again.run();
+                } catch (Throwable refused) {
+                    core.freed.now();
+                    core = null;
+                    kept = words;
+                    throw refused;
+                }
+                again = null;
+            }
         }
         return core;
     }
@@ -302,11 +316,13 @@ final class Machine {
         done(link(core().at, waiting, word, relay, stage, who));
     }
 
-    /** Has the stage settled at a moment: with the value of this number, or as timed out. */
-    void deadline(int stage, long moment, boolean gives, int number) {
-        core();
-        flush();
-        check(deadline(core.at, stage, moment, gives, number));
+    /** From now on the relay follows that stage. */
+    void follow(int relay, int stage) {
+        done(link(core().at, waiting, 0, relay, stage, NOBODY));
+    }
+
+    void deadline(int stage, Stage.Limit limit) {
+        done(deadline(core().at, waiting, stage, limit.moment, limit.gives, limit.number));
     }
 
     /** Lets time pass up to a moment. */
@@ -472,7 +488,6 @@ final class Machine {
         int events = events();
         long[] all = new long[events + 2 * core.memory.getInt(MOMENTS)];
         check(words(core.at, all, 0, events));
-        check(moments(core.at, all, events));
         return all;
     }
 
@@ -504,8 +519,8 @@ final class Machine {
         return TIMES && count < kept.length ? now - Math.round((Native.ticks() - kept[count]) * Native.nanosPerTick()) : now;
     }
 
-    /** Gives the core back. A word that comes nevertheless has another one do all words again. */
-    void rest() {
+    /** Gives the core back. A word that comes nevertheless has another one do all words again, and then this, if it isn't null. */
+    void rest(Runnable again) {
         if (core == null) {
             return;
         }
@@ -513,6 +528,7 @@ final class Machine {
         Core core = this.core;
         keptWords = events();
         kept = all;
+        this.again = again;
         this.core = null;
         if (stages - planned() > MOST_KEPT || keptWords > 16 * MOST_KEPT || !pool().put(core)) {
             core.freed.now();
@@ -531,7 +547,7 @@ final class Machine {
 
     static native long link(long core, int waiting, long word, int relay, int stage, int who);
 
-    static native int deadline(long core, int stage, long moment, boolean gives, int number);
+    static native long deadline(long core, int waiting, int stage, long moment, boolean gives, int number);
 
     static native long pass(long core, int waiting, long moment, int who);
 
@@ -554,8 +570,6 @@ final class Machine {
     /** A request of a plan, 0 for the one without stages, with room, in which the first n of these words are done, with their moments. */
     static native int open(long core, long plan, int room, long[] kept, int n, long[] executors);
 
+    /** The n words from a place on, and behind them the moments for which there is place: of each its ticks, and how many events were done by then. */
     static native int words(long core, long[] into, int from, int n);
-
-    /** The moments, from a place on: of each its ticks, and how many events were done by then. */
-    static native int moments(long core, long[] into, int from);
 }

@@ -101,9 +101,9 @@ public final class Request implements AutoCloseable {
      *
      * Memory. Where the system refuses memory, an OutOfMemoryError is thrown, and the words that were done by then stand
      * (Machine.refused). `close` keeps the words in the heap and gives the core to the next request; a word that comes later
-     * has another core do all words again. Relays and deadlines aren't in the words, so a request that has any (`unwritten`)
-     * keeps its core until they have ended. Cores of requests that nobody can reach are freed by whoever opens the next ones
-     * (Freed).
+     * has another core do all words again. Relays and deadlines aren't in the words: the stages that have any (`unwritten`)
+     * know them, and `setAgain` sets them again. Cores of requests that nobody can reach are freed by whoever opens the next
+     * ones (Freed).
      *
      * Contexts and ends. Where the service has contexts, a function that is attached is a Carried, which has what was captured
      * before anything is done; one of a flow becomes one as it is claimed (`granted`). `closed` sees to it that a hook of the
@@ -151,7 +151,7 @@ public final class Request implements AutoCloseable {
     /** By when time is to pass, and who sees to it; {@code Long.MAX_VALUE} and null where nothing is due. */
     private long alarmAt = Long.MAX_VALUE;
     private Future<?> alarm;
-    /** Whether the core is given back once all relays and deadlines have ended. */
+    /** Whether a core that it has again is given back once all relays and deadlines have ended. */
     private boolean isClosed;
     /** Up to where a recording has the words. */
     private int recorded;
@@ -379,8 +379,7 @@ public final class Request implements AutoCloseable {
 
     /**
      * Gives the memory outside the heap back to be used again. Stages may be used on: if need be all words are done again. The hook of its
-     * {@link Service#onEnd service} is told of it, once all stages are settled that it has now. A limit, or a stage that a function gave,
-     * keeps the memory until it has come.
+     * {@link Service#onEnd service} is told of it, once all stages are settled that it has now.
      */
     @Override
     public void close() {
@@ -389,9 +388,7 @@ public final class Request implements AutoCloseable {
         }
         synchronized (machine) {
             isClosed = unwritten > 0;
-            if (!isClosed) {
-                machine.rest();
-            }
+            machine.rest(isClosed ? this::setAgain : null);
         }
     }
 
@@ -400,7 +397,7 @@ public final class Request implements AutoCloseable {
         synchronized (machine) {
             rests = machine.stages() == 1 && stages[0] == null;
             if (rests) {
-                machine.rest();
+                machine.rest(null);
             }
         }
         if (rests && service.ends() != null) {
@@ -767,7 +764,11 @@ public final class Request implements AutoCloseable {
             if (stage.told != null) {
                 return;
             }
-            machine.deadline(stage.number, moment, gives, gives ? number(value) : 0);
+            Stage.Limit limit = new Stage.Limit(moment, gives, gives ? number(value) : 0);
+            machine.deadline(stage.number, limit);
+            Stage.More more = stage.more();
+            more.limits = more.limits != null ? more.limits : new ArrayList<>(1);
+            more.limits.add(limit);
             holds(stage);
             if (moment >= alarmAt) {
                 return;
@@ -831,6 +832,20 @@ public final class Request implements AutoCloseable {
         tell(news);
     }
 
+    /** Has a machine that was opened again follow stages and keep deadlines as it did before. */
+    private void setAgain() {
+        for (Stage<?> stage : stages) {
+            if (stage != null && stage.unwritten > 0) {
+                if (stage.more.limits != null) {
+                    stage.more.limits.forEach(limit -> machine.deadline(stage.number, limit));
+                }
+                if (stage.more.followed >= 0) {
+                    machine.follow(stage.number, stage.more.followed);
+                }
+            }
+        }
+    }
+
     /** The machine has a relay or a deadline more of this stage. */
     private void holds(Stage<?> stage) {
         stage.unwritten++;
@@ -847,7 +862,7 @@ public final class Request implements AutoCloseable {
                 alarmAt = Long.MAX_VALUE;
                 if (isClosed) {
                     isClosed = false;
-                    machine.rest();
+                    machine.rest(null);
                 }
             }
         }
@@ -995,7 +1010,10 @@ public final class Request implements AutoCloseable {
         }
         if (stage != null) {
             stages[at] = null;
-            unwritten -= stage.unwritten;
+            if (stage.unwritten > 0) {
+                unwritten -= stage.unwritten;
+                stage.more.limits = null;
+            }
             stage.tells(told(what, number));
             news.settled(stage);
         }
@@ -1197,6 +1215,7 @@ public final class Request implements AutoCloseable {
             return new Link(relay, at(number), true);
         }
         if (stages[relay.number] == relay) {
+            relay.more().followed = own.number;
             holds(relay); // Also where the machine has just settled it, which is yet to be told.
         }
         return null;

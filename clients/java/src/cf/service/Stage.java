@@ -1,6 +1,7 @@
 package cf.service;
 
 import cf.service.Faults.Fault;
+import java.util.List;
 import java.util.Objects;
 import java.util.concurrent.CancellationException;
 import java.util.concurrent.CompletableFuture;
@@ -51,6 +52,22 @@ public class Stage<T> extends CompletableFuture<T> {
         /** Relays of other requests that are settled as this stage is. */
         Link.Row outside;
         Observer observers;
+        /** What the machine has of it that isn't in the words: deadlines, in the order in which they were set, and the stage that it follows, or -1. */
+        List<Limit> limits;
+        int followed = -1;
+    }
+
+    /** A deadline: with a value's number, or as timed out. */
+    static final class Limit {
+        final long moment;
+        final boolean gives;
+        final int number;
+
+        Limit(long moment, boolean gives, int number) {
+            this.moment = moment;
+            this.gives = gives;
+            this.number = number;
+        }
     }
 
     static final class Observer {

@@ -58,13 +58,17 @@ final class ClosingTest {
         closing.close();
         source.complete(9);
         is(elsewhere.get(20, TimeUnit.SECONDS), "elsewhere");
-        // The core of one that has no limit any more goes to the next one.
+        // The core goes to the next one, while there is a limit and afterwards.
         int live = Machine.live();
+        List<Stage<Integer>> limited = new ArrayList<>();
         for (int k = 0; k < 300; k++) {
-            Request next = SERVICE.request();
-            Stage<Integer> limited = next.<Integer>promise().orTimeout(1, TimeUnit.HOURS);
-            next.close();
-            limited.complete(k);
+            try (Request next = SERVICE.request()) {
+                limited.add(next.<Integer>promise().orTimeout(1, TimeUnit.HOURS));
+            }
+        }
+        is(Machine.live() <= live + 10, true);
+        for (Stage<Integer> each : limited) {
+            is(each.complete(1), true);
         }
         is(Machine.live() <= live + 10, true);
     }

@@ -31,7 +31,7 @@ final class MachineTest {
         is(one.claimed() + " " + one.ready() + " " + one.ready(0) + " " + one.told() + " " + one.told(0) + " " + one.number(0), "0 1 1 1 "
                 + (History.GIVES << 16 | 1 << 21) + " 7");
         is(one.events(), 2);
-        one.rest();
+        one.rest(null);
         long began = Native.ticks();
         Machine two = new Machine(flow.plan(), 8);
         two.attach(Words.attach(WHO, Form.APPLY, 1, 0, 0, 1), Machine.HERE, WHO);
@@ -45,11 +45,11 @@ final class MachineTest {
         is(kept[4] >= began && kept[6] >= kept[4] && kept[8] >= kept[6], true);
         is(kept[5] + " " + kept[7] + " " + kept[9], "1 3 4");
         is(Words.name(kept[0]) + " " + Words.name(kept[1]) + " " + Words.name(kept[2]), "attach complete claim");
-        two.rest();
+        two.rest(null);
         // One that goes on has the lanes of before.
         one.apply(Words.claim(WHO, 1), WHO);
         is(one.answer() + " " + one.claimed() + " " + one.first(0) + " " + one.told(), History.GRANTED + " 1 7 0");
-        one.rest();
+        one.rest(null);
         // The same by requests: the executor's functions stay its own.
         ExecutorService pool = Executors.newSingleThreadExecutor(run -> new Thread(run, "pool"));
         Service pooled = new Service(pool);
@@ -145,7 +145,7 @@ final class MachineTest {
         is(said.contains("main claims 1 handle and is granted, with a bad answer\n"), true);
         is(said.contains("main times out 2 source\n") && said.contains("2 source ends: timed out\n"), true);
         is(said.contains("main fails 2 source with a bad answer, too late\n"), true);
-        machine.rest();
+        machine.rest(null);
     }
 
     /** Numbers that are told beside an array or a place don't make the library read past them. */
@@ -174,7 +174,7 @@ final class MachineTest {
         }
         for (int stage : new int[] {-1, 1, 4096, Integer.MAX_VALUE}) {
             is(Machine.ask(core, stage) != Native.OK, true);
-            is(Machine.deadline(core, stage, 5, false, 0) != Native.OK, true);
+            is((Machine.deadline(core, 0, stage, 5, false, 0) & 0xff) != Native.OK, true);
             is((Machine.finish(core, 0, stage, false, 0, WHO) & 0xff) != Native.OK, true);
         }
         is((int) Machine.pass(core, 0, -1, Integer.MAX_VALUE) & 0xff, 0);
@@ -182,10 +182,9 @@ final class MachineTest {
         is((int) Machine.apply(core, 0, Words.complete(WHO, 0, 3), 0, WHO) & 0xff, 0);
         for (int n : new int[] {-1, 3, 100, Integer.MAX_VALUE}) {
             is(Machine.words(core, new long[0], 0, n) != Native.OK && Machine.words(core, new long[200], 0, n) != Native.OK, true);
-            is(Machine.moments(core, new long[2], n) != Native.OK, true);
         }
         is(Machine.words(core, new long[100], 0, 2), Native.OK);
-        is(Machine.words(core, new long[100], 2, 0) + Machine.moments(core, new long[100], 2), Native.OK);
+        is(Machine.words(core, new long[100], 2, 0) + Machine.words(core, new long[1], 1, 1), Native.OK);
         Machine.destroy(core);
     }
 }
