@@ -9,6 +9,7 @@ from .report import Report, actor_of
 from .runner import FAILED, Runner, failure_of
 
 DEPTH = 3  # a fault that so many moves in the right order make
+NEVER = -1e9  # a priority below all others
 SHORT = 20  # moves, which a row has at first by guess
 
 
@@ -40,12 +41,28 @@ class Chance:
         if not keys:
             return None
         for key in keys:
-            self._levels.setdefault(actor_of(key), self._random.random())
+            if _goes_wrong(key):  # about once in an order
+                self._levels.setdefault(key, 1.0 if self._random.random() * self._longest < 1 else NEVER)
+            else:
+                self._levels.setdefault(actor_of(key), self._random.random())
         best = self._best(keys)
         if place in self._changes:
-            self._levels[actor_of(best)] = -place - 1.0
+            self._levels[_who(best)] = -place - 1.0
             best = self._best(keys)
         return best
 
     def _best(self, keys: List[Move]) -> Move:
-        return max(keys, key=lambda key: self._levels[actor_of(key)])
+        """The one of the highest priority. Of the ways of one and the same, any."""
+        highest = max(self._levels[_who(key)] for key in keys)
+        best = [key for key in keys if self._levels[_who(key)] == highest]
+        return best[0] if len(best) == 1 else self._random.choice(best)
+
+
+def _who(key: Move) -> Move:
+    """Whose priority decides on a move."""
+    return key if _goes_wrong(key) else actor_of(key)
+
+
+def _goes_wrong(key: Move) -> bool:
+    """Whether it is a call of a store that isn't answered."""
+    return key[0] == "ask" and int(key[-1]) > 0

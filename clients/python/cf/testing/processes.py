@@ -3,7 +3,7 @@ import concurrent.futures
 import functools
 import random
 import threading
-from typing import TYPE_CHECKING, Any, Callable, Dict, List, NamedTuple, Optional, Set, TypeVar
+from typing import TYPE_CHECKING, Any, Callable, List, NamedTuple, Optional, Set, TypeVar
 
 from ..service.history import describe_all
 from ..service.words import ANSWER, CLAIM, name_of
@@ -263,6 +263,3 @@ class NoThread(threading.Thread):
 
 def _always() -> bool:
     return True
-
-
-Flights = Dict[Thing, Flight]

@@ -2,7 +2,7 @@
 
     job p n       thread n of process p begins: it works on a request, or does what a test says
     ask p n m k   what it asked of the store is answered in way k, or a function is called, and it goes on; it is the
-                  mth time
+                  mth time. What a test has a process call goes on in a move of its own once something was changed
     go p n        it goes on with what it waited for
     look p        the process looks what is new, and one of its threads begins with that
     due p r s n   the process finds that the limit of stage s of request r is over, which was the nth
@@ -15,6 +15,7 @@ A process looks only where that leads to something. Its look, and the first read
 them nothing of it could be seen. What has to be done in the store stands in footprints as the rows that are read and
 changed; all that one process does stands there as a change of that process, so no two of its moves are swapped unseen.
 """
+import contextlib
 import json
 from typing import TYPE_CHECKING, Any, Callable, Dict, List, Optional, Sequence, Tuple, TypeVar
 
@@ -160,18 +161,20 @@ class WorldStore:
         if chosen.costs:
             self.touch(FAULTS, CHANGES)
             self.bounds = self.bounds.less(chosen.costs)
-        if chosen.is_told:
-            return act()
-        if chosen.stands:
-            try:
-                act()
-            except Exception:  # which nobody is told
-                pass
-        if chosen.is_late and put is not None:
-            self._flying.append(put)
-        if chosen.is_silent:
-            process.host.clock += PATIENCE + 1
-        raise Unknown("no answer")
+        try:
+            if chosen.is_told:
+                return act()
+            if chosen.stands:
+                with contextlib.suppress(Exception):  # which nobody is told
+                    act()
+            if chosen.is_late and put is not None:
+                self._flying.append(put)
+            if chosen.is_silent:
+                process.host.clock += PATIENCE + 1
+            raise Unknown("no answer")
+        finally:
+            if flight.is_caller and chosen.stands and answers is not OF_READS:  # a test's own lines follow
+                self.run.wait_for("goes on", (), _always, None, OF_CALLS, lambda: (0,))
 
     def _possible(self, answers: Sequence[Answer], put: Optional[Put]) -> List[int]:
         if put is not None and put.request in self.rows.held:

@@ -102,7 +102,7 @@ def opened_twice(world, same_name=False):
 
     flow = Flow("order")
     flow.supply(charge)
-    _, shop = shop_and_workers(world, functions, 1, silent=1)
+    shop = world.store(silent=1).process("the shop", functions)
 
     def order():
         for attempt in (1, 2):

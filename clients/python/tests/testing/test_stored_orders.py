@@ -18,7 +18,7 @@ from cf.shared import Functions, Unknown  # noqa: E402
 from cf.testing import orders, touches  # noqa: E402
 
 SECONDS = 10  # within which each planted fault has to be found
-ENOUGH = {"seconds": 100, "most": 1_000}  # for a search that ends by itself
+ENOUGH = {"seconds": 100, "most": 500}  # for a search that ends by itself
 FAULTS = ["lost", "unanswered", "late", "silent", "killed", "slow"]
 
 
@@ -99,7 +99,7 @@ class Faults(unittest.TestCase):
     DONE, OPEN = "order: promise ends: 7", "order: promise is open"
 
     def test_none(self):
-        self.assertEqual(tried(completed).ends, {(True, self.DONE): 1})
+        self.assertEqual(set(tried(completed).ends), {(True, self.DONE)})
 
     def test_what_is_lost_or_unanswered_is_asked_again(self):
         for fault in ("lost", "unanswered", "late"):
@@ -140,6 +140,20 @@ class Faults(unittest.TestCase):
 
         report = orders(test, ends=lambda world: world.test.bounds.unanswered, **ENOUGH)
         self.assertEqual(set(report.ends), {0, 1, 2})
+
+    def test_others_move_before_an_answer_comes(self):
+        def test(world):
+            log, store = [], world.store()
+            stage = store.process("shop").request("order").promise()
+            store.processes[0].calls(lambda: log.append(f"told {stage.complete(1)}"))
+            world.calls(lambda: log.append(f"seen {store.is_settled('order', 'promise')}"))
+            world.log = log
+
+        options = {"ends": lambda world: tuple(world.log), **ENOUGH}
+        report = orders(test, **options)
+        self.assertEqual(set(report.ends),
+                         {("seen False", "told True"), ("seen True", "told True"), ("told True", "seen True")})
+        self.assertEqual(report.ends.keys(), orders(test, reduce=False, **options).ends.keys())
 
     def test_a_killed_process_does_nothing_more(self):
         def test(world):
@@ -346,7 +360,8 @@ def small(plan, workers=2, **faults):
 
         world.at_end(granted_once, "no claim is granted twice")
         world.at_end(stands_once, "a put stands once or never, and where its process was told")
-        world.at_end(lambda: one.is_dead and workers == 1 or not rows.views["order"].ready, "nothing is left to do")
+        world.at_end(lambda: one.is_dead and workers == 1 or rows.views["order"].is_done(lambda _: True),
+                     "all stages are settled")
     return test
 
 
@@ -362,11 +377,26 @@ class Properties(unittest.TestCase):
     """What `cf.shared` promises, over small plans, whatever goes wrong once."""
 
     def test_no_claim_is_granted_twice_and_no_put_stands_twice(self):
-        for name, plan in PLANS.items():
-            for fault in FAULTS:
-                with self.subTest(name, fault=fault):
-                    report = orders(small(plan, **{fault: 1}), **ENOUGH)
-                    self.assertEqual((report.whole, list(map(str, report.failed))), (True, []))
+        tried = [(name, fault) for name in ("one stage", "again", "transactional") for fault in FAULTS]
+        for name, fault in tried + [("two in a row", "killed"), ("two in a row", "unanswered")]:
+            with self.subTest(name, fault=fault):
+                report = orders(small(PLANS[name], **{fault: 1}), **ENOUGH)
+                self.assertEqual((report.whole, list(map(str, report.failed))), (True, []))
+
+
+class Chance(unittest.TestCase):
+    def test_each_way_of_an_arrival_is_tried(self):
+        def test(world):
+            stage = world.service.request().adopt(world.one_of(1, 2, 3))
+            world.at_end(lambda: seen.add(stage.result()) or True, "seen")
+
+        seen = set()
+        self.assertEqual((orders(test, chance=50).orders, seen), (50, {1, 2, 3}))
+
+    def test_what_goes_wrong_is_tried(self):
+        for service in (services.own_word_for_anothers, services.done_elsewhere, services.charged_again):
+            with self.subTest(service.__name__):
+                self.assertTrue(orders(service, chance=500, seed=3).failed)
 
 
 class Reduction(unittest.TestCase):
@@ -374,11 +404,25 @@ class Reduction(unittest.TestCase):
         tried = [(name, 1, fault) for name in PLANS for fault in FAULTS] + [("one stage", 2, "killed")]
         for name, workers, fault in tried:
             with self.subTest(name, workers=workers, fault=fault):
-                options = {"ends": lambda world: (*world.test.outcomes(), *world.test.granted), **ENOUGH}
+                options = {"ends": lambda world: (*world.test.outcomes(), *world.test.granted), "seconds": 100}
                 test = small(PLANS[name], workers, **{fault: 1})
                 reduced, plain = orders(test, **options), orders(test, reduce=False, **options)
                 self.assertEqual((reduced.whole, plain.whole), (True, True))
                 self.assertEqual(set(reduced.ends), set(plain.ends))
+
+    def test_functions_in_two_processes_are_tried_in_both_orders(self):
+        def test(world):
+            functions, log = Functions(), []
+            load = functions.function("load")(lambda number: log.append(number))
+            store = world.store()
+            one, two = store.process("one", functions), store.process("two", functions)
+            one.request("first").supply(load, 1)
+            two.request("second").supply(load, 2)
+            world.log = log
+
+        report = orders(test, ends=lambda world: tuple(world.log), **ENOUGH)
+        self.assertEqual((report.whole, set(report.ends)), (True, {(1, 2), (2, 1)}))
+        self.assertLess(report.orders + report.cut, 6)
 
 
 if __name__ == "__main__":
