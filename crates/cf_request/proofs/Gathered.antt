@@ -1,12 +1,22 @@
 -- Stages that gather others.
-use Rattle.std.proofs.Common.{◌≡◌, ℕ, zero, suc, ◌+◌, ◌-◌, ◌<◌, ◌≤◌, ◌∙◌, Bool, true, false, Some, None, List, [], ◌∷◌, ◌++◌, All, drop, get_or, length, length-append, length-drop, min, refl, ap, sym, arith, subst, append_assoc, append-nil, replicate}
+use Rattle.std.proofs.Common.{◌≡◌, ℕ, zero, suc, ◌+◌, ◌-◌, ◌<◌, ◌≤◌, ◌∙◌, ◌&&◌, Bool, cond, true, false, Option, Some, None, List, [], ◌∷◌, ◌++◌, All, drop, get_or, length, length-append, length-drop, map, min, refl, ap, sym, arith, subst, append_assoc, append-nil, replicate, take, take-append-drop}
 use Rattle.std.specs.Prelude.{is_some, option_and_then}
 use Rattle.std.proofs.Math.Nat.{max-eq_left, min-eq_right}
+use Rattle.std.specs.List.{list_all}
+use Rattle.std.specs.Option.{option_map}
 use Rattle.std.proofs.lemmas.List.{drop_more, get_or-drop}
+use Rattle.std.proofs.lemmas.List.Elements.{All-head, All-tail}
+use Rattle.std.proofs.lemmas.List.Folds.{list_all-append}
+use Rattle.cf_outcome.specs.declared.outcome.Outcome.{Outcome}
+use Rattle.cf_outcome.specs.declared.outcome.Outcome.TheVariants.{Value as Gives, Fault}
+use Rattle.cf_outcome.specs.Outcomes.{wrap}
+use Rattle.cf_forms.specs.declared.forms.Due.TheVariants.{Waits, Settles}
+use Rattle.cf_forms.specs.declared.forms.Form.TheVariants as forms
+use Rattle.cf_forms.specs.Forms.{due_of_first, first_fault, first_there}
 use Rattle.cf_forms.specs.declared.forms.Of.{Of}
 use Rattle.cf_forms.specs.declared.forms.Of.TheVariants.{None as NoSource, One, Two}
 use Rattle.cf_forms.specs.Plans.{PlannedStage, attached_stage, fits_form, sources_of}
-use Rattle.cf_forms.proofs.ListLemmas.{slice_get-front}
+use Rattle.cf_forms.proofs.ListLemmas.{slice_get-front, slice_get-seam}
 use Rattle.cf_model.specs.declared.events.Event.{Event}
 use Rattle.cf_model.specs.declared.events.Reply.{Reply}
 use Rattle.cf_model.specs.declared.events.Reply.TheVariants.{Attach as ToldAttach}
@@ -16,14 +26,14 @@ use Rattle.cf_model.specs.declared.stage.Stage.{Stage}
 use Rattle.cf_model.specs.declared.stage.Stage.TheVariants.{Pending}
 use Rattle.cf_model.specs.Events.{answered, attached_by}
 use Rattle.cf_model.specs.Ranges.{EventFits}
-use Rattle.cf_model.specs.States.{State, appended, flowed, new_states, next_of, outcome_in, outcome_of}
+use Rattle.cf_model.specs.States.{State, appended, due_state, flowed, new_states, next_of, outcome_in, outcome_of}
 use Rattle.cf_model.proofs.Closed.{reached_closed, reached_length}
 use Rattle.cf_event.specs.Decoding.{event_of}
 use Rattle.cf_event.specs.Words.{IsEvent, word_of}
 use Rattle.cf_ledger.specs.Ledgers.{HasRoomFor, IsShort, Ledger, LedgerRefuses, state_of}
 use Rattle.cf_ledger.specs.declared.faults.LedgerFault.{LedgerFault}
 use Rattle.cf_ledger.specs.declared.faults.LedgerFault.TheVariants.{NoMemory, NoEvent, NoStage, NoRoom}
-use Rattle.cf_request.specs.Gathering.{TellsAttach, TellsAttaches, attaches, first_two, form_of, gathers, joins, stages_for}
+use Rattle.cf_request.specs.Gathering.{GathersAsOne, GathersAtOnce, TellsAttach, TellsAttaches, attaches, first_two, form_of, gathered, gathers, joined, joins, stages_for}
 use Rattle.cf_request.specs.Ready.{with_lane}
 use Rattle.cf_request.specs.Telling.{Teller, Tells, with_memory}
 use Rattle.cf_request.specs.declared.gathering.Gathering.{Gathering}
@@ -335,3 +345,152 @@ calls_gather who how sources old found end words is enough room there none tells
     let rest = calls_row who how events m end (gathers_are who how n sources) (omega (arith, count, room, place)) (omega (arith, count, enough, waits)) (subst (λ (s : State). AreThere s old.follows) (sym same) there)
     (subst (λ (s : State). NoneBehind old.follows s.stages) (sym same) none) tells in
     (m, first, subst (λ (k : ℕ). AreCalls m (replicate k nothing) (record old { teller = end })) count rest)
+
+-- ---- as one stage
+
+wrap_twice : (o : Outcome) → wrap (wrap o) ≡ wrap o
+wrap_twice (Gives v) = refl
+wrap_twice (Fault cause wrapped) = refl
+
+and_end : (b : Bool) → (b && true) ≡ b
+and_end true = refl
+and_end false = refl
+
+all_by : (b : Bool) (o : Outcome) → outcome_of (due_state (cond b (Settles o) Waits)) ≡ cond b (Some o) None
+all_by true o = refl
+all_by false o = refl
+
+all_is : (q : List (Option Outcome)) → gathered AllOf q ≡ cond (list_all is_some q) (Some (first_fault q)) None
+all_is q = all_by (list_all is_some q) (first_fault q)
+
+fault_then : (front : List (Option Outcome)) (o : Outcome) → first_fault (Some (first_fault front) ∷ Some o ∷ []) ≡ first_fault (front ++ Some o ∷ [])
+fault_then [] o = refl
+fault_then (None ∷ front) o = fault_then front o
+fault_then (Some (Gives v) ∷ front) o = fault_then front o
+fault_then (Some (Fault cause wrapped) ∷ front) o = refl
+
+all_then : (front : List (Option Outcome)) (o : Option Outcome) (b : Bool) → gathered AllOf (cond b (Some (first_fault front)) None ∷ o ∷ []) ≡ cond (b && is_some o) (Some (first_fault (front ++ o ∷ []))) None
+all_then front None true = refl
+all_then front (Some x) true = ap Some (fault_then front x)
+all_then front o false = refl
+
+first_by : (x : Option Outcome) → outcome_of (due_state (due_of_first forms.AnyOf x)) ≡ option_map wrap x
+first_by None = refl
+first_by (Some o) = refl
+
+any_is : (q : List (Option Outcome)) → gathered AnyOf q ≡ option_map wrap (first_there q)
+any_is q = first_by (first_there q)
+
+first_stays : (front back : List (Option Outcome)) (x : Outcome) → first_there front ≡ Some x → first_there (front ++ back) ≡ Some x
+first_stays [] back x h = cc
+first_stays (None ∷ front) back x h = first_stays front back x h
+first_stays (Some y ∷ front) back x h = h
+
+first_comes : (front back : List (Option Outcome)) → first_there front ≡ None → first_there (front ++ back) ≡ first_there back
+first_comes [] back h = refl
+first_comes (None ∷ front) back h = first_comes front back h
+first_comes (Some y ∷ front) back h = cc
+
+any_then : (front : List (Option Outcome)) (o x : Option Outcome) → first_there front ≡ x → gathered AnyOf (option_map wrap x ∷ o ∷ []) ≡ option_map wrap (first_there (front ++ o ∷ []))
+any_then front o None h = any_is (None ∷ o ∷ []) ∙ ap (option_map wrap) (sym (first_comes front (o ∷ []) h))
+any_then front o (Some x) h = ap Some (wrap_twice x) ∙ ap (option_map wrap) (sym (first_stays front (o ∷ []) x h))
+
+-- one source more
+one_then : (how : Gathering) (front : List (Option Outcome)) (o : Option Outcome) → gathered how (gathered how front ∷ o ∷ []) ≡ gathered how (front ++ o ∷ [])
+one_then AllOf front o =
+    let q = front ++ o ∷ [] in
+    ap (λ (v : Option Outcome). gathered AllOf (v ∷ o ∷ [])) (all_is front) ∙ all_then front o (list_all is_some front)
+    ∙ ap (λ (b : Bool). cond b (Some (first_fault q)) None) (ap (λ (b : Bool). list_all is_some front && b) (sym (and_end (is_some o))) ∙ sym (list_all-append is_some front (o ∷ []))) ∙ sym (all_is q)
+one_then AnyOf front o = ap (λ (v : Option Outcome). gathered AnyOf (v ∷ o ∷ [])) (any_is front) ∙ any_then front o (first_there front) refl ∙ sym (any_is (front ++ o ∷ []))
+
+joined_all : (how : Gathering) (front q : List (Option Outcome)) → joined how (gathered how front) q ≡ gathered how (front ++ q)
+joined_all how front [] = ap (gathered how) (sym (append-nil front))
+joined_all how front (o ∷ q) = ap (λ (v : Option Outcome). joined how v q) (one_then how front o) ∙ joined_all how (front ++ o ∷ []) q ∙ ap (gathered how) (append_assoc front (o ∷ []) q)
+
+pub gathers_as_one : GathersAsOne
+gathers_as_one how q = joined_all how (take 2 q) (drop 2 q) ∙ ap (gathered how) (take-append-drop 2 q)
+
+-- ---- at once
+
+outcome_last : (xs : List Stage) (y : Stage) (n : ℕ) → length xs ≡ n → outcome_in (xs ++ y ∷ []) n ≡ outcome_of y
+outcome_last xs y n is = subst (λ (k : ℕ). outcome_in (xs ++ y ∷ []) k ≡ outcome_of y) is (ap (option_and_then outcome_of) (slice_get-seam xs y []))
+
+new_outcome : (who : ℕ) (how : Gathering) (of : Of) (old new : Teller) → 0 < (state_of old.ledger).plan.room → TellsAttach (attaches who how of) old new →
+    outcome_in (state_of new.ledger).stages (length (state_of old.ledger).plan.stages) ≡ gathered how (map (outcome_in (state_of old.ledger).stages) (sources_of of))
+new_outcome who how of old new room h =
+    let s = state_of old.ledger in
+    let y = next_of s.stages (form_of how) (sources_of of) Pending in
+    let n = length s.plan.stages in
+    ap (λ (xs : List Stage). outcome_in xs n) (stages_attached who how of old new room h) ∙ outcome_last s.stages y n (reached_length old.ledger.plan old.ledger.events)
+
+-- the sources have now what they had at first
+record SameFirst (first : List Stage) (count : ℕ) (t : Teller) : Type 0 where
+  few : count ≤ length (state_of t.ledger).plan.stages
+  same : (i : ℕ) → i < count → outcome_in (state_of t.ledger).stages i ≡ outcome_in first i
+
+first_attach : (who : ℕ) (how : Gathering) (of : Of) (first : List Stage) (count : ℕ) (old new : Teller) → 0 < (state_of old.ledger).plan.room → TellsAttach (attaches who how of) old new → SameFirst first count old → SameFirst first count new
+first_attach who how of first count old new room h f =
+    let more = (attaches_one who how of old new room h).count in
+    let few = f.few in
+    record {
+      few = omega (arith, more, few);
+      same = λ i l. outcome_stays who how of old new i room h (omega (arith, l, few)) ∙ f.same i l;
+    }
+
+join_has : (who : ℕ) (how : Gathering) (next before : ℕ) (sources : List ℕ) (first : List Stage) (count root : ℕ) (v : Option Outcome) (a end : Teller) → next ≡ length (state_of a.ledger).plan.stages → before + 1 ≡ next →
+    outcome_in (state_of a.ledger).stages before ≡ v → All (λ i. i < count) sources → SameFirst first count a → length sources ≤ (state_of a.ledger).plan.room → TellsAttaches (joins who how next before sources) a end →
+    root + 1 ≡ length (state_of end.ledger).plan.stages → outcome_in (state_of end.ledger).stages root ≡ joined how v (map (outcome_in first) sources)
+join_has who how next before [] first count root v a end at last has there f room same is =
+    let now = ap (λ (t : Teller). length (state_of t.ledger).plan.stages) same in
+    let here : root ≡ before = omega (arith, now, at, last, is) in
+    ap (λ (t : Teller). outcome_in (state_of t.ledger).stages root) same ∙ ap (outcome_in (state_of a.ledger).stages) here ∙ has
+join_has who how next before (x ∷ sources) first count root v a end at last has there f room (between, done, rest) is =
+    let some : 0 < (state_of a.ledger).plan.room = omega (arith, room) in
+    let of = Two before x in
+    let one = attaches_one who how of a between some done in
+    let more = one.count in
+    let left = one.room in
+    let source = f.same x (All-head (λ i. i < count) x sources there) in
+    let value = ap (outcome_in (state_of between.ledger).stages) at ∙ new_outcome who how of a between some done
+    ∙ ap (λ (o : Option Outcome). gathered how (o ∷ outcome_in (state_of a.ledger).stages x ∷ [])) has ∙ ap (λ (o : Option Outcome). gathered how (v ∷ o ∷ [])) source in
+    join_has who how (next + 1) next sources first count root (gathered how (v ∷ outcome_in first x ∷ [])) between end (omega (arith, at, more)) refl value (All-tail (λ i. i < count) x sources there)
+    (first_attach who how of first count a between some done f) (omega (arith, room, left)) rest is
+
+two_of : (f : ℕ → Option Outcome) (sources : List ℕ) → map f (sources_of (first_two sources)) ≡ take 2 (map f sources)
+two_of f [] = refl
+two_of f (a ∷ []) = refl
+two_of f (a ∷ b ∷ sources) = refl
+
+rest_of : (f : ℕ → Option Outcome) (sources : List ℕ) → map f (drop 2 sources) ≡ drop 2 (map f sources)
+rest_of f [] = refl
+rest_of f (a ∷ []) = refl
+rest_of f (a ∷ b ∷ sources) = refl
+
+pub gathers_at_once : GathersAtOnce
+gathers_at_once who how sources root old new may h =
+    let a = h.found in
+    let s = state_of a.ledger in
+    let n = length s.plan.stages in
+    let same : s ≡ state_in old = ap (λ (t : Teller). state_of t.ledger) h.finds.is in
+    let stages = ap (λ (t : State). t.stages) same in
+    let count = ap (λ (t : State). length t.plan.stages) same in
+    let place = ap (λ (t : State). t.plan.room) same in
+    let first = (state_in old).stages in
+    let f = outcome_in first in
+    let tells = h.tells in
+    let done = tells.1 in
+    let between = tells.0 in
+    let room = may.room in
+    let some : 0 < s.plan.room = omega (arith, room, place) in
+    let one = attaches_one who how (first_two sources) a between some done in
+    let more = one.count in
+    let left = one.room in
+    let size = length-drop 2 sources in
+    let there = rest_there sources 2 (length (state_in old).plan.stages) (length (state_in old).plan.stages) (omega arith) may.there in
+    let begin : SameFirst first (length (state_in old).plan.stages) a = record { few = omega (arith, count); same = λ i l. ap (λ (xs : List Stage). outcome_in xs i) stages } in
+    let value : outcome_in (state_of between.ledger).stages (length (state_in old).plan.stages) ≡ gathered how (take 2 (map f sources)) =
+    ap (outcome_in (state_of between.ledger).stages) (sym count) ∙ new_outcome who how (first_two sources) a between some done
+    ∙ ap (λ (xs : List Stage). gathered how (map (outcome_in xs) (sources_of (first_two sources)))) stages ∙ ap (gathered how) (two_of f sources) in
+    join_has who how (length (state_in old).plan.stages + 1) (length (state_in old).plan.stages) (drop 2 sources) first (length (state_in old).plan.stages) root (gathered how (take 2 (map f sources))) between new.teller
+    (omega (arith, more, count)) refl value there (first_attach who how (first_two sources) first (length (state_in old).plan.stages) a between some done begin) (omega (arith, room, place, left, size)) tells.2 h.is_root
+    ∙ ap (joined how (gathered how (take 2 (map f sources)))) (rest_of f sources) ∙ gathers_as_one how (map f sources)

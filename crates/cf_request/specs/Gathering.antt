@@ -1,14 +1,16 @@
 -- Stages that gather any number of others.
-use Rattle.std.specs.Prelude.{◌≡◌, ℕ, ◌+◌, ◌-◌, ◌<◌, ◌≤◌, None, Some, List, [], ◌∷◌, All, drop, length}
+use Rattle.std.specs.Prelude.{◌≡◌, ℕ, ◌+◌, ◌-◌, ◌<◌, ◌≤◌, Option, None, Some, List, [], ◌∷◌, All, drop, length, map, take}
+use Rattle.cf_outcome.specs.declared.outcome.Outcome.{Outcome}
 use Rattle.cf_forms.specs.declared.forms.Form.{Form}
 use Rattle.cf_forms.specs.declared.forms.Form.TheVariants as forms
+use Rattle.cf_forms.specs.Forms.{follows}
 use Rattle.cf_forms.specs.declared.forms.Of.{Of}
 use Rattle.cf_forms.specs.declared.forms.Of.TheVariants.{None as NoSource, One, Two}
 use Rattle.cf_model.specs.declared.events.Event.{Event}
 use Rattle.cf_model.specs.declared.events.Event.TheVariants.{Attach as Attaches}
 use Rattle.cf_model.specs.declared.events.Reply.TheVariants.{Attach as ToldAttach}
 use Rattle.cf_model.specs.declared.replies.Attached.TheVariants.{At}
-use Rattle.cf_model.specs.States.{State}
+use Rattle.cf_model.specs.States.{State, due_state, outcome_in, outcome_of}
 use Rattle.cf_event.specs.Decoding.{event_of}
 use Rattle.cf_event.specs.Words.{word_of}
 use Rattle.cf_ledger.specs.Ledgers.{state_of}
@@ -90,3 +92,25 @@ MayNotGather who sources s NoRoom = (who ≤ 63) × All (λ i. i < length s.plan
 abbrev pub IsNoGather : ℕ → List ℕ → Machine → LedgerFault → Type 0
 IsNoGather who sources m NoMemory = MayGather who sources (state_in m) × (free_in m < stages_for sources + length m.follows)
 IsNoGather who sources m fault = MayNotGather who sources (state_in m) fault
+
+-- ---- what the root has
+
+-- what a stage that gathers so has once its sources have these outcomes, or none
+abbrev pub gathered : Gathering → List (Option Outcome) → Option Outcome
+gathered how outcomes = outcome_of (due_state (follows (form_of how) outcomes))
+
+-- what the last of the stages has that join these, where the stage before them has this
+abbrev pub joined : Gathering → Option Outcome → List (Option Outcome) → Option Outcome
+joined how before [] = before
+joined how before (o ∷ outcomes) = joined how (gathered how (before ∷ o ∷ [])) outcomes
+
+-- The first stage has what its two sources give, and each behind it what the one before and one source more give. So the root has what all sources give.
+abbrev pub GathersAsOne : Type 0
+GathersAsOne =
+    (how : Gathering) (outcomes : List (Option Outcome)) → joined how (gathered how (take 2 outcomes)) (drop 2 outcomes) ≡ gathered how outcomes
+
+-- Where they are attached, the root has at once what one stage of this form with all these sources has.
+abbrev pub GathersAtOnce : Type 0
+GathersAtOnce =
+    (who : ℕ) (how : Gathering) (sources : List ℕ) (root : ℕ) (old new : Machine) → MayGather who sources (state_in old) → Gathers who how sources old root new →
+    outcome_in (state_in new).stages root ≡ gathered how (map (outcome_in (state_in old).stages) sources)

@@ -1,5 +1,6 @@
 //! Laws of machines: the contract of each function is the statement, and its body is empty. Each says what holds after
 //! any row of calls, by any callers, in any order.
+ghost use Rattle.cf_request.specs.Gathering.{GathersAsOne, GathersAtOnce};
 ghost use Rattle.cf_request.specs.Rows.{AddsBehind, BeginsAnew, ComesToAnEnd, RunsOnce, TellsOnce, WordsTellAll};
 
 /// All that was taken, one taking behind the other, and then what is told and not yet taken, are each settled stage
@@ -36,4 +37,15 @@ pub fn words_tell_all()
 /// room that it has by then. So a row begins anew, of which all laws hold.
 pub fn a_row_begins_anew()
     ensures { BeginsAnew }
+{}
+
+/// If each of the stages that gather sources has what its two sources give, the root has what one stage of the form over
+/// all of them would have.
+pub fn stages_gather_as_one()
+    ensures { GathersAsOne }
+{}
+
+/// Where stages are gathered, the root has at once what one stage of the form over all of them would have.
+pub fn roots_have_it_at_once()
+    ensures { GathersAtOnce }
 {}
