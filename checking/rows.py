@@ -95,8 +95,10 @@ def rows_of_requests(tools: Tools, made: Path) -> List[Row]:
     typed = [tools["mypy"], "--strict", "--allow-untyped-calls", "--follow-imports=silent", "--cache-dir", str(made / "mypy-requests")]
     return [
         Row("random hosts of the machine of a request", ["library", "python3"], [[tools["python3"], folder + "/hosts", "0", "500"]]),
+        Row("histories that the library tells", ["library", "python3", "cf_look"], [[tools["python3"], folder + "/told", "0", "300", tools["cf_look"]]]),
         Row("the types of the plain machine and its hosts", ["mypy", "python3"],
             [["env", "MYPYPATH=clients/python", *typed, "conformance/common/machine.py", *parts, folder + "/hosts"]]),
+        Row("the types of what compares histories", ["mypy", "python3"], [["env", "MYPYPATH=clients/python", *typed, folder + "/told"]]),
     ]
 
 

@@ -370,6 +370,54 @@ static uint32_t long_request(long numbers[3]) {
     return request_with(numbers, steps, count);
 }
 
+/* The words of a completion, a claim, a finish, and an attach for which there is no room. */
+static size_t words_in(uint64_t words[4]) {
+    const cf_event events[] = {
+        {.call = CF_CALL_COMPLETE, .who = 1, .stage = 0, .value = {CF_INT, 1}}, {.call = CF_CALL_CLAIM, .who = 2, .stage = 1},
+        {.call = CF_CALL_FINISH, .who = 2, .stage = 1, .answer = four()}, {.call = CF_CALL_ATTACH, .who = 1, .function = CF_NO_FUNCTION},
+    };
+    for (size_t k = 0; k < 4; k++)
+        cf_word_of(events[k], &words[k]);
+    return 4;
+}
+
+/* Says what has the number of a kind of text and when events were done, and tells the history as that kind, or only tells it: how long the
+ * text is. */
+static uint32_t tell_history(cf_handle *it, uint32_t kind, size_t *length, bool also_says) {
+    static const size_t ends[] = {5, 5, 11};
+    static const uint64_t times[] = {1, 2, 3, 4};
+    const size_t count = kind == CF_SAY_NAME ? 1 : 3;
+    uint32_t code = also_says ? cf_history_say(it, kind, (const uint8_t *)"pricetotals", 11, ends, count) : CF_OK;
+    if (code == CF_OK && also_says)
+        code = cf_history_times(it, times, 4);
+    return code == CF_OK ? cf_history_text(it, kind, NULL, 0, length) : code;
+}
+
+/* A history of which everything is said: how long its texts are together, and how long the first is once more. */
+static uint32_t history(long numbers[3]) {
+    cf_handle plan = {0}, it = {0};
+    uint64_t words[4];
+    size_t length = 0;
+    numbers[0] = numbers[2] = 0;
+    uint32_t code = make_plan(&plan, &numbers[2]);
+    if (code == CF_OK)
+        code = cf_history_new(&plan, 0, words, words_in(words), &it);
+    for (uint32_t kind = CF_LINES; kind <= CF_REPORT && code == CF_OK; kind++) {
+        code = tell_history(&it, kind, &length, true);
+        if (code == CF_NO_MEMORY) {
+            ++numbers[2];
+            code = tell_history(&it, kind, &length, true);
+        }
+        numbers[0] += (long)length;
+    }
+    if (code == CF_OK)
+        code = tell_history(&it, CF_LINES, &length, false);
+    numbers[1] = (long)length;
+    cf_free(&it);
+    cf_free(&plan);
+    return code;
+}
+
 /* The code of a script's run, and how long what it prints is. */
 static uint32_t script_of(const char *text, uint32_t wanted, long numbers[3]) {
     uint8_t report[100];
@@ -395,7 +443,7 @@ static const struct {
 } OPENINGS[] = {
     {"C builder", small_builder}, {"C builder with room", roomy_builder}, {"C plan", plan}, {"C graph", graph},
     {"C growing graph", growing_graph}, {"C desk", desk}, {"C growing desk", growing_desk}, {"C ledger", ledger},
-    {"C request", request}, {"C long request", long_request}, {"C script", script}, {"C wrong script", wrong_script},
+    {"C request", request}, {"C long request", long_request}, {"C history", history}, {"C script", script}, {"C wrong script", wrong_script},
 };
 
 static void show(const char *name, opening *open) {

@@ -49,6 +49,7 @@ static void plan_calls(cf_handle *h, uint32_t wanted) {
   ROW(cf_ledger_new(h, 0, &empty), wanted);
   ROW(cf_ledger_of(h, 0, NULL, 0, &empty, &out.n), wanted);
   ROW(cf_request_new(h, &lanes, lane_of, STAGES, &empty), wanted);
+  ROW(cf_history_new(h, 0, NULL, 0, &empty), wanted);
   ROW(cf_desk_open(h, callers, CALLERS, LOG, CALLS), wanted);
   ROW(cf_desk_open_with(h, callers, CALLERS, &sizes), wanted);
   HOLDS(!empty.full && !callers[0].full && !callers[1].full);
@@ -119,6 +120,12 @@ static void request_calls(cf_handle *h, uint32_t wanted) {
   ROW(cf_request_do(h, &out.call, 1, &out.done, out.told, 2), wanted);
 }
 
+static void history_calls(cf_handle *h, uint32_t wanted) {
+  ROW(cf_history_times(h, NULL, 0), wanted);
+  ROW(cf_history_say(h, CF_SAY_NAME, NULL, 0, NULL, 0), wanted);
+  ROW(cf_history_text(h, CF_LINES, out.text, TEXT, &out.n), wanted);
+}
+
 static void caller_calls(cf_handle *h, uint32_t wanted) {
   cf_handle empty = {0};
   ROW(cf_desk_complete(h, SOURCE, value, &out.reply), wanted);
@@ -159,10 +166,10 @@ static void closed_calls(cf_handle *h, uint32_t wanted) {
 
 /* ---- One handle of each kind ---- */
 
-enum kind { BUILDER, PLAN, GRAPH, SWEEP, LEDGER, REQUEST, CALLER, CLOSING, CLOSED, KINDS };
+enum kind { BUILDER, PLAN, GRAPH, SWEEP, LEDGER, REQUEST, HISTORY, CALLER, CLOSING, CLOSED, KINDS };
 static void (*const calls_of[KINDS])(cf_handle *h, uint32_t wanted) = {builder_calls, plan_calls, graph_calls, sweep_calls,
-                                                                       ledger_calls, request_calls, caller_calls, closing_calls,
-                                                                       closed_calls};
+                                                                       ledger_calls, request_calls, history_calls, caller_calls,
+                                                                       closing_calls, closed_calls};
 static cf_handle held[KINDS], other_caller;
 
 static void build(cf_handle *builder) {
@@ -182,6 +189,7 @@ static void make_all(void) {
   ROW(cf_ledger_new(&held[PLAN], 1, &held[LEDGER]), CF_OK);
   ROW(cf_request_new(&held[PLAN], &lanes, lane_of, STAGES, &held[REQUEST]), CF_OK);
   request = &held[REQUEST];
+  ROW(cf_history_new(&held[PLAN], 1, NULL, 0, &held[HISTORY]), CF_OK);
   ROW(cf_desk_open_with(&held[PLAN], callers, CALLERS, &sizes), CF_OK);
   held[CALLER] = callers[0], other_caller = callers[1];
   memset(callers, 0, sizeof callers);
@@ -324,6 +332,13 @@ static void by_pointers(void) {
   ROW(cf_request_do(asked, NULL, 1, &out.done, out.told, 2), CF_NULL);
   ROW(cf_request_do(asked, &out.call, 1, NULL, out.told, 2), CF_NULL);
   ROW(cf_request_do(asked, &out.call, 1, &out.done, NULL, 2), CF_NULL);
+  ROW(cf_history_new(plan, 0, NULL, 1, &empty), CF_NULL);
+  ROW(cf_history_new(plan, 0, NULL, 0, NULL), CF_NULL);
+  ROW(cf_history_times(&held[HISTORY], NULL, 1), CF_NULL);
+  ROW(cf_history_say(&held[HISTORY], CF_SAY_NAME, NULL, 1, NULL, 0), CF_NULL);
+  ROW(cf_history_say(&held[HISTORY], CF_SAY_NAME, NULL, 0, NULL, 1), CF_NULL);
+  ROW(cf_history_text(&held[HISTORY], CF_LINES, NULL, 1, &out.n), CF_NULL);
+  ROW(cf_history_text(&held[HISTORY], CF_LINES, out.text, TEXT, NULL), CF_NULL);
   ROW(cf_desk_complete(caller, SOURCE, value, NULL), CF_NULL);
   ROW(cf_desk_fail(caller, SOURCE, 1, NULL), CF_NULL);
   ROW(cf_desk_fail_as(caller, SOURCE, CF_TIMED_OUT, NULL), CF_NULL);

@@ -25,6 +25,7 @@ LATER: Dict[str, str] = {
                      "cf_request_next_deadline", "cf_request_refuse", "cf_request_told", "cf_request_ready"], "1.5"),
     **dict.fromkeys(["cf_request_cancel_all", "cf_request_restart", "cf_request_do"], "1.6"),
     "cf_request_grow": "1.7",
+    **dict.fromkeys(["cf_history_new", "cf_history_times", "cf_history_say", "cf_history_text"], "1.7"),
 }
 TEXT = """#include "cf.h"
 #include <string.h>
