@@ -1,8 +1,11 @@
 """What crates.txt says: which crates there are, and what each stands on."""
+import os
+import shutil
 from pathlib import Path
 from typing import Dict, List
 
 TOP = Path(__file__).resolve().parents[1]
+KIT = Path(os.path.realpath(shutil.which("rt") or "rt")).parent.parent
 
 
 def listed() -> Dict[str, List[str]]:
@@ -21,3 +24,21 @@ def below(name: str, crates: Dict[str, List[str]]) -> List[str]:
     """The crates that this one stands on, lowest first, and then itself."""
     order = [it for dep in crates[name] for it in below(dep, crates)] + [name]
     return list(dict.fromkeys(order))
+
+
+def rattle() -> str:
+    """The prover, which rt calls."""
+    return str(KIT / "bin/rattle")
+
+
+def words_over(name: str) -> List[str]:
+    """The words by which the prover reads a library, in its folder or a copy of it, over the libraries that rt ci has just left in this
+    checkout. rt ci leaves these as statements alone, without the sums by which rt would know them, so rt would prove each of them once more."""
+    crates = listed()
+    words = ["--crate-name", name, "src/lib.rt", "-L", f"dependency={KIT}/rlibs"]
+    for it in ["std", *crates[name]]:  # (std is under each)
+        made = TOP / f"crates/{it}/out/rlib" if it in crates else KIT / "rlibs"
+        words += ["--extern", f"{it}={made}/{it}.rlib"]
+    for it in below(name, own())[:-1]:
+        words += ["-L", f"dependency={TOP}/crates/{it}/out/rlib"]
+    return [*words, "--antt-project", f"{KIT}/rattle/logic/antt-project.json", "--logic-built", f"{KIT}/logic_built"]

@@ -95,8 +95,10 @@ def rows_of_requests(tools: Tools, made: Path) -> List[Row]:
     typed = [tools["mypy"], "--strict", "--allow-untyped-calls", "--follow-imports=silent", "--cache-dir", str(made / "mypy-requests")]
     return [
         Row("random hosts of the machine of a request", ["library", "python3"], [[tools["python3"], folder + "/hosts", "0", "500"]]),
+        Row("histories that the library tells", ["library", "python3", "cf_look"], [[tools["python3"], folder + "/told", "0", "300", tools["cf_look"]]]),
         Row("the types of the plain machine and its hosts", ["mypy", "python3"],
             [["env", "MYPYPATH=clients/python", *typed, "conformance/common/machine.py", *parts, folder + "/hosts"]]),
+        Row("the types of what compares histories", ["mypy", "python3"], [["env", "MYPYPATH=clients/python", *typed, folder + "/told"]]),
     ]
 
 
@@ -133,12 +135,22 @@ def rows_of_java(tools: Tools, made: Path) -> List[Row]:
     ]
 
 
-def rows(tools: Tools, made: Path) -> List[Row]:
+def edited() -> List[str]:
+    """The crates whose wrong bodies are tried together."""
+    return sorted(path.name for path in (TOP / "sweeps/must-fail").iterdir())
+
+
+def rows_of_edits() -> List[Row]:
+    return [Row(f"wrong bodies of {name}", ["rt", f"proofs below {name}"], [["sweeps/together", name]]) for name in edited()]
+
+
+def rows(tools: Tools, made: Path, is_gate: bool) -> List[Row]:
     header, clang, browser = HEADER + "/cf.h", tools["clang"], "Chromium with its driver, selenium for Python"
     compiling = [clang, "-std=c11", "-O1", *WARNED, "-I" + HEADER]
     ample, asked, meets, overlapping = ([*compiling, name + ".c", str(made / "libcf.a"), "-pthread", "-o", str(made / Path(name).name)]
                                         for name in ["sweeps/ample", "sweeps/bytes", "sweeps/meets", "conformance/desks/overlaps"])
     return [
+        *(rows_of_edits() if is_gate else []),
         Row("the edits that the gate leaves out, read", ["rt"], [["sweeps/edits", "--read"]]),
         Row("the edits that spoil the clients, read", ["python3"], [["sweeps/spoilt", "--read"]]),
         Row("what a program can check of the pages", ["python3"], [["sweeps/pages"]]),

@@ -5,7 +5,7 @@ import threading
 from pathlib import Path
 from typing import Callable, Dict, List, Optional, Sequence, Set, Tuple
 
-from checking.crates import TOP
+from checking.crates import TOP, below, own
 from checking.rows import Row, blocks
 from checking.tools import Tools
 
@@ -89,6 +89,10 @@ class Proved:
         with self.changed:
             self.changed.wait_for(lambda: self.is_over or self.names.issuperset(names))
             return self.names.issuperset(names)
+
+    def all_below(self, name: str) -> Optional[str]:
+        """Waits until all that a crate stands on is proved, or the gate has ended. Answers the crate if it is proved."""
+        return name if self.wait(below(name, own())[:-1]) else None
 
     def program(self, path: str) -> Optional[str]:
         """Waits until a program is proved and built, or the gate has ended, and answers its path if it is there."""

@@ -203,6 +203,47 @@ static void ledgers(void) {
   cf_free(&plan);
 }
 
+/* Attaches stages until there is no room, and tells how many there are. */
+static uint32_t filled(cf_handle *request, uint64_t attached) {
+  cf_applied applied;
+  uint16_t stages = 0;
+  while (cf_request_apply(request, attached, 0, &applied, NULL, 0) == CF_OK) continue;
+  wants(cf_request_apply(request, attached, 0, &applied, NULL, 0), CF_NO_ROOM, "request_apply", 0, 0);
+  wants(cf_ledger_stages(request, &stages), CF_OK, "ledger_stages", 0, 0);
+  return stages;
+}
+
+/* A request of a plan of so many stages and edges, with so much room: it grows until it is full, each time as it should. */
+static void request(uint32_t stages, uint32_t edges, uint32_t room) {
+  static const uint8_t lanes[STAGES];
+  const uint32_t most = STAGES < stages + (EDGES - edges) / 2 ? STAGES : stages + (EDGES - edges) / 2;
+  const cf_request_sizes sizes = {.room = (uint16_t)room, .lanes = 1};
+  cf_handle plan = {0}, it = {0};
+  cf_event attach = {.call = CF_CALL_ATTACH, .form = CF_SOURCE, .function = CF_NO_FUNCTION};
+  uint64_t attached;
+  uint32_t there = stages + room;
+  wants(cf_word_of_event(&attach, &attached), CF_OK, "word_of_event", 0, 0);
+  plan_of(&plan, stages, edges, 0, 0);
+  wants(cf_build(&plan), CF_OK, "build", stages, edges);
+  wants(cf_request_new(&plan, &sizes, lanes, stages, &it), CF_OK, "request_new", stages, room);
+  wants(filled(&it, attached), there, "the stages of a request", stages, room);
+  while (there < most && wants(cf_request_grow(&it), CF_OK, "request_grow", there, edges) == CF_OK) {
+    const uint32_t more = there < 16 ? 16 : there;
+    there = there + more < most ? there + more : most;
+    wants(filled(&it, attached), there, "the stages of a request that grew", stages, room);
+  }
+  wants(cf_request_grow(&it), CF_ROOM, "request_grow", there, edges);
+  cf_free(&it);
+  cf_free(&plan);
+}
+
+/* Requests of each room, and of each number of edges. */
+static void requests(void) {
+  for (size_t i = 0; i < COUNT && SIZES[i] < STAGES; i += is_short ? 4 : 1) request(1, 0, SIZES[i]);
+  for (size_t i = 0; i < COUNT && SIZES[i] <= EDGES; i += is_short ? 6 : 1) request(65, SIZES[i], 0);
+  for (uint32_t left = 0; left <= 4; ++left) request(65, EDGES - left, 0);
+}
+
 static uint8_t text[TEXT + 2], report[TEXT];
 
 static void run(size_t n, size_t room, uint32_t wanted, uint32_t number) {
@@ -237,6 +278,7 @@ int main(int n, char **words) {
   graphs();
   desks();
   ledgers();
+  requests();
   scripts();
   printf("%ld of %ld calls answered otherwise\n", wrong, made);
   return wrong != 0;

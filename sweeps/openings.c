@@ -267,7 +267,7 @@ static uint64_t asked_of(cf_handle *request) {
 }
 
 /* A call of a request: what it is, and the stages, the moment or the lane that it names. */
-typedef enum { ATTACH, FOLLOW, DEADLINE, COMPLETE, NEXT, PASS, REFUSE, CANCEL, DO } request_call;
+typedef enum { ATTACH, FOLLOW, DEADLINE, COMPLETE, NEXT, PASS, REFUSE, CANCEL, GROW, DO } request_call;
 typedef struct { request_call call; uint16_t first, second; } request_step;
 
 /* Attaches a source, or completes a stage. */
@@ -293,6 +293,7 @@ static uint32_t call_request(cf_handle *request, const request_step *step, cf_ta
     case PASS: return cf_request_pass(request, step->first, told, 2, n);
     case REFUSE: return cf_request_refuse(request, (uint8_t)step->first, 7, told, 2, n);
     case CANCEL: return cf_request_cancel_all(request, (uint8_t)step->first, told, 2, n);
+    case GROW: return cf_request_grow(request);
     case DO: /* one call, which is done or not */
         code = cf_request_do(request, &(cf_request_call){.call = CF_DO_FOLLOW, .relay = step->first, .stage = step->second}, 1, &done, told, 2);
         *n = code == CF_OK ? done.told : *n;
@@ -346,7 +347,7 @@ static uint32_t request_with(long numbers[3], const request_step *steps, size_t 
 static uint32_t request(long numbers[3]) {
     static const request_step steps[] = {
         {ATTACH, 0, 1}, {ATTACH, 0, 0}, {ATTACH, 0, 1}, {FOLLOW, 3, 0}, {FOLLOW, 4, 1}, {DEADLINE, 5, 20}, {DEADLINE, 2, 30},
-        {COMPLETE, 0, 0}, {NEXT, 0, 0}, {NEXT, 0, 0}, {FOLLOW, 5, 4}, {PASS, 10, 0}, {NEXT, 1, 0}, {ATTACH, 0, 1}, {REFUSE, 1, 0},
+        {COMPLETE, 0, 0}, {NEXT, 0, 0}, {NEXT, 0, 0}, {FOLLOW, 5, 4}, {PASS, 10, 0}, {NEXT, 1, 0}, {GROW, 0, 0}, {ATTACH, 0, 1}, {REFUSE, 1, 0},
         {DEADLINE, 6, 12}, {PASS, 30, 0}, {PASS, 30, 0}, {ATTACH, 0, 1}, {DO, 7, 0}, {ATTACH, 0, 1}, {CANCEL, 1, 0},
     };
     return request_with(numbers, steps, sizeof steps / sizeof *steps);
@@ -367,6 +368,54 @@ static uint32_t long_request(long numbers[3]) {
     steps[count++] = (request_step){PASS, 60, 0};
     steps[count++] = (request_step){PASS, 200, 0};
     return request_with(numbers, steps, count);
+}
+
+/* The words of a completion, a claim, a finish, and an attach for which there is no room. */
+static size_t words_in(uint64_t words[4]) {
+    const cf_event events[] = {
+        {.call = CF_CALL_COMPLETE, .who = 1, .stage = 0, .value = {CF_INT, 1}}, {.call = CF_CALL_CLAIM, .who = 2, .stage = 1},
+        {.call = CF_CALL_FINISH, .who = 2, .stage = 1, .answer = four()}, {.call = CF_CALL_ATTACH, .who = 1, .function = CF_NO_FUNCTION},
+    };
+    for (size_t k = 0; k < 4; k++)
+        cf_word_of(events[k], &words[k]);
+    return 4;
+}
+
+/* Says what has the number of a kind of text and when events were done, and tells the history as that kind, or only tells it: how long the
+ * text is. */
+static uint32_t tell_history(cf_handle *it, uint32_t kind, size_t *length, bool also_says) {
+    static const size_t ends[] = {5, 5, 11};
+    static const uint64_t times[] = {1, 2, 3, 4};
+    const size_t count = kind == CF_SAY_NAME ? 1 : 3;
+    uint32_t code = also_says ? cf_history_say(it, kind, (const uint8_t *)"pricetotals", 11, ends, count) : CF_OK;
+    if (code == CF_OK && also_says)
+        code = cf_history_times(it, times, 4);
+    return code == CF_OK ? cf_history_text(it, kind, NULL, 0, length) : code;
+}
+
+/* A history of which everything is said: how long its texts are together, and how long the first is once more. */
+static uint32_t history(long numbers[3]) {
+    cf_handle plan = {0}, it = {0};
+    uint64_t words[4];
+    size_t length = 0;
+    numbers[0] = numbers[2] = 0;
+    uint32_t code = make_plan(&plan, &numbers[2]);
+    if (code == CF_OK)
+        code = cf_history_new(&plan, 0, words, words_in(words), &it);
+    for (uint32_t kind = CF_LINES; kind <= CF_REPORT && code == CF_OK; kind++) {
+        code = tell_history(&it, kind, &length, true);
+        if (code == CF_NO_MEMORY) {
+            ++numbers[2];
+            code = tell_history(&it, kind, &length, true);
+        }
+        numbers[0] += (long)length;
+    }
+    if (code == CF_OK)
+        code = tell_history(&it, CF_LINES, &length, false);
+    numbers[1] = (long)length;
+    cf_free(&it);
+    cf_free(&plan);
+    return code;
 }
 
 /* The code of a script's run, and how long what it prints is. */
@@ -394,7 +443,7 @@ static const struct {
 } OPENINGS[] = {
     {"C builder", small_builder}, {"C builder with room", roomy_builder}, {"C plan", plan}, {"C graph", graph},
     {"C growing graph", growing_graph}, {"C desk", desk}, {"C growing desk", growing_desk}, {"C ledger", ledger},
-    {"C request", request}, {"C long request", long_request}, {"C script", script}, {"C wrong script", wrong_script},
+    {"C request", request}, {"C long request", long_request}, {"C history", history}, {"C script", script}, {"C wrong script", wrong_script},
 };
 
 static void show(const char *name, opening *open) {
@@ -502,9 +551,43 @@ static void show_desk_calls(void) {
     free_desk(&plan, callers);
 }
 
+/* What a caller and another are refused once there is no place for a record, or for a word. To refuse takes no memory, nor do looks then. */
+static void call_full(cf_handle callers[2]) {
+    cf_handle *a = &callers[0], *b = &callers[1];
+    cf_reply reply = {0};
+    cf_outcome outcome = {0};
+    uint16_t left = 0;
+    tell(cf_desk_complete(a, 0, (cf_value){CF_INT, 3}, &reply), &reply);
+    tell(cf_desk_cancel(a, 0, &reply), &reply);
+    tell(cf_desk_tick(b, 5, &reply), &reply); /* the log is full */
+    uint32_t read = cf_desk_read(b, 0, &outcome), first = cf_desk_left(b, &left);
+    say("  read %u %d, left %u %u\n", read, outcome.value.number, first, left);
+    uint32_t again = cf_desk_read(b, 0, &outcome), third = cf_desk_read(b, 0, &outcome), full = cf_desk_read(b, 0, &outcome);
+    say("  read %u, %u, and with no place for a record %u\n", again, third, full);
+    tell(cf_desk_claim(b, 1, &reply), &reply); /* so is what b may hold */
+}
+
+static void show_full(void) {
+    cf_handle plan = {0}, callers[2] = {{0}, {0}};
+    long again = 0;
+    uint32_t code = make_plan(&plan, &again);
+    if (code == CF_OK)
+        code = cf_desk_open(&plan, callers, 2, 2, 3);
+    if (code == CF_OK && again == 0) {
+        say("C full desk:\n");
+        call_full(callers);
+    } else {
+        say("C full desk: no memory\n");
+    }
+    cf_free(&callers[0]);
+    cf_free(&callers[1]);
+    cf_free(&plan);
+}
+
 int main(void) {
     show_calls();
     show_desk_calls();
+    show_full();
     for (size_t k = 0; k < sizeof OPENINGS / sizeof *OPENINGS; k++)
         show(OPENINGS[k].name, OPENINGS[k].open);
     return 0;

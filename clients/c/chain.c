@@ -1,5 +1,5 @@
-/* A chain of stages that one thread makes while it runs them: one call a stage, by cf_request_do. Then the same request starts again. In
- * the end it is cancelled. */
+/* A chain of stages that one thread makes while it runs them: one call a stage, by cf_request_do. Then the same request starts again. At
+ * last it is filled, grows, is filled again, and is cancelled. */
 #include "cf.h"
 #include <stdio.h>
 #include <stdlib.h>
@@ -38,6 +38,17 @@ static void run(cf_handle *request, int32_t number) {
   printf("%d calls for %d stages; stage %u gives %d\n", LENGTH + 1, LENGTH, (unsigned)told[0].stage, told[0].outcome.value.number);
 }
 
+/* Attaches stages behind the source until there is no room. */
+static void fill(cf_handle *request) {
+  cf_applied applied;
+  uint16_t stages;
+  uint32_t code;
+  do code = cf_request_apply(request, attach(0), LANE, &applied, NULL, 0);
+  while (code == CF_OK);
+  DO(cf_ledger_stages(request, &stages));
+  printf("%u stages: %s\n", (unsigned)stages, cf_code_name(code));
+}
+
 int main(void) {
   const cf_request_sizes sizes = {.room = LENGTH, .lanes = 1, .own = OWN};
   cf_handle plan = {0}, request = {0};
@@ -59,6 +70,9 @@ int main(void) {
 
   const uint32_t code = cf_request_do(&request, wrong, 2, &done, told, ROOM);
   printf("%zu of 2 calls: %s\n", done.calls, cf_code_name(code));
+  fill(&request);
+  DO(cf_request_grow(&request));
+  fill(&request);
   DO(cf_request_cancel_all(&request, ME, told, ROOM, &n));
   printf("cancelled: %zu\n", n);
   cf_free(&request);

@@ -49,6 +49,7 @@ static void plan_calls(cf_handle *h, uint32_t wanted) {
   ROW(cf_ledger_new(h, 0, &empty), wanted);
   ROW(cf_ledger_of(h, 0, NULL, 0, &empty, &out.n), wanted);
   ROW(cf_request_new(h, &lanes, lane_of, STAGES, &empty), wanted);
+  ROW(cf_history_new(h, 0, NULL, 0, &empty), wanted);
   ROW(cf_desk_open(h, callers, CALLERS, LOG, CALLS), wanted);
   ROW(cf_desk_open_with(h, callers, CALLERS, &sizes), wanted);
   HOLDS(!empty.full && !callers[0].full && !callers[1].full);
@@ -114,8 +115,15 @@ static void request_calls(cf_handle *h, uint32_t wanted) {
   ROW(cf_request_told(h, out.told, 2, &out.n), wanted);
   ROW(cf_request_ready(h, 0, &out.number), wanted);
   ROW(cf_request_cancel_all(h, 0, out.told, 2, &out.n), wanted);
+  ROW(cf_request_grow(h), wanted);
   ROW(cf_request_restart(h), wanted);
   ROW(cf_request_do(h, &out.call, 1, &out.done, out.told, 2), wanted);
+}
+
+static void history_calls(cf_handle *h, uint32_t wanted) {
+  ROW(cf_history_times(h, NULL, 0), wanted);
+  ROW(cf_history_say(h, CF_SAY_NAME, NULL, 0, NULL, 0), wanted);
+  ROW(cf_history_text(h, CF_LINES, out.text, TEXT, &out.n), wanted);
 }
 
 static void caller_calls(cf_handle *h, uint32_t wanted) {
@@ -158,10 +166,10 @@ static void closed_calls(cf_handle *h, uint32_t wanted) {
 
 /* ---- One handle of each kind ---- */
 
-enum kind { BUILDER, PLAN, GRAPH, SWEEP, LEDGER, REQUEST, CALLER, CLOSING, CLOSED, KINDS };
+enum kind { BUILDER, PLAN, GRAPH, SWEEP, LEDGER, REQUEST, HISTORY, CALLER, CLOSING, CLOSED, KINDS };
 static void (*const calls_of[KINDS])(cf_handle *h, uint32_t wanted) = {builder_calls, plan_calls, graph_calls, sweep_calls,
-                                                                       ledger_calls, request_calls, caller_calls, closing_calls,
-                                                                       closed_calls};
+                                                                       ledger_calls, request_calls, history_calls, caller_calls,
+                                                                       closing_calls, closed_calls};
 static cf_handle held[KINDS], other_caller;
 
 static void build(cf_handle *builder) {
@@ -181,6 +189,7 @@ static void make_all(void) {
   ROW(cf_ledger_new(&held[PLAN], 1, &held[LEDGER]), CF_OK);
   ROW(cf_request_new(&held[PLAN], &lanes, lane_of, STAGES, &held[REQUEST]), CF_OK);
   request = &held[REQUEST];
+  ROW(cf_history_new(&held[PLAN], 1, NULL, 0, &held[HISTORY]), CF_OK);
   ROW(cf_desk_open_with(&held[PLAN], callers, CALLERS, &sizes), CF_OK);
   held[CALLER] = callers[0], other_caller = callers[1];
   memset(callers, 0, sizeof callers);
@@ -323,6 +332,13 @@ static void by_pointers(void) {
   ROW(cf_request_do(asked, NULL, 1, &out.done, out.told, 2), CF_NULL);
   ROW(cf_request_do(asked, &out.call, 1, NULL, out.told, 2), CF_NULL);
   ROW(cf_request_do(asked, &out.call, 1, &out.done, NULL, 2), CF_NULL);
+  ROW(cf_history_new(plan, 0, NULL, 1, &empty), CF_NULL);
+  ROW(cf_history_new(plan, 0, NULL, 0, NULL), CF_NULL);
+  ROW(cf_history_times(&held[HISTORY], NULL, 1), CF_NULL);
+  ROW(cf_history_say(&held[HISTORY], CF_SAY_NAME, NULL, 1, NULL, 0), CF_NULL);
+  ROW(cf_history_say(&held[HISTORY], CF_SAY_NAME, NULL, 0, NULL, 1), CF_NULL);
+  ROW(cf_history_text(&held[HISTORY], CF_LINES, NULL, 1, &out.n), CF_NULL);
+  ROW(cf_history_text(&held[HISTORY], CF_LINES, out.text, TEXT, NULL), CF_NULL);
   ROW(cf_desk_complete(caller, SOURCE, value, NULL), CF_NULL);
   ROW(cf_desk_fail(caller, SOURCE, 1, NULL), CF_NULL);
   ROW(cf_desk_fail_as(caller, SOURCE, CF_TIMED_OUT, NULL), CF_NULL);
@@ -423,7 +439,7 @@ static void by_numbers(uint16_t stage) {
 static void by_other_numbers(void) {
   cf_handle *builder = &held[BUILDER], *plan = &held[PLAN], *graph = &held[GRAPH], *ledger = &held[LEDGER], *caller = &held[CALLER];
   const uint16_t three[3] = {SOURCE, SOURCE, SOURCE};
-  cf_handle empty = {0}, many[65] = {{0}};
+  cf_handle empty = {0}, full = {0}, many[65] = {{0}};
   cf_event event = {.call = 8};
   cf_task task = {.held = 1, .stage = TWICE};
   cf_step step = {.who = 64};
@@ -483,6 +499,9 @@ static void by_other_numbers(void) {
   ROW(cf_request_refuse(asked, 2, 1, out.told, 2, &out.n), CF_NO_LANE);
   ROW(cf_request_ready(asked, 2, &out.number), CF_NO_LANE);
   ROW(cf_request_cancel_all(asked, 64, out.told, 2, &out.n), CF_NO_WORD);
+  HOLDS(cf_request_new(plan, &(cf_request_sizes){.room = 4096 - STAGES, .lanes = 2}, lane_of, STAGES, &full) == CF_OK);
+  ROW(cf_request_grow(&full), CF_ROOM);
+  cf_free(&full);
   ROW(cf_request_do(asked, calls, 2, &done, out.told, 2), CF_NO_SUCH_NUMBER);
   HOLDS(done.calls == 1 && done.told == 0);
   ROW(cf_apply(graph, UINT64_MAX, &out.reply), CF_NO_WORD);

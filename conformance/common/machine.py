@@ -14,6 +14,7 @@ Answer = Tuple[Any, ...]
 Reply = Tuple[Any, ...]
 Stage = Tuple[Tuple[Any, ...], Optional[int]]
 MOST_CALLERS, MOST_LANES, MOST_STAGES, MOST_EDGES = 64, 16, 4096, 16384
+LEAST_GROWTH = 16
 
 
 class Refused(Exception):
@@ -78,8 +79,7 @@ class Machine:
 
     def __init__(self, plan: Any, room: int, lanes: Sequence[int], count: int, own: int) -> None:
         self.plan, self.room, self.planned, self.count, self.own = plan, room, list(lanes), count, own
-        edges = sum(len(stage.sources) for stage in plan.stages)
-        if len(plan.stages) + room > MOST_STAGES or edges + 2 * room > MOST_EDGES:
+        if self.room_left() < 0:
             raise Refused("ROOM")
         if not 1 <= count <= MOST_LANES or len(lanes) != len(plan.stages):
             raise Refused("LANES")
@@ -100,6 +100,11 @@ class Machine:
 
     def close(self) -> None:
         """It has nothing to free."""
+
+    def room_left(self) -> int:
+        """How much more room the bounds let in, where each stage that is attached may have two sources."""
+        edges = sum(len(stage.sources) for stage in self.plan.stages)
+        return min(MOST_STAGES - len(self.plan.stages), (MOST_EDGES - edges) // 2) - self.room
 
     # What it tells, and changes nothing.
 
@@ -275,6 +280,17 @@ class Machine:
             if not self.is_settled(stage):
                 self.settle(who, stage, model.CANCELLED)
                 self.settle_relays(who)
+
+    def grow(self) -> None:
+        """Makes room for as many stages more as there are, and for 16 at least, or else for as many as the bounds let in."""
+        left = self.room_left()
+        if left == 0:
+            raise Refused("ROOM")
+        self.make_room(min(max(self.stages(), LEAST_GROWTH), left))
+
+    def make_room(self, more: int) -> None:
+        self.room += more
+        self.state = self.state._replace(room=self.state.room + more)
 
     def do_all(self, made: Sequence[Tuple[str, Tuple[Any, ...]]]) -> Tuple[List[Any], Optional[str]]:
         """Makes calls one after another, up to the first that is refused: what they answer, and why the next one is refused, if one is."""

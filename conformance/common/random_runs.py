@@ -1,4 +1,4 @@
-"""Random plans from a seed, with the calls of their callers and the sizes of their desk, as crates/cf_stress takes them."""
+"""Random plans from a seed, with the calls of their callers and the sizes of their desk."""
 import random
 
 import model
@@ -63,12 +63,7 @@ class Sizes:
         self.named = [s["fn"] for s in stages if "fn" in s]
         self.functions = len(self.named) + rng.randrange(3)
         self.stages = len(stages)
-        self.in_turn = rng.random() < 0.15
-
-    def words(self):
-        counts = [("--callers", self.callers), ("--log", self.log), ("--calls", self.calls), ("--room", self.room),
-                  ("--functions", self.functions)]
-        return [word for name, n in counts for word in (name, str(n))] + (["--turns"] if self.in_turn else [])
+        self.in_turn = False  # each caller has a thread that goes on by itself
 
     def random_stage(self, rng):
         """A stage of the plan, one that may be attached by then, or seldom one that never is."""

@@ -13,7 +13,7 @@ import random_runs
 
 Request = Any  # a `machine.Machine`, or what has the same methods: a `library.Library`
 KINDS = {"next": 36.0, "apply": 26, "pass_to": 5, "deadline": 6, "follow": 8, "rest": 2, "refuse": 2, "ready": 1, "cancel_all": 0.5,
-         "restart": 0.5, "do_all": 6}
+         "restart": 0.5, "grow": 1, "do_all": 6}
 OFTEN = ["next", "apply", "pass_to", "deadline", "follow", "rest", "refuse"]  # one of these comes more often by a seed
 EVENTS = {"complete": 9, "fail": 2, "failAs": 1.5, "cancel": 1.5, "claim": 2, "finish": 1.5, "tick": 1, "attach": 11, "word": 0.7}
 IN_ONE = {"next": 3, "apply": 5, "follow": 1, "deadline": 1, "pass_to": 0.5, "refuse": 0.1, "cancel_all": 0.05}  # calls of a `do_all`
@@ -52,7 +52,10 @@ def random_plan(rng: random.Random) -> Any:
 def random_opening(rng: random.Random) -> Opening:
     plan, count = random_plan(rng), rng.choice([1, 2, 2, 3, 16])
     lanes = [rng.randrange(count) for _ in plan.stages]
-    return Opening(plan, rng.choice([0, 4, 16, 40]), lanes, count, rng.choice([63, 63, 8, 0]))
+    room = rng.choice([0, 4, 16, 40])
+    if rng.random() < 0.1:
+        room = machine.MOST_STAGES - len(lanes) - rng.choice([0, 0, 1, 2, 15, 20])  # so that little or no more comes in
+    return Opening(plan, room, lanes, count, rng.choice([63, 63, 8, 0]))
 
 
 def wrong_openings(rng: random.Random, opening: Opening) -> Iterator[Opening]:

@@ -83,6 +83,7 @@ CALLS: Dict[str, List[Any]] = {
     "cf_request_told": [H, *TOLD, P(SIZE)],
     "cf_request_ready": [H, U8, P(U16)],
     "cf_request_cancel_all": [H, U8, *TOLD, P(SIZE)],
+    "cf_request_grow": [H],
     "cf_request_restart": [H],
     "cf_request_do": [H, P(CCall), SIZE, P(CDone), *TOLD],
 }
@@ -256,7 +257,8 @@ class Library:
     def kept_by(self, words: Sequence[int]) -> List[machine.Stage]:
         """What these words leave of a new ledger's stages."""
         ledger, place = CHandle(), SIZE()
-        check(C.cf_ledger_of(self.plan, self.opening.room, (U64 * len(words))(*words), len(words), ledger, place))
+        room = sum(event[0] == "attach" for event in map(histories.event_of, words))
+        check(C.cf_ledger_of(self.plan, room, (U64 * len(words))(*words), len(words), ledger, place))
         kept = kept_in(ledger)
         C.cf_free(ledger)
         return kept
@@ -334,6 +336,9 @@ class Library:
     def cancel_all(self, room: int, who: int) -> Tuple[Any, machine.Told]:
         self.checked(C.cf_request_cancel_all(self.request, who, *self.mark(room), self.total))
         return None, self.told(self.total.value, room)
+
+    def grow(self) -> None:
+        check(C.cf_request_grow(self.request))
 
     def restart(self) -> None:
         check(C.cf_request_restart(self.request))

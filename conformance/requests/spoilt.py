@@ -2,7 +2,7 @@
 from typing import Any, List, Optional, Sequence, Tuple, Union
 
 import model
-from machine import Answer, Deadline, Event, Follow, Machine, Next, Outcome, Reply, Taken, Told
+from machine import LEAST_GROWTH, Answer, Deadline, Event, Follow, Machine, Next, Outcome, Reply, Taken, Told
 
 
 class TheHighestIsTaken(Machine):
@@ -212,6 +212,46 @@ class ARefusedCallIsPassedOver(Machine):
 class OneCallIsLeftOut(Machine):
     def do_all(self, made: Sequence[Tuple[str, Tuple[Any, ...]]]) -> Tuple[List[Any], Optional[str]]:
         return super().do_all(made[:4])
+
+
+class OneTooManyComesIn(Machine):
+    def make_room(self, more: int) -> None:
+        super().make_room(more + 1)
+
+
+class TheLeastComesIn(Machine):
+    def make_room(self, more: int) -> None:
+        super().make_room(min(more, LEAST_GROWTH))
+
+
+class TheLastStaysOut(Machine):
+    def room_left(self) -> int:
+        left = super().room_left()
+        return 0 if left == 1 else left
+
+
+class GrowthForgetsWhatIsTold(Machine):
+    def grow(self) -> None:
+        super().grow()
+        self.told = []
+
+
+class GrowthLosesLanes(Machine):
+    def grow(self) -> None:
+        super().grow()
+        self.lanes = [*self.planned, *[0] * (self.stages() - len(self.planned))]
+
+
+class GrowthForgetsDeadlines(Machine):
+    def grow(self) -> None:
+        super().grow()
+        self.deadlines = []
+
+
+class RoomDoesntOutliveAStart(Machine):
+    def restart(self) -> None:
+        self.room = self.opened = getattr(self, "opened", self.room)
+        super().restart()
 
 
 MISTAKES = [it for it in list(globals().values()) if isinstance(it, type) and issubclass(it, Machine) and it is not Machine]

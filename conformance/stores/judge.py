@@ -9,12 +9,12 @@ import json
 import os
 import sys
 
-import process  # noqa: F401 (for the path)
+import process  # noqa: F401 (for the paths)
 from plain_graph import Graph
+from replies import outcome_text, reply_text, shape
 
 from cf.events import event_of
-from cf.service.history import Told, _outcome_text, _reply_text, _shape
-from cf.service.words import ATTACH, CLAIM, COMPLETE, FAIL, FINISH, FORMS, PENDING
+from cf.service.words import ATTACH, CLAIM, COMPLETE, FAIL, FINISH, FORMS, PENDING, Told
 from cf.shared import Broken, connect
 
 CALLERS = int(os.environ.get("CF_CALLERS", "64"))
@@ -87,7 +87,7 @@ class Judge:
         """Judges one request, and gives its account."""
         entries, plan, payloads = self.row(name)
         room = sum(word >> 56 == ATTACH for word, _ in entries)
-        stages = [_shape(FORMS.index(it["form"]), tuple(it.get("of", ())), k if it["form"] not in ("source", "allOf", "anyOf") else None)
+        stages = [shape(FORMS.index(it["form"]), tuple(it.get("of", ())), k if it["form"] not in ("source", "allOf", "anyOf") else None)
                   for k, it in enumerate(plan["stages"])]
         plan = {"cf": 2, "room": room, "stages": stages}
         graph, replies, states, granted = Graph(plan), [None], [], set()
@@ -134,7 +134,7 @@ class Judge:
                     self.count["lost words"] += 1
                     continue
                 answered.add(place)
-                reply = _reply_text(event_of(word), reply)
+                reply = reply_text(event_of(word), reply)
                 if replies[place] != reply:
                     self.wrong.append(f"{name}: place {place}: told {reply}, is {replies[place]}")
                 records[session, word >> 48 & 0xFF].append(["did", place, str(word), reply])
@@ -157,7 +157,7 @@ class Judge:
         if place > len(entries):
             self.count["lost words"] += 1
             return
-        text = "pending" if outcome[0] == PENDING else _outcome_text(Told(*outcome))
+        text = "pending" if outcome[0] == PENDING else outcome_text(Told(*outcome))
         if states[place][stage] != text:
             self.wrong.append(f"{name}: stage {stage} at {place}: told {text}, is {states[place][stage]}")
         own.append(["outcome", place, stage, text])

@@ -1,6 +1,6 @@
 """What the processes of a run have in common: calls that wait for an engine, an engine's own database, and a log of what a process was told.
 
-Importing it puts clients/python on the path, so the package cf can be imported after it."""
+Importing it puts clients/python and conformance/common on the path, so the package cf can be imported after it."""
 import itertools
 import json
 import math
@@ -12,7 +12,7 @@ from pathlib import Path
 
 HERE = Path(__file__).resolve().parent
 CLIENT = HERE.parents[1] / "clients/python"
-sys.path.insert(0, str(CLIENT))
+sys.path[:0] = [str(CLIENT), str(HERE.parent / "common")]
 from cf.shared import Unknown  # noqa: E402
 
 

@@ -1,13 +1,13 @@
-/* The library's ledgers as native methods of cf.service.Native.
+/* The library's requests as native methods of cf.service.Machine, and its plans as those of cf.service.Native.
  *
- * A core is a ledger with a piece of memory that Java reads and writes by a direct buffer, so that one crossing does some words and brings
- * back the reply and the news. Its caller has it alone: that is a request's lock. A core whose request is closed keeps its ledger, which
- * starts again for the next request of the same plan.
+ * A core is a request of the library (docs/REQUEST.md) with a block of memory that Java reads and writes by a direct buffer, so that one
+ * crossing does some words and brings back the reply, the stages that were settled, and those whose functions are to be called. Its caller
+ * has it alone: that is a request's lock. A core whose request is closed keeps what it has, and starts again for the next one of its plan.
  *
  * What the library is owed (docs/C.md), and where it is met:
  *   - a handle isn't copied: each stands in the one block of its core or plan, which isn't moved, and is 0 until it is filled;
- *   - one call at a time has a handle: a core's by its request's lock (Ledger.java), a plan's by the lock beside it, since threads open
- *     ledgers of one plan at once. Both locks order what different threads do, and so does the atomic by which Ledger's pool hands a core on;
+ *   - one call at a time has a handle: a core's by its request's lock (Machine.java), a plan's by the lock beside it, since threads open
+ *     requests of one plan at once. Both locks order what different threads do, and so does the atomic by which Machine's pool hands a core on;
  *   - nothing is freed while it is used, or twice: who calls keeps the core's owner reachable, and Freed.java frees what can't be reached, once;
  *   - pointers are aligned, and to as many elements as said: they are to variables and to the core's own memory. Arrays of Java's are read
  *     within their bounds, whatever numbers are told beside them;
@@ -18,29 +18,39 @@
 #include "cf.h"
 #include <jni.h>
 #include <pthread.h>
+#include <stddef.h>
 #include <stdlib.h>
-#include <string.h>
 #include <time.h>
 #ifdef __x86_64__
 #include <cpuid.h>
 #include <x86intrin.h>
 #endif
 
-enum { WORDS = 64, NEWS = 128, MOST = 4096, MOST_EDGES = 16384, ROOM = 32 };
+enum { WORDS = 64, MOST = 4096, TOLD = 128, CLAIMED = 32, READY = 64 };
 
-/* In the machine's order of bytes; Native.java has the places. */
-struct shown {
-  int32_t done;        /* how many of the words that waited were done */
-  int32_t number;      /* of the reply */
-  int32_t news;        /* how many stages below became ready or settled */
-  int32_t moments;     /* how many moments are kept */
-  int32_t events;      /* how many words were done */
-  int32_t args[10];    /* what its function is called with, or else the arguments in the reply: those of cf_args */
-  int32_t rest;        /* where the news go on that had no place, or 0 */
+/* Lanes: a stage's function is called by the thread that made the stage ready, or by an executor. */
+enum { HERE = 0, BY_EXECUTOR = 1, LANES = 2 };
+
+/* In whose name a machine itself settles stages. */
+enum { OWN = 0 };
+
+/* What Java reads and writes, in the machine's order of bytes; Machine.java has the places. */
+struct block {
+  int32_t done;     /* how many of the words that waited were done */
+  int32_t number;   /* of the reply */
+  int32_t events;   /* how many words were done */
+  int32_t moments;  /* how many moments are kept */
+  int32_t args[10]; /* of a reply that nobody claims behind: those of cf_args */
+  int64_t due;      /* the moment of the next deadline */
   uint64_t words[WORDS];
-  uint64_t own[MOST / 64]; /* a bit for each stage whose function the thread calls that made it ready */
-  struct { uint32_t what; int32_t number; } changed[NEWS];
+  uint8_t lanes[WORDS];
+  struct { uint32_t what; int32_t number; } told[TOLD];
+  struct { uint32_t stage, kind; int32_t first, second; } claimed[CLAIMED];
+  uint16_t ready[READY]; /* stages whose functions executors call */
 };
+_Static_assert(offsetof(struct block, args) == 16 && offsetof(struct block, due) == 56 && offsetof(struct block, words) == 64 &&
+               offsetof(struct block, lanes) == 576 && offsetof(struct block, told) == 640 && offsetof(struct block, claimed) == 1664 &&
+               offsetof(struct block, ready) == 2176, "the places in Machine.java");
 
 /* By when so many events were done, in ticks. */
 struct moment { uint64_t at, events; };
@@ -52,12 +62,11 @@ static pthread_mutex_t links = PTHREAD_MUTEX_INITIALIZER;
 
 struct core {
   struct link link;
-  struct shown shown;
-  cf_handle ledger;
-  const struct plan *plan; /* of which the ledger is */
-  int32_t claimed; /* the stage that was claimed behind the words, or -1 */
-  size_t told; /* the place of the event whose news are told */
-  uint32_t room;
+  struct block block;
+  cf_handle request;
+  const struct plan *plan; /* of which the request is */
+  bool has_executors, settles; /* whether a stage is of that lane; whether the machine may have settled one by itself */
+  size_t heard, within; /* up to which event, and which of its stages, what became ready for executors was told */
   struct moment *moments;
   size_t most_moments;
   uint64_t since; /* when the first word came that waits */
@@ -67,16 +76,26 @@ struct core {
 struct plan {
   struct link link;
   cf_handle handle;
-  uint32_t stages, place; /* for how many more there is place: two edges are set aside for each */
-  uint64_t own[MOST / 64];
+  size_t stages;
+  uint8_t lanes[MOST];
+  bool has_executors;
   pthread_mutex_t lock;
 };
 
-static struct plan empty = {.place = MOST}; /* without stages */
+static struct plan empty; /* without stages */
+
+/* What one crossing is told. */
+struct crossing {
+  struct core *core;
+  cf_told told[TOLD];
+  size_t n, claimed, ready;
+  bool more; /* whether something had no place */
+};
 
 #define CORE(at) ((struct core *)(intptr_t)(at))
 #define PLAN(at) ((at) ? (struct plan *)(intptr_t)(at) : &empty)
 #define METHOD(type, name) JNIEXPORT type JNICALL Java_cf_service_Native_##name
+#define CALL(type, name) JNIEXPORT type JNICALL Java_cf_service_Machine_##name
 
 static void enter(struct link *list, struct link *one) {
   pthread_mutex_lock(&links);
@@ -132,22 +151,17 @@ METHOD(jdouble, nanosPerTick)(JNIEnv *env, jclass class) {
 }
 
 /* All events that have no time yet were done by then. Times never go back. Where there is no memory they get the time of those after them. */
-static void note(struct core *core, uint64_t at) {
+static void time_events(struct core *core, uint64_t at) {
   if (!core->timed) return;
-  size_t n = (size_t)core->shown.moments;
+  size_t n = (size_t)core->block.moments;
   if (n > 0 && at < core->moments[n - 1].at) at = core->moments[n - 1].at;
   if (n == core->most_moments) {
     struct moment *more = realloc(core->moments, 2 * n * sizeof *more);
     if (!more) return;
     core->moments = more, core->most_moments = 2 * n;
   }
-  core->moments[n].at = at, core->moments[n].events = (uint64_t)core->shown.events;
-  core->shown.moments++;
-}
-
-METHOD(void, since)(JNIEnv *env, jclass class, jlong at, jlong since) {
-  (void)env, (void)class;
-  CORE(at)->since = since ? (uint64_t)since : ticks();
+  core->moments[n].at = at, core->moments[n].events = (uint64_t)core->block.events;
+  core->block.moments++;
 }
 
 METHOD(jlong, ticks)(JNIEnv *env, jclass class) {
@@ -176,185 +190,268 @@ METHOD(jboolean, hasStack)(JNIEnv *env, jclass class) {
   return (char *)__builtin_frame_address(0) > least;
 }
 
-/* 12 bits of the stage, then whether it is settled; from 16 on the outcome's kind, whether it is wrapped, whether its value is a number. */
-static void write_change(struct shown *shown, uint32_t stage, const cf_stage *now) {
-  if (now->kind != CF_IS_READY && now->kind != CF_IS_SETTLED) return;
-  const cf_outcome *outcome = &now->outcome;
-  uint32_t what = stage;
-  int32_t number = 0;
-  if (now->kind == CF_IS_SETTLED) {
-    what |= 1u << 12 | outcome->kind << 16 | outcome->wrapped << 20 | (uint32_t)(outcome->value.kind != CF_NIL) << 21;
-    number = outcome->kind == CF_VALUE ? outcome->value.number : (int32_t)outcome->code;
+/* So many stages were to be told: they stand in the row as far as there is room. */
+static void take(struct crossing *it, size_t told) {
+  size_t room = TOLD - it->n;
+  it->more |= told > room;
+  it->n += told < room ? told : room;
+}
+
+/* One word, with room for its stage. */
+static uint32_t do_word(struct crossing *it, uint64_t word, uint8_t lane, cf_reply *reply) {
+  struct core *core = it->core;
+  cf_applied applied;
+  uint32_t code = cf_request_apply(&core->request, word, lane, &applied, it->told + it->n, TOLD - it->n);
+  if (code == CF_NO_ROOM) {
+    code = cf_request_grow(&core->request);
+    if (code == CF_OK) code = cf_request_apply(&core->request, word, lane, &applied, it->told + it->n, TOLD - it->n);
   }
-  shown->changed[shown->news].what = what;
-  shown->changed[shown->news++].number = number;
-}
-
-static void write_args(struct shown *shown, const cf_args *args) {
-  const cf_outcome *outcome = &args->outcome;
-  shown->args[0] = (int32_t)args->kind;
-  shown->args[1] = (int32_t)args->first.kind, shown->args[2] = args->first.number;
-  shown->args[3] = (int32_t)args->second.kind, shown->args[4] = args->second.number;
-  shown->args[5] = (int32_t)outcome->kind, shown->args[6] = (int32_t)outcome->wrapped, shown->args[7] = (int32_t)outcome->code;
-  shown->args[8] = (int32_t)outcome->value.kind, shown->args[9] = outcome->value.number;
-}
-
-/* Makes room for a stage. */
-static uint32_t make_room(struct core *core) {
-  uint32_t place = core->plan->place - core->room, more = core->room < ROOM ? ROOM : core->room;
-  if (more > place) more = place;
-  uint32_t code = more ? cf_ledger_grow(&core->ledger, (uint16_t)more) : CF_NO_ROOM;
-  if (code == CF_OK) core->room += more;
-  return code;
-}
-
-/* One event with so many of its news, and room for its stage where there is none. */
-static uint32_t apply(struct core *core, uint64_t word, cf_reply *reply, cf_news *changed, size_t most, size_t *n) {
-  uint32_t code = cf_ledger_apply(&core->ledger, word, reply, changed, most, n);
-  if (code == CF_NO_ROOM && core->room < MOST) {
-    code = make_room(core);
-    if (code == CF_OK) code = cf_ledger_apply(&core->ledger, word, reply, changed, most, n);
-  }
-  if (code == CF_OK) core->shown.events++;
-  return code;
-}
-
-/* The words that waited: of stages that nothing can be told of yet. */
-static uint32_t apply_row(struct core *core, size_t count) {
-  struct shown *shown = &core->shown;
-  uint32_t code = CF_OK;
-  for (shown->done = 0; (size_t)shown->done < count && code == CF_OK;) {
-    size_t done = 0;
-    code = cf_ledger_apply_all(&core->ledger, shown->words + shown->done, count - (size_t)shown->done, &done);
-    shown->done += (int32_t)done, core->shown.events += (int32_t)done;
-    if (code == CF_NO_ROOM) code = make_room(core);
-  }
-  note(core, core->since);
-  return code;
-}
-
-/* The first ready stage of those told whose function the calling thread calls itself, or -1. */
-static int32_t own_ready(const struct shown *shown) {
-  for (int32_t k = 0; k < shown->news; k++) {
-    uint32_t what = shown->changed[k].what, stage = what & 0xfff;
-    if (!(what >> 12 & 1) && shown->own[stage / 64] >> stage % 64 & 1) return (int32_t)stage;
-  }
-  return -1;
-}
-
-/* The reply in one number: 8 bits of the code; then from 8 on the answer, 12 the stage that was claimed and 1 more, or 0, 25 how many
- * news, 34 whether there are more of them, 36 the kind of arguments. */
-static jlong told(const struct core *core, uint32_t code, uint32_t answer) {
-  const struct shown *shown = &core->shown;
-  return (jlong)((uint64_t)code | (uint64_t)answer << 8 | (uint64_t)(core->claimed + 1) << 12 | (uint64_t)shown->news << 25 |
-                 (uint64_t)(shown->rest != 0) << 34 | (uint64_t)shown->args[0] << 36);
-}
-
-static void write_news(struct core *core, const cf_news *changed, size_t n) {
-  for (size_t k = 0; k < n && k < NEWS; k++) write_change(&core->shown, changed[k].stage, &changed[k].now);
-  if (n > NEWS) core->shown.rest = NEWS;
-}
-
-/* A finish by who has claimed the stage, and a claim of the lowest stage that is ready then, from a number on. */
-static uint32_t step(struct core *core, uint64_t word, uint32_t who, uint32_t from, uint32_t *answer) {
-  struct shown *shown = &core->shown;
-  cf_news changed[NEWS];
-  size_t n;
-  cf_step step = {(uint8_t)who, (uint16_t)from, 0, 0, 0};
-  cf_task task;
-  uint32_t tag = word >> 32 & 0xf;
-  task.held = 1, task.stage = word >> 36 & 0xfff;
-  task.answer.kind = tag == 2 ? CF_THROW : CF_GIVE, task.answer.code = (uint32_t)word, task.answer.stage = 0;
-  task.answer.value.kind = tag == 1 ? CF_INT : CF_NIL, task.answer.value.number = (int32_t)(uint32_t)word;
-  uint32_t code = cf_ledger_step(&core->ledger, &step, &task, changed, NEWS, &n);
-  if (code != CF_OK && code != CF_NOTHING) return code;
-  core->told = (size_t)core->shown.events;
-  core->shown.events += code == CF_OK ? 2 : 1;
-  *answer = task.finished;
-  write_news(core, changed, n);
-  if (code == CF_OK) {
-    core->claimed = task.stage;
-    write_args(shown, &task.args);
-  }
-  return CF_OK;
-}
-
-static uint32_t one(struct core *core, uint64_t word, int32_t who, uint32_t *answer) {
-  struct shown *shown = &core->shown;
-  cf_reply reply;
-  cf_news changed[NEWS];
-  size_t n;
-  uint32_t code = apply(core, word, &reply, changed, NEWS, &n);
   if (code != CF_OK) return code;
-  core->told = (size_t)core->shown.events - 1;
-  *answer = reply.answer;
-  shown->number = (int32_t)reply.number;
-  write_news(core, changed, n);
-  int32_t stage = who >= 0 ? own_ready(shown) : -1;
-  if (stage < 0) {
-    if (reply.args.kind || who == -2) write_args(shown, &reply.args);
-    return CF_OK;
-  }
-  code = apply(core, (uint64_t)4 << 56 | (uint64_t)who << 48 | (uint64_t)stage << 36, &reply, NULL, 0, &n); /* changes that stage alone */
-  if (code == CF_OK) {
-    core->claimed = stage;
-    write_args(shown, &reply.args);
-  }
-  return code;
-}
-
-/* Does the words that wait, and then this one, if it isn't 0. Where `who` isn't negative, it claims for that caller the first stage that
- * became ready by it and is its own to call; where `from` isn't either, the word is a finish of a stage that the caller has claimed, and
- * the lowest ready stage from that number on is claimed. */
-METHOD(jlong, apply)(JNIEnv *env, jclass class, jlong at, jint waiting, jlong word, jint who, jint from) {
-  (void)env, (void)class;
-  struct core *core = CORE(at);
-  struct shown *shown = &core->shown;
-  uint32_t code = CF_OK, answer = 0;
-  shown->news = shown->rest = shown->done = shown->args[0] = 0;
-  core->claimed = -1;
-  if (waiting < 0 || waiting > WORDS) return told(core, CF_NO_WORD, 0);
-  if (waiting > 0) code = apply_row(core, (size_t)waiting);
-  if (word == 0 || code != CF_OK) return told(core, code, 0);
-  if (from >= 0) code = step(core, (uint64_t)word, (uint32_t)who, (uint32_t)from, &answer);
-  if (from < 0 || code == CF_NOT_HELD) code = one(core, (uint64_t)word, who, &answer);
-  note(core, ticks());
-  return told(core, code, answer);
-}
-
-/* The news that had no place, from `rest` on: as they are now, which is as they were then, since nothing was done meanwhile. */
-METHOD(jint, more)(JNIEnv *env, jclass class, jlong at) {
-  (void)env, (void)class;
-  struct core *core = CORE(at);
-  struct shown *shown = &core->shown;
-  uint16_t stages[MOST];
-  size_t n, k = (size_t)shown->rest;
-  uint32_t code = cf_ledger_news(&core->ledger, core->told, stages, MOST, &n);
-  if (code != CF_OK) return (jint)code;
-  shown->news = 0;
-  for (; k < n && shown->news < NEWS; k++) {
-    cf_stage now;
-    code = cf_ledger_stage(&core->ledger, stages[k], &now);
-    if (code != CF_OK) return (jint)code;
-    if (stages[k] != core->claimed) write_change(shown, stages[k], &now);
-  }
-  shown->rest = k < n ? (int32_t)k : 0;
+  take(it, applied.told);
+  core->block.events++;
+  *reply = applied.reply;
+  core->has_executors |= lane == BY_EXECUTOR;
   return CF_OK;
 }
 
-/* What a stage is, as the one of the news; none where it is neither ready nor settled. */
-METHOD(jint, ask)(JNIEnv *env, jclass class, jlong at, jint stage) {
+/* The words that waited: of stages that nothing can be told of yet. A stage that is ready by its own word was handed over as it was attached. */
+static uint32_t do_waiting(struct crossing *it, jint waiting) {
+  struct block *block = &it->core->block;
+  bool heard = it->core->heard == (size_t)block->events;
+  uint32_t code = CF_OK;
+  cf_reply reply;
+  block->done = 0;
+  if (waiting < 0 || waiting > WORDS) return CF_NO_WORD;
+  while (code == CF_OK && block->done < waiting) {
+    code = do_word(it, block->words[block->done], block->lanes[block->done], &reply);
+    if (code == CF_OK) block->done++;
+  }
+  if (waiting > 0) time_events(it->core, it->core->since);
+  if (heard) it->core->heard = (size_t)block->events;
+  return code;
+}
+
+/* A function to be called, with the numbers of its values, or -1 for none; or the kind of its outcome, with a value or a code. */
+static void write_claim(struct crossing *it, uint32_t stage, const cf_args *args) {
+  struct block *block = &it->core->block;
+  uint32_t kind = args->kind;
+  int32_t first = args->first.kind == CF_NIL ? -1 : args->first.number, second = args->second.kind == CF_NIL ? -1 : args->second.number;
+  if (kind == CF_GOT) {
+    const cf_outcome *outcome = &args->outcome;
+    kind |= outcome->kind << 4 | outcome->wrapped << 8;
+    first = outcome->kind != CF_VALUE ? (int32_t)outcome->code : outcome->value.kind == CF_NIL ? -1 : outcome->value.number;
+  }
+  block->claimed[it->claimed].stage = stage, block->claimed[it->claimed].kind = kind;
+  block->claimed[it->claimed].first = first, block->claimed[it->claimed].second = second;
+  it->claimed++;
+}
+
+/* One step of a caller: finishes what the task holds, if it does, and claims the lowest stage whose function the caller calls itself. */
+static uint32_t step(struct crossing *it, uint8_t who, cf_task *task) {
+  cf_request_step step = {who, HERE, 0};
+  uint32_t held = task->held, code = cf_request_next(&it->core->request, &step, task, it->told + it->n, TOLD - it->n);
+  if (code != CF_OK && code != CF_NOTHING) return code;
+  take(it, step.told);
+  it->core->block.events += (int32_t)held + (code == CF_OK);
+  if (code == CF_OK) write_claim(it, task->stage, &task->args);
+  return CF_OK;
+}
+
+/* Claims all other stages whose functions the caller calls itself. What has no place or fails here is done by whoever asks for more. */
+static uint32_t claim_all(struct crossing *it, jint who) {
+  uint16_t left = 0;
+  uint32_t code = CF_OK;
+  if (who >= 0) cf_request_ready(&it->core->request, HERE, &left);
+  for (; left > 0 && code == CF_OK && it->claimed < CLAIMED; left--) {
+    cf_task task = {0};
+    code = step(it, (uint8_t)who, &task);
+  }
+  it->more |= left > 0 || code != CF_OK;
+  return code;
+}
+
+/* Which stages became ready whose functions executors call, by the events that weren't looked at. What is ready is of no other lane, once all
+ * that was ready for the thread that calls is claimed. */
+static void hear(struct crossing *it) {
+  struct core *core = it->core;
+  struct block *block = &core->block;
+  uint16_t ready = 0, here = 0, stages[MOST];
+  if (core->has_executors) cf_request_ready(&core->request, BY_EXECUTOR, &ready), cf_request_ready(&core->request, HERE, &here);
+  if (here > 0) return;
+  for (; ready > 0 && core->heard < (size_t)block->events; core->heard++, core->within = 0) {
+    size_t n = 0;
+    cf_ledger_news(&core->request, core->heard, stages, MOST, &n);
+    for (; core->within < n; core->within++) {
+      uint16_t stage = stages[core->within];
+      cf_stage now;
+      if (cf_ledger_stage(&core->request, stage, &now) != CF_OK || now.kind != CF_IS_READY) continue;
+      if (it->ready == READY) {
+        it->more = true;
+        return;
+      }
+      block->ready[it->ready++] = stage;
+    }
+  }
+  core->heard = (size_t)block->events, core->within = 0;
+}
+
+/* 12 bits of the stage; from 16 on the outcome's kind, whether it is wrapped, whether its value is a number. */
+static void write_told(struct block *block, size_t k, uint32_t stage, const cf_outcome *outcome) {
+  block->told[k].what = stage | outcome->kind << 16 | outcome->wrapped << 20 | (uint32_t)(outcome->value.kind != CF_NIL) << 21;
+  block->told[k].number = outcome->kind == CF_VALUE ? outcome->value.number : (int32_t)outcome->code;
+}
+
+/* The end of a crossing, in one number: 8 bits of the code; then from 8 on the answer, 12 how many are told, 20 claimed, 26 ready, and 33 whether
+ * there are more of them. */
+static jlong end(struct crossing *it, uint32_t code, uint32_t answer) {
+  struct core *core = it->core;
+  size_t left;
+  if (core->settles && cf_ledger_words(&core->request, (size_t)core->block.events, NULL, 0, &left) == CF_OK)
+    core->block.events += (int32_t)left;
+  hear(it);
+  time_events(core, ticks());
+  for (size_t k = 0; k < it->n; k++) write_told(&core->block, k, it->told[k].stage, &it->told[k].outcome);
+  return (jlong)((uint64_t)code | (uint64_t)answer << 8 | (uint64_t)it->n << 12 | (uint64_t)it->claimed << 20 | (uint64_t)it->ready << 26 |
+                 (uint64_t)it->more << 33);
+}
+
+static void begin(struct crossing *it, jlong at) {
+  it->core = CORE(at), it->n = it->claimed = it->ready = 0, it->more = false;
+}
+
+static void write_args(int32_t *to, const cf_args *args) {
+  const cf_outcome *outcome = &args->outcome;
+  to[0] = (int32_t)args->kind;
+  to[1] = (int32_t)args->first.kind, to[2] = args->first.number;
+  to[3] = (int32_t)args->second.kind, to[4] = args->second.number;
+  to[5] = (int32_t)outcome->kind, to[6] = (int32_t)outcome->wrapped, to[7] = (int32_t)outcome->code;
+  to[8] = (int32_t)outcome->value.kind, to[9] = outcome->value.number;
+}
+
+/* Does the words that wait, and then this one, if it isn't 0. Where `who` isn't negative, it claims for that caller: the stage that the word
+ * claims, or else all that are ready for whoever made them ready. */
+CALL(jlong, apply)(JNIEnv *env, jclass class, jlong at, jint waiting, jlong word, jint lane, jint who) {
+  (void)env, (void)class;
+  struct crossing it;
+  cf_reply reply = {0};
+  begin(&it, at);
+  uint32_t code = do_waiting(&it, waiting);
+  if (code == CF_OK && word != 0) code = do_word(&it, (uint64_t)word, (uint8_t)lane, &reply);
+  if (code == CF_OK && word != 0) {
+    it.core->block.number = (int32_t)reply.number;
+    if (who < 0) write_args(it.core->block.args, &reply.args);
+    else if ((uint64_t)word >> 56 != 4) claim_all(&it, who);
+    else if (reply.answer == CF_GRANTED) write_claim(&it, (uint32_t)(word >> 36 & 0xfff), &reply.args);
+  }
+  return end(&it, code, reply.answer);
+}
+
+/* Finishes a stage that the caller has claimed, by a value's number, -1 for null, or by an exception's code. Then it claims as `apply` does. */
+CALL(jlong, finish)(JNIEnv *env, jclass class, jlong at, jint waiting, jint stage, jboolean throws, jint number, jint who) {
+  (void)env, (void)class;
+  struct crossing it;
+  begin(&it, at);
+  cf_task task = {.held = 1, .stage = (uint16_t)stage};
+  task.answer.kind = throws ? CF_THROW : CF_GIVE, task.answer.code = (uint32_t)number;
+  task.answer.value.kind = number < 0 ? CF_NIL : CF_INT, task.answer.value.number = number < 0 ? 0 : number;
+  uint32_t code = do_waiting(&it, waiting), answer = CF_WON;
+  if (code != CF_OK) return end(&it, code, 0);
+  code = step(&it, (uint8_t)who, &task);
+  if (code == CF_OK) claim_all(&it, who);
+  if (code != CF_NOT_HELD) return end(&it, code, task.finished);
+  /* Somebody has settled it: its word says so. */
+  cf_reply reply = {0};
+  uint64_t tag = throws ? 2 : number < 0 ? 0 : 1;
+  code = do_word(&it, (uint64_t)5 << 56 | (uint64_t)(who & 63) << 48 | (uint64_t)(stage & 0xfff) << 36 | tag << 32 |
+                          (tag ? (uint32_t)number : 0), HERE, &reply);
+  if (code == CF_OK) answer = reply.answer, claim_all(&it, who);
+  return end(&it, code, answer);
+}
+
+/* Finishes a stage by this word, which links it to a relay, unless it is 0. If that was in time, the relay follows a stage from now on. */
+CALL(jlong, link)(JNIEnv *env, jclass class, jlong at, jint waiting, jlong word, jint relay, jint stage, jint who) {
+  (void)env, (void)class;
+  struct crossing it;
+  cf_reply reply = {0};
+  size_t told = 0;
+  begin(&it, at);
+  uint32_t code = do_waiting(&it, waiting);
+  if (code == CF_OK && word != 0) code = do_word(&it, (uint64_t)word, HERE, &reply);
+  if (code != CF_OK) return end(&it, code, 0);
+  if (reply.answer == CF_WON && relay >= 0) {
+    it.core->settles = true;
+    code = cf_request_follow(&it.core->request, (uint16_t)relay, (uint16_t)stage, it.told + it.n, TOLD - it.n, &told);
+    take(&it, told);
+  }
+  claim_all(&it, who);
+  return end(&it, code, reply.answer);
+}
+
+/* Does the words that wait, and sets a deadline of a stage: it times out then, or gets the value of this number, -1 for null. */
+CALL(jlong, deadline)(JNIEnv *env, jclass class, jlong at, jint waiting, jint stage, jlong moment, jboolean gives, jint number) {
+  (void)env, (void)class;
+  struct crossing it;
+  cf_value value = {number < 0 ? CF_NIL : CF_INT, number < 0 ? 0 : number};
+  begin(&it, at);
+  it.core->settles = true;
+  uint32_t code = do_waiting(&it, waiting), kind = gives ? CF_GIVE_VALUE : CF_TIMEOUT;
+  if (code == CF_OK) code = cf_request_deadline(&it.core->request, (uint16_t)stage, (uint64_t)moment, kind, value);
+  return end(&it, code, 0);
+}
+
+/* Lets time pass up to a moment, and tells that of the next deadline. */
+CALL(jlong, pass)(JNIEnv *env, jclass class, jlong at, jint waiting, jlong moment, jint who) {
+  (void)env, (void)class;
+  struct crossing it;
+  size_t told = 0;
+  cf_deadline next;
+  begin(&it, at);
+  uint32_t code = do_waiting(&it, waiting);
+  if (code == CF_OK) code = cf_request_pass(&it.core->request, (uint64_t)moment, it.told, TOLD, &told);
+  take(&it, code == CF_OK ? told : 0);
+  if (code == CF_OK) claim_all(&it, who);
+  code = code == CF_PAST_MOMENT ? CF_OK : code;
+  it.core->block.due = INT64_MAX;
+  if (cf_request_next_deadline(&it.core->request, &next) == CF_OK) it.core->block.due = (int64_t)next.moment;
+  return end(&it, code, 0);
+}
+
+/* What had no place. */
+CALL(jlong, more)(JNIEnv *env, jclass class, jlong at, jint who) {
+  (void)env, (void)class;
+  struct crossing it;
+  size_t told = 0;
+  begin(&it, at);
+  cf_request_told(&it.core->request, it.told, TOLD, &told);
+  take(&it, told);
+  uint32_t code = claim_all(&it, who);
+  return end(&it, it.n + it.claimed > 0 ? CF_OK : code, 0);
+}
+
+/* How a stage was settled, as what is told, in the first place there; else -1. */
+CALL(jint, ask)(JNIEnv *env, jclass class, jlong at, jint stage) {
   (void)env, (void)class;
   struct core *core = CORE(at);
   cf_stage now;
-  uint32_t code = cf_ledger_stage(&core->ledger, (uint16_t)stage, &now);
-  core->shown.news = 0;
-  if (code == CF_OK) write_change(&core->shown, (uint32_t)stage, &now);
+  uint32_t code = cf_ledger_stage(&core->request, (uint16_t)stage, &now);
+  core->block.told[0].what = UINT32_MAX;
+  if (code == CF_OK && now.kind == CF_IS_SETTLED) write_told(&core->block, 0, (uint32_t)stage, &now.outcome);
   return (jint)code;
 }
 
-/* A core without a ledger, or 0 where there is no memory. */
-METHOD(jlong, create)(JNIEnv *env, jclass class, jboolean timed) {
+/* How many stages for executors are ready, from a number on, and which: as many as there is place for. */
+CALL(jint, ready)(JNIEnv *env, jclass class, jlong at, jint from) {
+  (void)env, (void)class;
+  struct core *core = CORE(at);
+  uint16_t stage;
+  jint n = 0;
+  for (; n < READY && cf_ledger_ready(&core->request, (uint16_t)from, &stage) == CF_OK; from = stage + 1)
+    core->block.ready[n++] = stage;
+  return n;
+}
+
+/* A machine that isn't opened, or 0 where there is no memory. */
+CALL(jlong, create)(JNIEnv *env, jclass class, jboolean timed) {
   (void)env, (void)class;
   struct core *core = calloc(1, sizeof *core);
   if (!core) return 0;
@@ -368,78 +465,101 @@ METHOD(jlong, create)(JNIEnv *env, jclass class, jboolean timed) {
   return 0;
 }
 
-METHOD(jobject, memory)(JNIEnv *env, jclass class, jlong at) {
+CALL(jobject, memory)(JNIEnv *env, jclass class, jlong at) {
   (void)class;
-  return (*env)->NewDirectByteBuffer(env, &CORE(at)->shown, sizeof(struct shown));
+  return (*env)->NewDirectByteBuffer(env, &CORE(at)->block, sizeof(struct block));
 }
 
 static void free_core(struct core *core) {
   leave(&core->link);
-  cf_free(&core->ledger);
+  cf_free(&core->request);
   free(core->moments);
   free(core);
 }
 
-METHOD(void, destroy)(JNIEnv *env, jclass class, jlong at) {
+CALL(void, destroy)(JNIEnv *env, jclass class, jlong at) {
   (void)env, (void)class;
   free_core(CORE(at));
 }
 
-static uint32_t opened(struct core *core, struct plan *plan, uint32_t room, const uint64_t *words, size_t n) {
-  size_t place;
-  if (n == 0 && core->ledger.full && core->plan == plan && core->room >= room)
-    return cf_ledger_restart(&core->ledger);
-  cf_free(&core->ledger);
-  core->plan = plan, core->room = room;
+CALL(void, since)(JNIEnv *env, jclass class, jlong at, jlong since) {
+  (void)env, (void)class;
+  CORE(at)->since = since ? (uint64_t)since : ticks();
+}
+
+/* Of a plan, as at its start. */
+static uint32_t open_anew(struct core *core, struct plan *plan, jint room) {
+  if (core->request.full && core->plan == plan) return cf_request_restart(&core->request);
+  cf_request_sizes sizes = {(uint16_t)room, LANES, OWN};
+  cf_free(&core->request);
+  core->plan = plan;
   pthread_mutex_lock(&plan->lock);
-  uint32_t code = n ? cf_ledger_of(&plan->handle, (uint16_t)room, words, n, &core->ledger, &place)
-                    : cf_ledger_new(&plan->handle, (uint16_t)room, &core->ledger);
+  uint32_t code = cf_request_new(&plan->handle, &sizes, plan->lanes, plan->stages, &core->request);
   pthread_mutex_unlock(&plan->lock);
   return code;
 }
 
-/* A ledger of the plan, or of none where it is 0, in which the first n of these words are done already; behind them stand their moments. */
-METHOD(jint, open)(JNIEnv *env, jclass class, jlong at, jlong plan, jint room, jlongArray kept, jint n) {
+/* Does words that were done before, of which everything was told. A bit says of a stage whether an executor calls its function. */
+static uint32_t do_again(struct core *core, const jlong *words, jint n, const jlong *executors, jsize length) {
+  struct crossing it = {.core = core};
+  uint32_t code = CF_OK;
+  cf_reply reply;
+  for (jint k = 0, stage = (jint)core->plan->stages; k < n && code == CF_OK; k++) {
+    bool attaches = (uint64_t)words[k] >> 56 == 7;
+    uint8_t lane = attaches && stage / 64 < length && (uint64_t)executors[stage / 64] >> stage % 64 & 1 ? BY_EXECUTOR : HERE;
+    code = do_word(&it, (uint64_t)words[k], lane, &reply);
+    stage += attaches, it.n = 0;
+  }
+  for (size_t told = TOLD; told >= TOLD && code == CF_OK;) code = cf_request_told(&core->request, it.told, TOLD, &told);
+  return code;
+}
+
+/* A request of the plan, or of none where it is 0, in which the first n of these words are done already; behind them stand their moments. */
+CALL(jint, open)(JNIEnv *env, jclass class, jlong at, jlong plan, jint room, jlongArray kept, jint n, jlongArray executors) {
   (void)class;
   struct core *core = CORE(at);
   if (room < 0 || room > MOST) return CF_ROOM;
-  jsize length = n ? (*env)->GetArrayLength(env, kept) : 0;
+  jsize length = n ? (*env)->GetArrayLength(env, kept) : 0, bits = executors ? (*env)->GetArrayLength(env, executors) : 0;
   if (n < 0 || n > length) return CF_NO_WORD;
-  jlong *done = n ? (*env)->GetLongArrayElements(env, kept, NULL) : NULL;
-  if (n && !done) return CF_NO_MEMORY;
-  uint32_t code = opened(core, PLAN(plan), (uint32_t)room, (const uint64_t *)done, (size_t)n);
-  core->shown.moments = 0;
-  if (n) {
+  core->block.moments = core->block.events = 0;
+  core->heard = core->within = 0, core->settles = false;
+  core->has_executors = PLAN(plan)->has_executors;
+  uint32_t code = open_anew(core, PLAN(plan), room);
+  if (!n || code != CF_OK) return (jint)code;
+  jlong *done = (*env)->GetLongArrayElements(env, kept, NULL), *own = bits ? (*env)->GetLongArrayElements(env, executors, NULL) : NULL;
+  code = !done || (bits && !own) ? CF_NO_MEMORY : do_again(core, done, n, own, bits);
+  if (code == CF_OK) {
     for (jsize k = n; k + 1 < length; k += 2) {
-      core->shown.events = (int32_t)done[k + 1];
-      note(core, (uint64_t)done[k]);
+      core->block.events = (int32_t)done[k + 1];
+      time_events(core, (uint64_t)done[k]);
     }
-    (*env)->ReleaseLongArrayElements(env, kept, done, JNI_ABORT);
   }
-  core->shown.events = n, core->told = 0;
-  memcpy(core->shown.own, PLAN(plan)->own, sizeof core->shown.own);
+  if (done) (*env)->ReleaseLongArrayElements(env, kept, done, JNI_ABORT);
+  if (own) (*env)->ReleaseLongArrayElements(env, executors, own, JNI_ABORT);
+  core->block.events = n, core->heard = (size_t)n;
   return (jint)code;
 }
 
-/* The n words, and behind them the moments, of each its ticks and how many events were done by then. */
-METHOD(jint, keep)(JNIEnv *env, jclass class, jlong at, jlongArray into, jint n) {
+/* The n words from a place on, and behind them the moments for which there is place: of each its ticks and how many events were done by then. */
+CALL(jint, words)(JNIEnv *env, jclass class, jlong at, jlongArray into, jint from, jint n) {
   (void)class;
   struct core *core = CORE(at);
   uint64_t words[512];
   size_t left;
-  if ((*env)->GetArrayLength(env, into) < n + 2 * core->shown.moments) return CF_NO_WORD;
+  jsize place = (*env)->GetArrayLength(env, into) - n, moments = 2 * core->block.moments;
+  if (from < 0 || n < 0 || place < 0) return CF_NO_WORD;
   for (jint k = 0, part; k < n; k += part) {
-    uint32_t code = cf_ledger_words(&core->ledger, (size_t)k, words, 512, &left);
+    uint32_t code = cf_ledger_words(&core->request, (size_t)from + (size_t)k, words, 512, &left);
     if (code != CF_OK) return (jint)code;
     part = n - k < 512 ? n - k : 512;
     if ((size_t)part > left) return CF_NO_WORD;
     (*env)->SetLongArrayRegion(env, into, k, part, (const jlong *)words);
   }
-  (*env)->SetLongArrayRegion(env, into, n, 2 * core->shown.moments, (const jlong *)core->moments);
+  (*env)->SetLongArrayRegion(env, into, n, place < moments ? place : moments, (const jlong *)core->moments);
   return CF_OK;
 }
 
-/* Plans: rows of form, to which 256 is added where whoever makes the stage ready calls its function; function or -1; count of sources;
+/* Plans: rows of form, to which 256 is added where an executor calls the stage's function; function or -1; count of sources;
  * sources. The fault's code, negated, or the plan. */
 METHOD(jlong, plan)(JNIEnv *env, jclass class, jintArray rows) {
   (void)class;
@@ -447,7 +567,7 @@ METHOD(jlong, plan)(JNIEnv *env, jclass class, jintArray rows) {
   if (!plan) return -CF_NO_MEMORY;
   jsize n = (*env)->GetArrayLength(env, rows);
   jint *row = (*env)->GetIntArrayElements(env, rows, NULL);
-  uint32_t edges = 0, code = row ? cf_builder_new(&plan->handle, 0, 0) : CF_NO_MEMORY;
+  uint32_t code = row ? cf_builder_new(&plan->handle, 0, 0) : CF_NO_MEMORY;
   for (jsize k = 0; k < n && code == CF_OK; k += 3 + row[k + 2]) {
     uint16_t of[MOST], stage;
     if (n - k < 3 || row[k + 2] < 0 || row[k + 2] > n - k - 3) {
@@ -458,8 +578,8 @@ METHOD(jlong, plan)(JNIEnv *env, jclass class, jintArray rows) {
     uint32_t function = row[k + 1] < 0 ? CF_NO_FUNCTION : (uint32_t)row[k + 1], form = (uint32_t)row[k] & 0xff;
     code = row[k + 2] > MOST ? CF_TOO_MANY_EDGES : cf_builder_stage(&plan->handle, form, of, (size_t)row[k + 2], function, &stage);
     if (code != CF_OK) break;
-    if (row[k] & 256) plan->own[stage / 64] |= (uint64_t)1 << stage % 64;
-    plan->stages++, edges += (uint32_t)row[k + 2];
+    if (row[k] & 256) plan->lanes[stage] = BY_EXECUTOR, plan->has_executors = true;
+    plan->stages++;
   }
   if (row) (*env)->ReleaseIntArrayElements(env, rows, row, JNI_ABORT);
   if (code == CF_OK) code = cf_build(&plan->handle);
@@ -468,7 +588,6 @@ METHOD(jlong, plan)(JNIEnv *env, jclass class, jintArray rows) {
     free(plan);
     return -(jlong)code;
   }
-  plan->place = MOST - plan->stages < (MOST_EDGES - edges) / 2 ? MOST - plan->stages : (MOST_EDGES - edges) / 2;
   pthread_mutex_init(&plan->lock, NULL);
   enter(&plans, &plan->link);
   return (jlong)(intptr_t)plan;
@@ -492,24 +611,6 @@ JNIEXPORT void JNICALL JNI_OnUnload(JavaVM *vm, void *reserved) {
   while (plans.after != &plans) free_plan((struct plan *)plans.after);
   cf_free(&empty.handle);
   pthread_mutex_destroy(&empty.lock);
-}
-
-/* The stages that are ready in a ledger that was opened now, as news: from `rest` on. */
-METHOD(jint, ready)(JNIEnv *env, jclass class, jlong at, jint from) {
-  (void)env, (void)class;
-  struct core *core = CORE(at);
-  struct shown *shown = &core->shown;
-  uint16_t stage;
-  shown->news = shown->rest = 0;
-  while (shown->news < NEWS && cf_ledger_ready(&core->ledger, (uint16_t)from, &stage) == CF_OK) {
-    cf_stage now;
-    uint32_t code = cf_ledger_stage(&core->ledger, stage, &now);
-    if (code != CF_OK) return (jint)code;
-    write_change(shown, stage, &now);
-    from = stage + 1;
-  }
-  shown->rest = shown->news == NEWS ? from : 0;
-  return CF_OK;
 }
 
 METHOD(jstring, version)(JNIEnv *env, jclass class) {

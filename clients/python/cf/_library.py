@@ -6,7 +6,7 @@ from types import SimpleNamespace
 from typing import Any, Callable, Dict, List, Sequence
 
 NO_FUNCTION = 0xFFFFFFFF
-VERSION = (1, 4)  # of the library that this module is written for
+VERSION = (1, 7)  # of the library that this module is written for
 
 # The kinds in the structures: of a value, an answer, an outcome, what a function is called with, and a record; and what
 # a record asked.
@@ -178,6 +178,10 @@ CALLS: Dict[str, List[Any]] = {
     "cf_ledger_stages": [_H, _U16_OUT],
     "cf_ledger_grow": [_H, _U16],
     "cf_ledger_restart": [_H],
+    "cf_history_new": [_H, _U16, c.POINTER(_U64), _SIZE, _H],
+    "cf_history_times": [_H, c.POINTER(_U64), _SIZE],
+    "cf_history_say": [_H, _U32, c.c_char_p, _SIZE, _SIZE_OUT, _SIZE],
+    "cf_history_text": [_H, _U32, *_TEXT],
     "cf_run_script": [c.c_char_p, _SIZE, *_TEXT],
     "cf_text_of_outcome": [_OUTCOME, *_TEXT],
     "cf_code_text": [_U32, *_TEXT],

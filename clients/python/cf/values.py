@@ -31,6 +31,7 @@ class Code(enum.IntEnum):
     NOT_HELD = 29
     NO_ROOM = 30
     LOST = 31
+    BAD_TEXT, TOO_MANY = 36, 37
     NULL = 255
 
 

@@ -1,5 +1,5 @@
-"""Lets eight threads make random calls through the module in clients/python, each by its own caller of one desk. The desk is then closed and
-judged by conformance/common/model.py.
+"""Lets 2 to 16 threads make random calls through the module in clients/python, each by its own caller of one desk. The desk is then closed
+and judged by conformance/common/model.py.
 
 The threads call freely, or in turn, or in rounds with a barrier after each, at which callers meet. Each call is noted with the number of
 events that its caller had seen after it. The closed desk has to hold what was noted: the model replays its events, and each reply, refusal
@@ -10,10 +10,9 @@ import threading
 
 import histories
 import model
-from stress_checks import Line, call_of_step, check_pass, check_stages, states_of
+from desk_checks import Line, call_of_step, check_pass, check_stages, states_of
 from translation import Difference, Functions, answer_of, cf, changing, compare, event_of, now_of, outcome_of, plain, reply_of, result_of, told_or_refused
 
-CALLERS = 8
 WAYS = ("free", "rounds", "turns")
 
 
@@ -203,8 +202,8 @@ def opened(rng, plan, sizes):
     """A desk of the sizes. Without room it has as many functions as its plan names, if nothing is said of them."""
     if sizes.room == 0 and rng.random() < 0.4:
         sizes.functions = len(sizes.named)
-        return plan.open_desk(CALLERS, sizes.log, sizes.calls)
-    return plan.open_desk(CALLERS, sizes.log, sizes.calls, sizes.room, sizes.functions)
+        return plan.open_desk(sizes.callers, sizes.log, sizes.calls)
+    return plan.open_desk(sizes.callers, sizes.log, sizes.calls, sizes.room, sizes.functions)
 
 
 def work_all(rng, noted, stages, functions, seen):
@@ -226,8 +225,8 @@ def work_all(rng, noted, stages, functions, seen):
 
 def closed_of(rng, desk, other):
     """Closes a desk with its callers in any order, of which some are missing at first, and one of another desk is refused."""
-    callers = rng.sample(desk.callers, CALLERS)
-    some = rng.randrange(CALLERS)
+    callers = rng.sample(desk.callers, len(desk.callers))
+    some = rng.randrange(len(callers))
     compare("a desk without all", told_or_refused(lambda: desk.close(callers[:some])), ("refused", "NOT_ALL"))
     compare("one of another desk", told_or_refused(lambda: desk.close(other.callers)), ("refused", "OTHER_DESK"))
     closed = desk.close(callers[some:])
@@ -348,14 +347,15 @@ def judge(script, sizes, plan, noted, ends, closed):
     compare_ends(noted, sizes, states, ends)
     check_stages(wanted, history, states, replies)
     outcomes = compare_graphs(plan, sizes, words, replies, closed)
-    compare("the verdict", histories.verdict(account(script, sizes, words, [own.lines for own in noted], outcomes)), "fits")
-    return history, [(own.number, own.lines) for own in noted], states, replies
+    told = account(script, sizes, words, [own.lines for own in noted], outcomes)
+    compare("the verdict", histories.verdict(told), "fits")
+    return told, (history, [(own.number, own.lines) for own in noted], states, replies)
 
 
 def run(seed, plan, script, sizes, seen):
-    """One desk of a script's plan, from its opening to the verdict."""
+    """One desk of a script's plan, from its opening to the verdict: its history, and what it came to."""
     rng = random.Random(f"desk {seed}")
-    sizes.callers, way = CALLERS, WAYS[seed % len(WAYS)]
+    sizes.callers, way = max(2, sizes.callers), WAYS[seed % len(WAYS)]
     sizes.in_turn = way == "turns"
     functions = Functions(model.plan_of(script)[1])
     wrong_openings(plan, sizes)
@@ -367,13 +367,13 @@ def run(seed, plan, script, sizes, seen):
         worked = rng.random() < 0.4 and work_all(rng, noted, sizes.stages, functions, seen)
         ends = [end_of(caller) for caller in desk.callers]
         with closed_of(rng, desk, other) as closed:
-            told = judge(script, sizes, plan, noted, ends, closed)
+            told, came = judge(script, sizes, plan, noted, ends, closed)
     if sizes.in_turn:
         check_turns(going.order)
     if worked:
-        compare("what is ready behind workers", model.lowest_ready(told[2][-1]), None)
+        compare("what is ready behind workers", model.lowest_ready(came[2][-1]), None)
     seen["desks with threads " + way] += 1
-    return told
+    return told, came
 
 
 # What no random run asks for.

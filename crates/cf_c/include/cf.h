@@ -32,6 +32,7 @@
  *   - a ledger: a graph that also keeps the word of each event, for one thread or for several under a lock of yours
  *     (cf_ledger_new);
  *   - a request: a ledger that also knows whom to wake, what to run and until when (cf_request_new);
+ *   - a history: what the words of a ledger or a request did, to be told as a text (cf_history_new);
  *   - a caller of a desk: a desk is a graph that several threads share without a lock, and each thread has a caller's
  *     handle of its own (cf_desk_open);
  *   - a notice: what a caller of a desk has seen, for another thread (cf_desk_notice);
@@ -60,15 +61,16 @@
  * cf_plan_of, cf_desk_open, cf_desk_open_with, cf_desk_notice, cf_close_begin, cf_ledger_new, cf_ledger_of,
  * cf_ledger_apply, cf_ledger_step, cf_ledger_apply_all, cf_ledger_grow, cf_request_new, cf_request_apply,
  * cf_request_next, cf_request_follow, cf_request_deadline, cf_request_pass, cf_request_refuse, cf_request_cancel_all,
- * cf_request_do and cf_run_script. No other call takes any.
+ * cf_request_grow, cf_request_do, cf_history_new, cf_history_times, cf_history_say, cf_history_text and
+ * cf_run_script. No other call takes any.
  *
  * Codes. Each call answers a cf_code, except cf_free and the last four calls of this header. The code is CF_OK (0)
  * if the call did what it was asked. The comments list the other codes of each call. If several apply, the call
  * answers the first of them in the order of the list. These three may come from any call with a pointer or a handle,
  * so the lists leave them out:
  *   - CF_NULL: a pointer is null that may not be. It comes before all other codes. A pointer to an array or a buffer
- *     may be null if the count `n` or the `room` that follows it is 0. The comments name the other pointers that may be
- *     null.
+ *     may be null if the `n`, the `count` or the `room` that follows it is 0. The comments name the other pointers that
+ *     may be null.
  *   - CF_EMPTY: nothing stands behind the handle.
  *   - CF_WRONG_KIND: something of another kind stands behind the handle. Like CF_EMPTY it comes before the codes of the
  *     list, unless the list has it in another place.
@@ -117,7 +119,7 @@ typedef enum {
   CF_EMPTY = 10,              /* nothing stands behind the handle */
   CF_FULL = 11,               /* something stands behind a handle that has to be empty */
   CF_WRONG_KIND = 12,         /* something of another kind stands behind the handle */
-  CF_NO_SUCH_NUMBER = 13,     /* no form, call of an event or a request, kind of failure or code has this number */
+  CF_NO_SUCH_NUMBER = 13,     /* no form, call of an event or a request, kind of failure or text, or code has this number */
   CF_NO_STAGE = 14,           /* a stage that the call names isn't there */
   CF_BAD_ATTACH = 15,         /* an attached stage doesn't fit its form, or its function isn't one of the desk's */
   CF_ROOM = 16,               /* stages plus room would be over 4,096, or edges plus twice the room over 16,384 */
@@ -140,6 +142,8 @@ typedef enum {
   CF_LANES = 33,              /* a request has to have 1 to 16 lanes, and a lane for each stage of its plan */
   CF_NO_LANE = 34,            /* a lane that the call names isn't there */
   CF_PAST_MOMENT = 35,        /* the moment is before the last one */
+  CF_BAD_TEXT = 36,           /* a text ends before it begins or behind its bytes, or isn't UTF-8 */
+  CF_TOO_MANY = 37,           /* there are more texts or times than there can be of what they are said of */
   CF_NULL = 255               /* a pointer is null that may not be; nothing was done */
 } cf_code;
 
@@ -990,7 +994,7 @@ typedef struct { cf_reply reply; size_t told; } cf_applied;
  *   - CF_NO_LANE: there is no such lane.
  *   - CF_NO_MEMORY.
  *   - CF_NO_WORD, CF_NO_STAGE: as for cf_ledger_apply.
- *   - CF_NO_ROOM: there is no room for the stage that the word attaches. */
+ *   - CF_NO_ROOM: there is no room for the stage that the word attaches. cf_request_grow makes some. */
 uint32_t cf_request_apply(cf_handle *request, uint64_t word, uint8_t lane, cf_applied *applied, cf_told *told, size_t room);
 
 /* What cf_request_next is asked, and how many stages there were to tell.
@@ -1071,9 +1075,17 @@ uint32_t cf_request_ready(cf_handle *request, uint8_t lane, uint16_t *ready);
  * Codes: CF_NO_MEMORY, and CF_NO_WORD if who is above 63. */
 uint32_t cf_request_cancel_all(cf_handle *request, uint8_t who, cf_told *told, size_t room, size_t *n);
 
+/* Makes room for more stages, by doing all words again. Nothing else changes. There is room for as many more as there
+ * are stages by now, and for 16 more at least. If the bounds of CF_ROOM don't let so many in, there is room for as many
+ * more as they let in.
+ *
+ * Codes: CF_ROOM if not even one more could come, and CF_NO_MEMORY. */
+uint32_t cf_request_grow(cf_handle *request);
+
 /* Starts the request again, as it was opened: nothing is done, follows or is due, and the moment is 0. The lanes of the
- * plan's stages, the room and the own caller stay. The request keeps its memory. So it costs less to keep one for the
- * next request of the plan than to open a new one. Only the stages that are settled from the start are to be told then. */
+ * plan's stages, the room, with what cf_request_grow made, and the own caller stay. The request keeps its memory. So it
+ * costs less to keep one for the next request of the plan than to open a new one. Only the stages that are settled from
+ * the start are to be told then. */
 uint32_t cf_request_restart(cf_handle *request);
 
 /* A call of a request, as a row for cf_request_do. It asks for the call of its number:
@@ -1106,6 +1118,75 @@ typedef struct { size_t calls; size_t told; } cf_request_done;
  * then, `done` and `told` are written, and the row of the refused call is calls[done->calls]. */
 uint32_t cf_request_do(cf_handle *request, cf_request_call *calls, size_t n, cf_request_done *done, cf_told *told, size_t room);
 
+/* ---- Histories: what happened, told as texts ---- */
+
+/* A history is made of a plan and of words, as cf_ledger_words tells them: of a ledger, of a request, or kept in a store.
+ * It tells what they did as a text for people or for the programs `cf` and `cf_look`. docs/FORMATS.md ("Histories in
+ * words") says how each event is told. What the words were answered is worked out anew. A history stays as it is while
+ * the ledger goes on. So if several threads share a request, your program takes the words under its lock, and makes the
+ * history after that.
+ *
+ * A library knows stages, callers, values and exceptions by numbers alone. Your program may say what they are called and
+ * when each event was done. All of that may be left out, and may be said in any order. What it says can't end the line or
+ * the string in which it is told.
+ *
+ * Makes a history, of which nothing is said yet.
+ *   - plan: the plan. It stays behind its handle.
+ *   - room: the room for attached stages, as for cf_ledger_new, with what was made by cf_ledger_grow.
+ *   - words, n: n words. A word that attaches a stage for which there is no room is told, too.
+ *   - history: an empty handle, behind which the history is put.
+ *
+ * Codes:
+ *   - CF_FULL, CF_EMPTY, CF_WRONG_KIND, CF_ROOM: as for cf_graph_new.
+ *   - CF_NO_WORD, CF_NO_STAGE: as for cf_ledger_apply, of the first word that can't be done.
+ *   - CF_NO_MEMORY. */
+uint32_t cf_history_new(cf_handle *plan, uint16_t room, const uint64_t *words, size_t n, cf_handle *history);
+
+/* Says when the events were done, in place of what was said of it before.
+ *   - times, n: the time of each word, in nanoseconds from any moment on. With fewer times than words, lines have no times.
+ *
+ * Codes: CF_TOO_MANY if there are more times than words, and CF_NO_MEMORY. */
+uint32_t cf_history_times(cf_handle *history, const uint64_t *times, size_t n);
+
+/* What cf_history_say says:
+ *   - CF_SAY_NAME: the name of the whole, which is one text.
+ *   - CF_SAY_STAGES, CF_SAY_CALLERS: the names of all stages and of all callers, by their numbers from 0 on. An empty
+ *     name leaves the stage that of its form, and the caller its number. So do names that aren't there.
+ *   - CF_SAY_VALUES, CF_SAY_ERRORS: what values and codes of exceptions stand for, by their numbers from 0 on. One of
+ *     which nothing is said is told as a number. */
+enum { CF_SAY_NAME = 0, CF_SAY_STAGES = 1, CF_SAY_CALLERS = 2, CF_SAY_VALUES = 3, CF_SAY_ERRORS = 4 };
+
+/* Says what things are called, in place of what was said of them before.
+ *   - what: one of CF_SAY_.. .
+ *   - text, n: n bytes, in which the texts stand one behind the other.
+ *   - ends, count: where each of `count` texts ends, in bytes from the beginning. The first text begins at 0, and each
+ *     further one where the one before it ends.
+ *
+ * Codes:
+ *   - CF_NO_SUCH_NUMBER: `what` is none of them.
+ *   - CF_TOO_MANY: more than one name of the whole, than 4,096 names of stages, or than 64 names of callers.
+ *   - CF_BAD_TEXT: an end is below the one before it or above n, or a text isn't UTF-8.
+ *   - CF_NO_MEMORY, which may also come before CF_BAD_TEXT. */
+uint32_t cf_history_say(cf_handle *history, uint32_t what, const uint8_t *text, size_t n, const size_t *ends, size_t count);
+
+/* As what a history is told:
+ *   - CF_LINES: for people. The first line says how much happened. Then there is a line for each event, and below it one
+ *     for each stage that it settled. Each line ends in a line feed.
+ *   - CF_LINE: for a log. It is one line without its end: how many events and stages there are, how long it took, how
+ *     many stages failed and which was the first of them, how many are open and which is the lowest of them.
+ *   - CF_ACCOUNT: what `cf_look check` judges and `cf_look page` shows, a line of JSON.
+ *   - CF_SCRIPT: what `cf run` does again, and `cf_look` draws, a line of JSON.
+ *   - CF_REPORT: what `cf run` prints of that script. */
+enum { CF_LINES = 0, CF_LINE = 1, CF_ACCOUNT = 2, CF_SCRIPT = 3, CF_REPORT = 4 };
+
+/* Tells a history as a text.
+ *   - kind: CF_LINES, CF_LINE, CF_ACCOUNT, CF_SCRIPT or CF_REPORT.
+ *   - text, room: a buffer of `room` bytes, which gets the text as far as there is room. No zero byte follows it.
+ *   - length: gets the length of the whole text, in bytes, which may be more than `room`.
+ *
+ * Codes: CF_NO_SUCH_NUMBER if there is no such kind, and CF_NO_MEMORY. */
+uint32_t cf_history_text(cf_handle *history, uint32_t kind, uint8_t *text, size_t room, size_t *length);
+
 /* ---- Scripts and texts ---- */
 
 /* Each of these calls writes a text into a buffer of `room` bytes, as far as there is room. It writes the length of
@@ -1137,13 +1218,13 @@ uint32_t cf_code_text(uint32_t code, uint8_t *text, size_t room, size_t *length)
 /* The version of this header. A library of a later version with the same first number has all that stands here,
  * unchanged. */
 #define CF_VERSION_MAJOR 1
-#define CF_VERSION_MINOR 6
+#define CF_VERSION_MINOR 7
 #define CF_VERSION_PATCH 0
 
 /* None of the next four calls answers a cf_code. The texts that they answer are static and end in a zero byte. Your
  * program doesn't free them. */
 
-/* Answers the version of the library, such as "1.6.0". */
+/* Answers the version of the library, such as "1.7.0". */
 const char *cf_version(void);
 
 /* Answers whether a program that was written for this version of the header runs with the library. */

@@ -6,8 +6,8 @@
     nulls.py --all HEADER      those of all calls: work.c, beside this, has the others, which test their pointers themselves
 
 The header is the only table: a function with a body, `static inline`, is passed over, and each other call gets a function of its name,
-which tests the pointers and calls the proved export under the name proved_NAME. A pointer that a count follows, `size_t n` or
-`size_t room`, may be null where that is 0; no other may be. Where one is null the call answers CF_NULL, and a call without an answer does
+which tests the pointers and calls the proved export under the name proved_NAME. A pointer that a count follows, `size_t n`,
+`size_t count` or `size_t room`, may be null where that is 0; no other may be. Where one is null the call answers CF_NULL, and a call without an answer does
 nothing. Calls that answer no code, but a text, a size or a bool, are facts.py's. It ends with status 1 where a declaration isn't
 understood.
 """
@@ -18,7 +18,7 @@ from pathlib import Path
 DECLARED = re.compile(r"^(uint32_t|void) (cf_[a-z0-9_]+)\(([^)]*)\);", re.M)
 INLINE = re.compile(r"^static inline .*?^\}$", re.M | re.S)
 TOLD = re.compile(r"^(?:const char \*|size_t |bool )(cf_[a-z0-9_]+)\(", re.M)  # (facts.py's)
-COUNTS = ("size_t", False, "n"), ("size_t", False, "room")
+COUNTS = ("size_t", False, "n"), ("size_t", False, "count"), ("size_t", False, "room")
 PARAMETER = re.compile(r"(const )?([a-z0-9_]+) (\*?)([a-z0-9_]+)$")
 
 

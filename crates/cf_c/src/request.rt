@@ -1,7 +1,7 @@
 //! One request of a service as a machine, which tells each settled stage once.
 ghost use Rattle.cf_c_handles.specs.Building.{kind_of};
 ghost use Rattle.cf_c_handles.specs.Handles.{HandleDoes, HandleOpens, HandleTells, HandleWrites};
-ghost use Rattle.cf_c_handles.specs.RequestCalls.{AppliesIn, CancelsIn, FollowsIn, GoesOnIn, OfRequest, PassesIn, RefusesIn, RestartsIn, SetsDeadlineIn, TellsIn, TellsNextIn, TellsReadyOf};
+ghost use Rattle.cf_c_handles.specs.RequestCalls.{AppliesIn, CancelsIn, FollowsIn, GoesOnIn, GrowsIn, OfRequest, PassesIn, RefusesIn, RestartsIn, SetsDeadlineIn, TellsIn, TellsNextIn, TellsReadyOf};
 ghost use Rattle.cf_c_handles.specs.RequestRows.{DoesCallsIn};
 ghost use Rattle.cf_c_handles.specs.Requests.{RequestOf};
 
@@ -184,6 +184,14 @@ pub extern "C" fn cf_request_cancel_all(
     ensures { HandleWrites (CancelsIn who) h.old h.new result (told.old, n.old) (told.new, n.new) }
 {
     ask!(alloc, h, held => doing::cancel_all(&mut held, who, told, n))
+}
+
+/// Makes room for more stages.
+#[unsafe(no_mangle)]
+pub extern "C" fn cf_request_grow(alloc: Global, h: &mut CfHandle) -> u32
+    ensures { HandleDoes GrowsIn h.old h.new result }
+{
+    ask!(alloc, h, held => doing::grow(alloc, &mut held))
 }
 
 /// Starts again. It takes no memory.

@@ -5,6 +5,7 @@ pub mod ClosedLemmas
 pub mod CodeNames
 pub mod DeskSteps
 pub mod EventsBack
+pub mod Histories
 pub mod LedgerSteps
 pub mod News
 pub mod RequestRows

@@ -8,6 +8,7 @@ pub mod Desks
 pub mod EventWords
 pub mod Graphs
 pub mod Handles
+pub mod Histories
 pub mod LedgerSteps
 pub mod Ledgers
 pub mod Meetings

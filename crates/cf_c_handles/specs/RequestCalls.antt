@@ -2,6 +2,7 @@
 use Rattle.std.specs.Prelude.{◌≡◌, ◌⊎◌, ℕ, ◌<◌, ◌≤◌, Result, Ok, Err, List, length}
 use Rattle.cf_model.specs.declared.events.Reply.{Reply}
 use Rattle.cf_request.specs.Deadlines.{Forgets, IsNextOpen, NoneOpen}
+use Rattle.cf_request.specs.Growing.{Grows, IsNoGrowth}
 use Rattle.cf_request.specs.Lanes.{ready_below}
 use Rattle.cf_request.specs.Machines.{AppliesWord, CancelsAll, GoesOn, IsNoCancel, IsNoDeadline, IsNoFollow, IsNoNext, IsNoPass, IsNoWord, Machine, OnlyFinds, Passes, Refuses, Restarts, SetsDeadline, SetsFollow, free_in, open_in, state_in}
 use Rattle.cf_request.specs.declared.deadlines.Deadline.{Deadline}
@@ -14,7 +15,7 @@ use Rattle.cf_c_handles.specs.Replies.{as_reply}
 use Rattle.cf_c_handles.specs.Requests.{TellsInto, as_deadline}
 use Rattle.cf_c_handles.specs.Tasks.{held_by}
 use Rattle.cf_c_handles.specs.declared.code.Code.{Code}
-use Rattle.cf_c_handles.specs.declared.code.Code.TheVariants.{NoLane, NoMemory, NoStage, Nothing, PastMoment, WrongKind}
+use Rattle.cf_c_handles.specs.declared.code.Code.TheVariants.{NoLane, NoMemory, NoStage, Nothing, PastMoment, Room, WrongKind}
 use Rattle.cf_c_handles.specs.declared.handle.object.Object.{Object}
 use Rattle.cf_c_handles.specs.declared.handle.object.Object.TheVariants.{Request}
 use Rattle.cf_c_handles.specs.declared.values.request.CfApplied.{CfApplied}
@@ -39,6 +40,7 @@ abbrev pub machine_code : MachineFault → Code
 machine_code faults.NoMemory = NoMemory
 machine_code faults.NoStage = NoStage
 machine_code faults.Past = PastMoment
+machine_code faults.Full = Room
 
 -- a fault is due, and this is its code
 pub record IsDueAs {F : Type 0} (code_of : F → Code) (IsDue : F → Type 0) (code : Code) : Type 0 where
@@ -79,6 +81,7 @@ abbrev pub IsNoRefusal : Machine → MachineFault → Type 0
 IsNoRefusal m faults.NoMemory = free_in m < open_in m
 IsNoRefusal m faults.NoStage = ⊥
 IsNoRefusal m faults.Past = ⊥
+IsNoRefusal m faults.Full = ⊥
 
 abbrev pub RefusesIn : ℕ → ℕ → Object → List CfTold × ℕ → Result (Unit {0}) Code → Object → List CfTold × ℕ → Type 0
 RefusesIn lane code (Request m) had r new has = IfLane lane m r new (has ≡ had) (TellsAfter (Refuses lane code) IsNoRefusal (Request m) had r new has)
@@ -150,6 +153,12 @@ abbrev pub SetsDeadlineIn : Deadline → Object → Result (Unit {0}) Code → O
 SetsDeadlineIn d (Request m) (Ok done) new = (now : Machine) × SetsDeadline d m now × (new ≡ Request now)
 SetsDeadlineIn d (Request m) (Err code) new = IsDueAs machine_code (IsNoDeadline d (state_in m)) code × (new ≡ Request m)
 SetsDeadlineIn d held r new = (r ≡ Err WrongKind) × (new ≡ held)
+
+-- there is room for more stages, or it is refused for a fault that is due
+abbrev pub GrowsIn : Object → Result (Unit {0}) Code → Object → Type 0
+GrowsIn (Request m) (Ok done) new = (now : Machine) × Grows m now × (new ≡ Request now)
+GrowsIn (Request m) (Err code) new = IsDueAs machine_code (IsNoGrowth m.teller.ledger) code × (new ≡ Request m)
+GrowsIn held r new = (r ≡ Err WrongKind) × (new ≡ held)
 
 -- it is as it was opened
 abbrev pub RestartsIn : Object → Result (Unit {0}) Code → Object → Type 0

@@ -73,6 +73,10 @@ pub enum Code {
     NoLane,
     /// 35: the moment is before the last one.
     PastMoment,
+    /// 36: a text ends before it begins or behind the bytes that it stands in, or it isn't UTF-8.
+    BadText,
+    /// 37: there are more texts or times than stages, callers or events can be.
+    TooMany,
 }
 
 impl From<AllocError> for Code {
@@ -135,6 +139,8 @@ pub fn text_of(number: u32) -> Option<&'static str>
         33 => Some("Lanes"),
         34 => Some("NoLane"),
         35 => Some("PastMoment"),
+        36 => Some("BadText"),
+        37 => Some("TooMany"),
         255 => Some("Null"),
         _ => None,
     }

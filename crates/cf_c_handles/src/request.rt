@@ -71,6 +71,7 @@ fn machine_code(fault: MachineFault) -> Code
         MachineFault::NoMemory => Code::NoMemory,
         MachineFault::NoStage => Code::NoStage,
         MachineFault::Past => Code::PastMoment,
+        MachineFault::Full => Code::Room,
     }
 }
 

@@ -27,11 +27,7 @@ use Rattle.cf_event.specs.Words.{word_of}
 use Rattle.cf_event.specs.Decoding.{decoded, decoded_with, event_of}
 use Rattle.cf_ledger.specs.declared.faults.LedgerFault.{LedgerFault}
 use Rattle.cf_ledger.specs.declared.faults.LedgerFault.TheVariants.{NoMemory, NoEvent, NoStage, NoRoom}
-use Rattle.cf_ledger.specs.Ledgers.{AreTaken, HasRoomFor, IsFirstRefused, LedgerRefuses, IsTaken}
-
--- the state with room for more
-abbrev pub roomier : ℕ → State → State
-roomier more s = record s { plan = record s.plan { room = s.plan.room + more } }
+use Rattle.cf_ledger.specs.Ledgers.{AreTaken, HasRoomFor, IsFirstRefused, LedgerRefuses, IsTaken, roomier}
 
 abbrev both : {A : Type 0} → ℕ → A × State → A × State
 both more answer = (answer.0, roomier more answer.1)

@@ -116,3 +116,7 @@ opened_with plan room words free = ledger_of (with_room plan room) words free
 -- the ledger with room for more stages, by which nothing else changes
 abbrev pub with_more : Ledger → ℕ → Ledger
 with_more ledger more = record ledger { plan = record ledger.plan { room = ledger.plan.room + more } }
+
+-- the state with room for more stages
+abbrev pub roomier : ℕ → State → State
+roomier more s = record s { plan = record s.plan { room = s.plan.room + more } }

@@ -6,7 +6,7 @@ ghost use Rattle.cf_model.specs.States.{claim_at, is_ready, lowest_ready_of, out
 ghost use Rattle.cf_model.specs.declared.events.Event.TheVariants.{Claim as Claims, Finish as FinishesAs};
 ghost use Rattle.cf_model.specs.declared.events.Reply.TheVariants.{Claim as ToldClaim, Finish as ToldFinish};
 ghost use Rattle.cf_event.specs.Words.{word_of};
-ghost use Rattle.cf_ledger.specs.Ledgers.{Does, DoesAll, HasRoomFor, IsFirstMisfit, IsShort, LedgerRefuses, opened_with, state_at, state_of, with_more};
+ghost use Rattle.cf_ledger.specs.Ledgers.{AreTaken, Does, DoesAll, HasRoomFor, IsFirstMisfit, IsShort, LedgerRefuses, opened_with, roomier, state_at, state_of, with_more};
 ghost use Rattle.cf_ledger.specs.Steps.{IsNoStep, IsShortOfTwo, NoneReadyFrom, Steps};
 ghost use Rattle.cf_event.specs.Decoding.{decoded, event_of};
 
@@ -443,6 +443,8 @@ impl Ledger {
     pub fn grow(&mut self, alloc: Global, more: u16) -> Result<(), LedgerFault>
         requires place { has_place self.old.plan.stages (self.old.plan.room + more) ≡ true }
         ensures grown { OnOk result (self.new ≡ with_more self.old more) }
+        ensures taken { AreTaken (start self.old.plan) self.old.events }
+        ensures state { OnOk result (state_of self.new ≡ roomier more (state_of self.old)) }
         ensures unchanged { OnErr result (self.new ≡ self.old) }
         ensures refused { IfErr result (λ fault. fault ≡ LedgerFault.NoMemory) }
     {

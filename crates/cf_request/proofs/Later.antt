@@ -1,5 +1,5 @@
 -- Ledgers with more events behind those of before, and what their events leave.
-use Rattle.std.proofs.Common.{◌≡◌, ◌≢◌, ℕ, zero, suc, ◌<◌, ◌≤◌, Bool, true, false, Option, Some, List, [], ◌∷◌, ◌++◌, All, length, map, take, slice_get, refl, ap, sym, ◌∙◌, arith, subst, append_assoc, append-nil}
+use Rattle.std.proofs.Common.{◌≡◌, ◌≢◌, ℕ, zero, suc, ◌+◌, ◌<◌, ◌≤◌, Bool, true, false, Option, Some, List, [], ◌∷◌, ◌++◌, All, length, map, take, slice_get, refl, ap, sym, ◌∙◌, arith, subst, append_assoc, append-nil}
 use Rattle.std.proofs.lemmas.List.Elements.{All-append, All-cons, All-head, All-nil, All-tail}
 use Rattle.cf_forms.specs.declared.forms.Args.{Args}
 use Rattle.cf_forms.specs.Plans.{Planned, function_at}
@@ -9,7 +9,7 @@ use Rattle.cf_model.specs.declared.events.Event.TheVariants.{Claim as Claims}
 use Rattle.cf_model.specs.declared.events.Reply.{Reply}
 use Rattle.cf_model.specs.declared.events.Reply.TheVariants.{Claim as ToldClaim}
 use Rattle.cf_model.specs.declared.replies.Claimed.TheVariants.{Granted}
-use Rattle.cf_model.specs.Claims.{is_claimable}
+use Rattle.cf_model.specs.Claims.{claimable_count, is_claimable}
 use Rattle.cf_model.specs.Events.{answered, claiming, state_after}
 use Rattle.cf_model.specs.Graphs.{stage_in}
 use Rattle.cf_model.specs.States.{State, is_ready, stage_at, start}
@@ -18,10 +18,44 @@ use Rattle.cf_model.proofs.Histories.{claiming-not_claimable, ready-claimable, r
 use Rattle.cf_model.proofs.Shape.{answered-frame}
 use Rattle.cf_event.specs.Decoding.{decoded, decoded_with, event_of}
 use Rattle.cf_event.specs.Words.{word_of}
-use Rattle.cf_ledger.specs.Ledgers.{AreTaken, Does, IsFirstMisfit, IsFirstRefused, IsTaken, Ledger, LedgerRefuses, state_at, state_of}
+use Rattle.cf_ledger.specs.Ledgers.{AreTaken, Does, IsFirstMisfit, IsFirstRefused, IsTaken, Ledger, LedgerRefuses, roomier, state_at, state_of, with_more}
+use Rattle.cf_ledger.proofs.Growth.{answered_more, state_more, taken_more}
 use Rattle.cf_ledger.specs.declared.faults.LedgerFault.{LedgerFault}
 use Rattle.cf_ledger.specs.declared.faults.LedgerFault.TheVariants.{NoMemory, NoEvent, NoStage, NoRoom}
 use Rattle.cf_request.specs.Rows.{HasWord, IsByWords, IsLater, Job, WasGranted, unclaimed}
+
+-- ---- more room
+
+-- no more is the same
+more_none : (l : Ledger) → with_more l 0 ≡ l
+more_none l = ap (λ (n : ℕ). let x : Ledger = record l { plan = record l.plan { room = n } } in x) (let none : l.plan.room + 0 ≡ l.plan.room = omega arith in none)
+
+roomier_none : (s : State) → roomier 0 s ≡ s
+roomier_none s = ap (λ (n : ℕ). let x : State = record s { plan = record s.plan { room = n } } in x) (let none : s.plan.room + 0 ≡ s.plan.room = omega arith in none)
+
+roomier_both : (m n : ℕ) (s : State) → roomier n (roomier m s) ≡ roomier (m + n) s
+roomier_both m n s = ap (λ (k : ℕ). let x : State = record s { plan = record s.plan { room = k } } in x) (let both : s.plan.room + m + n ≡ s.plan.room + (m + n) = omega arith in both)
+
+taken_take : (n : ℕ) (s : State) (es : List Event) → AreTaken s es → AreTaken s (take n es)
+taken_take zero s es h = tt
+taken_take (suc n) s [] h = tt
+taken_take (suc n) s (e ∷ es) h = (h.0, taken_take n ((answered s e).1) es h.1)
+
+-- the first so many of a longer list
+take_seen : (n : ℕ) (xs ys : List Event) → take (length (take n xs)) (xs ++ ys) ≡ take n xs
+take_seen zero [] [] = refl
+take_seen zero [] (y ∷ ys) = refl
+take_seen zero (x ∷ xs) ys = refl
+take_seen (suc n) [] [] = refl
+take_seen (suc n) [] (y ∷ ys) = refl
+take_seen (suc n) (x ∷ xs) ys = ap (λ (l : List Event). x ∷ l) (take_seen n xs ys)
+
+take_all : (xs : List Event) → take (length xs) xs ≡ xs
+take_all [] = refl
+take_all (x ∷ xs) = ap (λ (l : List Event). x ∷ l) (take_all xs)
+
+state_all : (l : Ledger) → state_at l (length l.events) ≡ state_of l
+state_all l = ap (state_after (start l.plan)) (take_all l.events)
 
 -- ---- later ledgers
 
@@ -30,30 +64,75 @@ taken_append s [] ys h k = k
 taken_append s (x ∷ xs) ys h k = (h.0, taken_append ((answered s x).1) xs ys h.1 k)
 
 -- the state that the events behind leave
-pub state_later : (old new : Ledger) → (h : IsLater old new) → state_of new ≡ state_after (state_of old) h.more
+pub state_later : (old new : Ledger) → (h : IsLater old new) → state_of new ≡ state_after (roomier h.grown (state_of old)) h.more
 state_later old new h =
-    ap (λ (p : Planned). state_after (start p) new.events) h.plan ∙ ap (state_after (start old.plan)) h.events ∙ state_after-append (start old.plan) old.events h.more
+    let roomy = with_more old h.grown in
+    ap (λ (p : Planned). state_after (start p) new.events) h.plan ∙ ap (state_after (start roomy.plan)) h.events ∙ state_after-append (start roomy.plan) old.events h.more
+    ∙ ap (λ (s : State). state_after s h.more) (sym (state_all roomy) ∙ h.states (length old.events) ∙ ap (roomier h.grown) (state_all old))
+
+-- there is no more room
+later_by : (old new : Ledger) (more : List Event) → new.plan ≡ old.plan → new.events ≡ old.events ++ more → AreTaken (state_of old) more → All HasWord more → IsLater old new
+later_by old new more plan events taken words = record {
+  grown = 0;
+  plan = plan ∙ sym (ap (λ (l : Ledger). l.plan) (more_none old));
+  states = λ place. ap (λ (l : Ledger). state_at l place) (more_none old) ∙ sym (roomier_none (state_at old place));
+  more = more;
+  events = events;
+  taken = subst (λ (s : State). AreTaken s more) (sym (roomier_none (state_of old))) taken;
+  words = words;
+}
 
 pub later_free : (old new : Ledger) → new.plan ≡ old.plan → new.events ≡ old.events → IsLater old new
-later_free old new plan events = record { plan = plan; more = []; events = events ∙ sym (append-nil old.events); taken = tt; words = All-nil HasWord }
-
-pub later_then : (a b c : Ledger) → IsLater a b → IsLater b c → IsLater a c
-later_then a b c h k = record {
-  plan = k.plan ∙ h.plan;
-  more = h.more ++ k.more;
-  events = k.events ∙ ap (λ (l : List Event). l ++ k.more) h.events ∙ append_assoc a.events h.more k.more;
-  taken = taken_append (state_of a) h.more k.more h.taken (subst (λ (s : State). AreTaken s k.more) (state_later a b h) k.taken);
-  words = All-append HasWord h.more k.more h.words k.words;
-}
+later_free old new plan events = later_by old new [] plan (events ∙ sym (append-nil old.events)) tt (All-nil HasWord)
 
 pub later_word : (old new : Ledger) (word : ℕ) (reply : Reply) → Does word old reply new → IsLater old new
-later_word old new word reply does = record {
-  plan = ap (λ (l : Ledger). l.plan) does.written;
-  more = does.event ∷ [];
-  events = ap (λ (l : Ledger). l.events) does.written;
-  taken = (does.taken, tt);
-  words = All-cons HasWord does.event [] (ap event_of does.named ∙ does.read) (All-nil HasWord);
+later_word old new word reply does =
+    later_by old new (does.event ∷ []) (ap (λ (l : Ledger). l.plan) does.written) (ap (λ (l : Ledger). l.events) does.written) (does.taken, tt)
+    (All-cons HasWord does.event [] (ap event_of does.named ∙ does.read) (All-nil HasWord))
+
+-- there is more
+pub later_grown : (l : Ledger) (more : ℕ) → AreTaken (start l.plan) l.events → IsLater l (with_more l more)
+later_grown l more taken = record {
+  grown = more;
+  plan = refl;
+  states = λ place. state_more more (start l.plan) (take place l.events) (taken_take place (start l.plan) l.events taken);
+  more = [];
+  events = sym (append-nil l.events);
+  taken = tt;
+  words = All-nil HasWord;
 }
+
+-- the plan of what is later than later
+plan_then : (a b c : Ledger) → (h : IsLater a b) → (k : IsLater b c) → (with_more b k.grown).plan ≡ (with_more a (h.grown + k.grown)).plan
+plan_then a b c h k =
+    ap (λ (p : Planned). let x : Planned = record p { room = p.room + k.grown } in x) h.plan
+    ∙ ap (λ (n : ℕ). let x : Planned = record a.plan { room = n } in x) (let both : a.plan.room + h.grown + k.grown ≡ a.plan.room + (h.grown + k.grown) = omega arith in both)
+
+states_then : (a b c : Ledger) → (h : IsLater a b) → (k : IsLater b c) → (place : ℕ) → state_at (with_more a (h.grown + k.grown)) place ≡ roomier (h.grown + k.grown) (state_at a place)
+states_then a b c h k place =
+    let seen = take place a.events in
+    let same : take (length seen) b.events ≡ seen = ap (take (length seen)) h.events ∙ take_seen place a.events h.more in
+    let before : state_at b (length seen) ≡ roomier h.grown (state_at a place) = ap (λ (l : List Event). state_after (start b.plan) l) same ∙ ap (λ (p : Planned). state_after (start p) seen) h.plan ∙ h.states place in
+    ap (λ (p : Planned). state_after (start p) seen) (sym (plan_then a b c h k))
+    ∙ ap (state_after (start (with_more b k.grown).plan)) (sym same)
+    ∙ k.states (length seen)
+    ∙ ap (roomier k.grown) before
+    ∙ roomier_both h.grown k.grown (state_at a place)
+
+pub later_then : (a b c : Ledger) → IsLater a b → IsLater b c → IsLater a c
+later_then a b c h k =
+    let s = roomier h.grown (state_of a) in
+    let next : roomier k.grown (state_of b) ≡ state_after (roomier k.grown s) h.more = ap (roomier k.grown) (state_later a b h) ∙ sym (state_more k.grown s h.more h.taken) in
+    record {
+      grown = h.grown + k.grown;
+      plan = k.plan ∙ plan_then a b c h k;
+      states = states_then a b c h k;
+      more = h.more ++ k.more;
+      events = k.events ∙ ap (λ (l : List Event). l ++ k.more) h.events ∙ append_assoc a.events h.more k.more;
+      taken = subst (λ (r : State). AreTaken r (h.more ++ k.more)) (roomier_both h.grown k.grown (state_of a))
+          (taken_append (roomier k.grown s) h.more k.more (taken_more k.grown s h.more h.taken) (subst (λ (r : State). AreTaken r k.more) next k.taken));
+      words = All-append HasWord h.more k.more h.words k.words;
+    }
 
 -- ---- words that are done again
 
@@ -86,7 +165,7 @@ pub by_words : (old new : Ledger) → old.events ≡ [] → IsLater old new → 
 by_words old new none h =
     let all : new.events ≡ h.more = h.events ∙ ap (λ (l : List Event). l ++ h.more) none in
     let words = subst (All HasWord) (sym all) h.words in
-    let first : state_of old ≡ start new.plan = ap (state_after (start old.plan)) none ∙ ap start (sym h.plan) in
+    let first : roomier h.grown (state_of old) ≡ start new.plan = ap (λ (es : List Event). roomier h.grown (state_after (start old.plan) es)) none ∙ ap start (sym h.plan) in
     let taken = subst (AreTaken (start new.plan)) (sym all) (subst (λ (s : State). AreTaken s h.more) first h.taken) in
     record { read = read_all new.events words; done = λ k why. misfit_none new.plan new.events k why words taken }
 
@@ -99,8 +178,15 @@ unclaimed_after s (e ∷ es) =
     let one = answered-claimable s e in
     omega (arith, rest, one)
 
-pub unclaimed_later : (old new : Ledger) → IsLater old new → unclaimed (state_of new) ≤ unclaimed (state_of old)
-unclaimed_later old new h = subst (λ (s : State). unclaimed s ≤ unclaimed (state_of old)) (sym (state_later old new h)) (unclaimed_after (state_of old) h.more)
+-- as many, and as many more as there is more room
+pub unclaimed_later : (old new : Ledger) → IsLater old new → unclaimed (state_of new) + old.plan.room ≤ unclaimed (state_of old) + new.plan.room
+unclaimed_later old new h =
+    let s = state_of old in
+    let now = ap unclaimed (state_later old new h) in
+    let less = unclaimed_after (roomier h.grown s) h.more in
+    let before : unclaimed (roomier h.grown s) ≡ unclaimed s + h.grown = (let is : unclaimed (roomier h.grown s) ≡ claimable_count s + (s.plan.room + h.grown) = refl in omega (arith, is)) in
+    let room = ap (λ (p : Planned). p.room) h.plan in
+    omega (arith, now, less, before, room)
 
 pub granted_fewer : (s : State) (who i : ℕ) (args : Args) → (answered s (Claims who i)).0 ≡ ToldClaim (Granted args) → unclaimed ((answered s (Claims who i)).1) < unclaimed s
 granted_fewer s who i args told =
@@ -112,7 +198,7 @@ granted_fewer s who i args told =
 -- ---- what can't be claimed any more
 
 pub closed_later : (old new : Ledger) (i : ℕ) → IsLater old new → is_claimable (stage_at (state_of old) i) ≡ false → is_claimable (stage_at (state_of new) i) ≡ false
-closed_later old new i h closed = ap (λ (s : State). is_claimable (stage_at s i)) (state_later old new h) ∙ state_after-not_claimable (state_of old) h.more i closed
+closed_later old new i h closed = ap (λ (s : State). is_claimable (stage_at s i)) (state_later old new h) ∙ state_after-not_claimable (roomier h.grown (state_of old)) h.more i closed
 
 open_by : (b : Bool) → (b ≡ false → ⊥) → b ≡ true
 open_by true h = refl
@@ -142,14 +228,16 @@ take_front (x ∷ xs) ys (suc p) e h = ap (λ (l : List Event). x ∷ l) (take_f
 
 pub granted_later : (old new : Ledger) (job : Job) → IsLater old new → WasGranted old job → WasGranted new job
 granted_later old new job h g =
-    let same : state_at new g.place ≡ state_at old g.place =
+    let roomy = with_more old h.grown in
+    let same : state_at new g.place ≡ roomier h.grown (state_at old g.place) =
     ap (λ (p : Planned). state_after (start p) (take g.place new.events)) h.plan
-    ∙ ap (λ (l : List Event). state_after (start old.plan) (take g.place l)) h.events
-    ∙ ap (state_after (start old.plan)) (take_front old.events h.more g.place (Claims job.who job.taken.stage) g.stands) in
+    ∙ ap (λ (l : List Event). state_after (start roomy.plan) (take g.place l)) h.events
+    ∙ ap (state_after (start roomy.plan)) (take_front old.events h.more g.place (Claims job.who job.taken.stage) g.stands)
+    ∙ h.states g.place in
     record {
       place = g.place;
       stands = ap (λ (l : List Event). slice_get l g.place) h.events ∙ get_front old.events h.more g.place (Claims job.who job.taken.stage) g.stands;
-      granted = ap (λ (s : State). (answered s (Claims job.who job.taken.stage)).0) same ∙ g.granted;
+      granted = ap (λ (s : State). (answered s (Claims job.who job.taken.stage)).0) same ∙ ap (λ p. p.0) (answered_more h.grown (state_at old g.place) (Claims job.who job.taken.stage) tt) ∙ g.granted;
       function = g.function ∙ ap (λ (s : State). function_at s.plan.stages job.taken.stage) (sym same);
     }
 

@@ -8,5 +8,7 @@ pub mod Moments
 pub mod Memory
 pub mod Later
 pub mod Restarts
+pub mod Rooms
 pub mod Rows
 pub mod Machines
+pub mod Gathered

@@ -116,7 +116,7 @@ may_word words a r b word reply row follows deadlines own flags waiting seen row
       memory = omega (arith, most, one, enough);
     })
 
-free_found : (words : ℕ) (a r : Teller) → r ≡ with_memory words a → a.ledger.free ≤ r.ledger.free
+pub free_found : (words : ℕ) (a r : Teller) → r ≡ with_memory words a → a.ledger.free ≤ r.ledger.free
 free_found words a r is = let same = ap (λ (t : Teller). t.ledger.free) is in let more = le-max_left a.ledger.free words in omega (arith, same, more)
 
 -- why a word isn't done, where no memory was found for it

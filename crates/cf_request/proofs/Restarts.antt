@@ -1,16 +1,14 @@
 -- What starts again.
-use Rattle.std.proofs.Common.{◌≡◌, ℕ, ◌+◌, ◌<◌, ◌≤◌, List, [], ◌++◌, length, length-append, refl, ap, sym, ◌∙◌, arith, subst, append-nil}
+use Rattle.std.proofs.Common.{◌≡◌, ℕ, ◌+◌, ◌≤◌, List, [], length, length-append, refl, ap, sym, ◌∙◌, arith, subst, append-nil}
 use Rattle.std.specs.Prelude.{take}
-use Rattle.std.specs.declared.vec.Vec.{Vec}
 use Rattle.std.proofs.lemmas.List.{length-take-le}
-use Rattle.cf_forms.specs.Plans.{Planned, PlannedStage}
+use Rattle.cf_forms.specs.Plans.{PlannedStage}
 use Rattle.cf_model.specs.declared.events.Event.{Event}
-use Rattle.cf_model.specs.States.{State, start}
+use Rattle.cf_model.specs.States.{start}
 use Rattle.cf_model.proofs.Shape.{state_after-grows}
 use Rattle.cf_ledger.specs.Ledgers.{Ledger, state_of}
 use Rattle.cf_request.specs.Ready.{FitState, HasLanes, IsFit, ReadySets, none_ready}
 use Rattle.cf_request.specs.Telling.{AreFresh, AreSettledBy, IsKept, most_stages}
-use Rattle.cf_request.proofs.Telling.{kept_new}
 
 -- the stages of a plan stay, and with the room there are as many as ever
 pub stages_stay : (l : Ledger) → length l.plan.stages ≤ length (state_of l).plan.stages

@@ -13,24 +13,26 @@ use Rattle.cf_model.specs.Claims.{is_claimable}
 use Rattle.cf_model.specs.Events.{answered}
 use Rattle.cf_model.specs.States.{State, stage_at, start}
 use Rattle.cf_event.specs.Words.{word_of}
-use Rattle.cf_ledger.specs.Ledgers.{Ledger, state_of}
+use Rattle.cf_ledger.specs.Ledgers.{Ledger, state_of, with_more}
 use Rattle.cf_ledger.specs.Steps.{finished_as}
 use Rattle.cf_ledger.specs.declared.step.Finish.{Finish}
 use Rattle.cf_ledger.specs.declared.step.Held.{Held}
 use Rattle.cf_ledger.specs.declared.step.Taken.{Taken}
 use Rattle.cf_request.specs.Deadlines.{IsOverdue, open_of}
+use Rattle.cf_request.specs.Growing.{Grows}
 use Rattle.cf_request.specs.Lanes.{FinishesHeld, TakesIn}
-use Rattle.cf_request.specs.Machines.{GoesOn, Machine, Restarts, open_in, state_in, Finds, FindsForStep, waiting_in}
-use Rattle.cf_request.specs.Ready.{HasLanes, Lanes, with_lane}
+use Rattle.cf_request.specs.Machines.{GoesOn, Machine, open_in, state_in, Finds, FindsForStep, waiting_in}
+use Rattle.cf_request.specs.Ready.{Lanes, with_lane}
 use Rattle.cf_request.specs.Refusals.{IsCancelled, IsRefused}
 use Rattle.cf_request.specs.Relays.{IsRelayDue, IsRelayOr}
-use Rattle.cf_request.specs.Rows.{AddsBehind, AddsLanes, AreCalls, BeginsAnew, ComesToAnEnd, IsCall, IsLater, IsOpened, IsOpenedAs, Job, Out, RunsOnce, TellsOnce, Took, WasGranted, WordsTellAll, all_jobs, all_told, job_of, nothing, stage_of, unclaimed}
-use Rattle.cf_request.specs.Rows.IsCall.{applies, goes_on, sets_follow, sets_deadline, forgets, passes, refuses, cancels_all, took, is_refused}
+use Rattle.cf_request.specs.Rows.{AddsBehind, AddsLanes, AreCalls, BeginsAnew, ComesToAnEnd, IsCall, IsLater, IsOpened, Job, Out, RunsOnce, TellsOnce, Took, WasGranted, WordsTellAll, all_jobs, all_told, job_of, nothing, room_in, stage_of, unclaimed}
+use Rattle.cf_request.specs.Rows.IsCall.{applies, goes_on, sets_follow, sets_deadline, forgets, passes, refuses, cancels_all, took, grows, is_refused}
 use Rattle.cf_request.specs.Settling.{AreSettledInTurn, SettlesDue, settle_event}
 use Rattle.cf_request.specs.Telling.{AreFresh, AreSettled, AreSettledBy, IsApart, Teller, Tells, TellsEvent, with_memory}
 use Rattle.cf_request.specs.declared.machine.Next.{Next}
 use Rattle.cf_request.specs.declared.settling.Due.{Due}
-use Rattle.cf_request.proofs.Later.{by_words, claimed_closed, closed_later, granted_fewer, granted_later, granted_now, later_free, later_then, later_word, open_before, ready_open, unclaimed_later}
+use Rattle.cf_request.proofs.Later.{by_words, claimed_closed, closed_later, granted_fewer, granted_later, granted_now, later_free, later_grown, later_then, later_word, open_before, ready_open, unclaimed_later}
+use Rattle.cf_request.proofs.Rooms.{settled_grown}
 use Rattle.cf_request.proofs.Lists.{apart_append}
 use Rattle.cf_request.proofs.Telling.{once, settled_more}
 use Rattle.cf_request.proofs.Turns.{after_event}
@@ -72,6 +74,7 @@ record Onward (old new : Teller) : Type 0 where
   later : IsLater old.ledger new.ledger
   settled : AreSettled old.ledger (old.taken ++ old.told) → AreSettled new.ledger (new.taken ++ new.told)
   taken : new.taken ≡ old.taken
+  plan : new.ledger.plan ≡ old.ledger.plan
 
 settled_free : (old new : Ledger) (xs : List ℕ) → new.plan ≡ old.plan → new.events ≡ old.events → AreSettled old xs → AreSettled new xs
 settled_free old new xs plan events h = record {
@@ -83,13 +86,13 @@ settled_free old new xs plan events h = record {
 }
 
 onward_same : (t : Teller) → Onward t t
-onward_same t = record { lanes = lanes_same t.lanes; later = later_free t.ledger t.ledger refl refl; settled = λ h. h; taken = refl }
+onward_same t = record { lanes = lanes_same t.lanes; later = later_free t.ledger t.ledger refl refl; settled = λ h. h; taken = refl; plan = refl }
 
 onward_is : (old new : Teller) → new ≡ old → Onward old new
 onward_is old new same = subst (Onward old) (sym same) (onward_same old)
 
 onward_free : (t : Teller) (n : ℕ) → Onward t (record t { ledger = record t.ledger { free = n } })
-onward_free t n = record { lanes = lanes_same t.lanes; later = later_free t.ledger (record t.ledger { free = n }) refl refl; settled = settled_free t.ledger (record t.ledger { free = n }) (t.taken ++ t.told) refl refl; taken = refl }
+onward_free t n = record { lanes = lanes_same t.lanes; later = later_free t.ledger (record t.ledger { free = n }) refl refl; settled = settled_free t.ledger (record t.ledger { free = n }) (t.taken ++ t.told) refl refl; taken = refl; plan = refl }
 
 onward_found : (least most : ℕ) (old found : Teller) → Finds least most old found → Onward old found
 onward_found least most old found h = subst (Onward old) (sym h.is) (onward_free old (with_memory h.words old).ledger.free)
@@ -99,7 +102,7 @@ onward_step lane held m found (inl idle) = onward_is m.teller found idle.1
 onward_step lane held m found (inr busy) = onward_found (2 + waiting_in m) (2 + length m.follows) m.teller found busy.1
 
 onward_then : (a b c : Teller) → Onward a b → Onward b c → Onward a c
-onward_then a b c h k = record { lanes = lanes_then a.lanes b.lanes c.lanes h.lanes k.lanes; later = later_then a.ledger b.ledger c.ledger h.later k.later; settled = λ s. k.settled (h.settled s); taken = k.taken ∙ h.taken }
+onward_then a b c h k = record { lanes = lanes_then a.lanes b.lanes c.lanes h.lanes k.lanes; later = later_then a.ledger b.ledger c.ledger h.later k.later; settled = λ s. k.settled (h.settled s); taken = k.taken ∙ h.taken; plan = k.plan ∙ h.plan }
 
 onward_word : (old new : Teller) (word : ℕ) (reply : Reply) → Tells word old reply new → StayLanes old.lanes new.lanes → Onward old new
 onward_word old new word reply t lanes = record {
@@ -109,6 +112,7 @@ onward_word old new word reply t lanes = record {
       subst (AreSettled new.ledger) (append_assoc old.taken old.told t.fresh ∙ ap (λ (l : List ℕ). old.taken ++ l) (sym t.told) ∙ ap (λ (l : List ℕ). l ++ new.told) (sym t.taken))
       (settled_more old.ledger new.ledger word reply (old.taken ++ old.told) t.fresh h t.does t.are);
   taken = t.taken;
+  plan = ap (λ (l : Ledger). l.plan) t.does.written;
 }
 
 onward_event : (e : Event) (old new : Teller) (reply : Reply) → TellsEvent e old reply new → Onward old new
@@ -147,7 +151,7 @@ record Effect (old : Teller) (out : Out) (new : Teller) : Type 0 where
   granted : All (WasGranted new.ledger) out.jobs
   before : All (IsOpenIn old) (map stage_of out.jobs)
   now : All (IsClosedIn new) (map stage_of out.jobs)
-  fewer : length out.jobs + unclaimed (state_of new.ledger) ≤ unclaimed (state_of old.ledger)
+  fewer : length out.jobs + unclaimed (state_of new.ledger) + old.ledger.plan.room ≤ unclaimed (state_of old.ledger) + new.ledger.plan.room
 
 quiet : (old new : Teller) (out : Out) → out ≡ nothing → Onward old new → Effect old out new
 quiet old new out is h =
@@ -178,6 +182,7 @@ takes who lane old between (Some t) new h k =
     let less = unclaimed_later old.ledger between.ledger h.later in
     let is : k.done.tells.does.event ≡ Claims who t.stage = (let a = k.done.tells.does.read in let b = k.done.read in cc) in
     let written = k.done.tells.does.written in
+    let room = ap (λ (l : Ledger). l.plan.room) written in
     record {
       lanes = lanes_then old.lanes between.lanes new.lanes h.lanes on.lanes;
       later = later_then old.ledger between.ledger new.ledger h.later on.later;
@@ -189,7 +194,7 @@ takes who lane old between (Some t) new h k =
           (All-nil (WasGranted new.ledger));
       before = All-cons (IsOpenIn old) t.stage [] (open_before old.ledger between.ledger t.stage h.later (ready_open s t.stage ready)) (All-nil (IsOpenIn old));
       now = All-cons (IsClosedIn new) t.stage [] (ap (λ (r : State). is_claimable (stage_at r t.stage)) next ∙ claimed_closed s who t.stage ready) (All-nil (IsClosedIn new));
-      fewer = omega (arith, here, now, less);
+      fewer = omega (arith, here, now, less, room);
     }
 
 -- those that were told are taken
@@ -213,12 +218,37 @@ takes_told count old new h =
       fewer = let less = unclaimed_later a.ledger b.ledger later in omega (arith, less);
     }
 
+-- there is room for more
+more_room : (old new : Machine) → Grows old new → Effect old.teller nothing new.teller
+more_room old new h =
+    let a = old.teller in
+    let b : Teller = record a { ledger = with_more a.ledger h.more } in
+    let later = later_grown a.ledger h.more h.taken in
+    let now : Effect a nothing b = record {
+      lanes = lanes_same a.lanes;
+      later = later;
+      settled = settled_grown a.ledger h.more (a.taken ++ a.told) h.taken;
+      taken = sym (append-nil a.taken);
+      apart = tt;
+      granted = All-nil (WasGranted b.ledger);
+      before = All-nil (IsOpenIn a);
+      now = All-nil (IsClosedIn b);
+      fewer = let less = unclaimed_later a.ledger b.ledger later in omega (arith, less);
+    } in
+    subst (Effect a nothing) (sym (ap (λ (m : Machine). m.teller) h.is)) now
+
 -- memory is found, and then due stages are settled
 settles_found : (P : State → Due → Type 0) (who least most : ℕ) (old found new : Teller) → Finds least most old found → SettlesDue P who found new → Onward old new
 settles_found P who least most old found new h k = onward_then old found new (onward_found least most old found h) (onward_dues P who found new k)
 
 settles : (P : State → Due → Type 0) (who n : ℕ) (old new : Teller) → SettlesDue P who (record old { ledger = record old.ledger { free = n } }) new → Onward old new
 settles P who n old new h = let found : Teller = record old { ledger = record old.ledger { free = n } } in onward_then old found new (onward_free old n) (onward_dues P who found new h)
+
+-- what comes before a claim
+onward_to_claim : (who lane : ℕ) (held : Option Held) (old new : Machine) (next : Next) → (h : GoesOn who lane held old next new) → Onward old.teller h.between
+onward_to_claim who lane held old new next h =
+    onward_then old.teller h.found h.between (onward_step lane held old h.found h.finds)
+    (onward_then h.found h.finished h.between (onward_held who held h.found next.finish h.finished h.finishes) (onward_dues (IsRelayDue old.follows) old.own h.finished h.between h.catches_up.settles))
 
 effect : (old new : Machine) (out : Out) → IsCall old out new → Effect old.teller out new.teller
 effect old new out (applies word lane reply none h) =
@@ -229,12 +259,7 @@ effect old new out (applies word lane reply none h) =
     (onward_then old.teller found new.teller (onward_found (waiting_in old) (1 + length old.follows) old.teller found h.finds)
     (onward_then found h.between new.teller (onward_word found h.between word reply h.tells lanes) (onward_dues (IsRelayDue old.follows) old.own h.between new.teller h.catches_up.settles)))
 effect old new out (goes_on who lane held next is h) =
-    let found = h.found in
-    subst (λ (o : Out). Effect old.teller o new.teller) (sym is)
-    (takes who lane old.teller h.between next.taken new.teller
-    (onward_then old.teller found h.between (onward_step lane held old found h.finds)
-    (onward_then found h.finished h.between (onward_held who held found next.finish h.finished h.finishes) (onward_dues (IsRelayDue old.follows) old.own h.finished h.between h.catches_up.settles)))
-    h.takes)
+    subst (λ (o : Out). Effect old.teller o new.teller) (sym is) (takes who lane old.teller h.between next.taken new.teller (onward_to_claim who lane held old new next h) h.takes)
 effect old new out (sets_follow relay stage none h) =
     quiet old.teller new.teller out none (settles_found (IsRelayDue new.follows) old.own (1 + waiting_in old) (1 + length old.follows) old.teller h.found new.teller h.finds h.catches_up.settles)
 effect old new out (sets_deadline deadline none h) = quiet old.teller new.teller out none (onward_is old.teller new.teller (ap (λ (m : Machine). m.teller) h.same))
@@ -249,18 +274,25 @@ effect old new out (cancels_all who none h) =
     let found = with_memory (open_in old) old.teller in
     quiet old.teller new.teller out none (settles (IsRelayOr old.follows IsCancelled) who found.ledger.free old.teller new.teller h.settles)
 effect old new out (took count is h) = subst (λ (o : Out). Effect old.teller o new.teller) (sym is) (takes_told count old new h)
+effect old new out (grows none h) = subst (λ (o : Out). Effect old.teller o new.teller) (sym none) (more_room old new h)
 effect old new out (is_refused none h) =
     quiet old.teller new.teller out none (subst (λ (m : Machine). Onward old.teller m.teller) (sym h.same) (onward_free old.teller new.teller.ledger.free))
 
 -- ---- a caller's step
 
-fewer_by : (who : ℕ) (taken : Option Taken) (a b : State) → length (job_of who taken).jobs + unclaimed b ≤ unclaimed a → IfSome taken (λ t. unclaimed b < unclaimed a)
-fewer_by who None a b h = tt
-fewer_by who (Some t) a b h = let one : length (job_of who (Some t)).jobs ≡ 1 = refl in omega (arith, h, one)
+fewer_by : (who m n : ℕ) (taken : Option Taken) (a b : State) → length (job_of who taken).jobs + unclaimed b + m ≤ unclaimed a + n → n ≡ m → IfSome taken (λ t. unclaimed b < unclaimed a)
+fewer_by who m n None a b h same = tt
+fewer_by who m n (Some t) a b h same = let one : length (job_of who (Some t)).jobs ≡ 1 = refl in omega (arith, h, one, same)
+
+plan_taken : (who lane : ℕ) (old : Teller) (taken : Option Taken) (new : Teller) → TakesIn who lane old taken new → new.ledger.plan ≡ old.ledger.plan
+plan_taken who lane old None new h = ap (λ (t : Teller). t.ledger.plan) h.1
+plan_taken who lane old (Some t) new h = ap (λ (l : Ledger). l.plan) h.done.tells.does.written
 
 -- where one is told, fewer may be claimed
 pub fewer_left : (who lane : ℕ) (held : Option Held) (old new : Machine) (next : Next) → GoesOn who lane held old next new → IfSome next.taken (λ t. unclaimed (state_in new) < unclaimed (state_in old))
-fewer_left who lane held old new next h = fewer_by who next.taken (state_in old) (state_in new) (effect old new (job_of who next.taken) (goes_on who lane held next refl h)).fewer
+fewer_left who lane held old new next h =
+    let plan = plan_taken who lane h.between next.taken new.teller h.takes ∙ (onward_to_claim who lane held old new next h).plan in
+    fewer_by who (room_in old) (room_in new) next.taken (state_in old) (state_in new) (effect old new (job_of who next.taken) (goes_on who lane held next refl h)).fewer (ap (λ (p : Planned). p.room) plan)
 
 -- ---- what a row does
 
@@ -349,6 +381,7 @@ begins_anew first old new outs opened has calls h =
         taken = h.taken;
         told = subst (λ (p : Planned). AreFresh [] (start p).stages new.teller.told) (sym kept) h.told;
       };
+      grown = e.later.grown;
       plan = kept ∙ plan;
       lanes = h.lanes ∙ (λ j. record { of = of j; count = e.lanes.count j });
     }

@@ -6,4 +6,6 @@ pub mod Deadlines
 pub mod Lanes
 pub mod Refusals
 pub mod Machines
+pub mod Gathering
+pub mod Growing
 pub mod Rows

@@ -18,7 +18,7 @@ use Rattle.cf_request.specs.Settling.{SettlesDue}
 use Rattle.cf_request.specs.Telling.{AreFresh, Teller, Tells, with_memory}
 use Rattle.cf_request.specs.declared.deadlines.Deadline.{Deadline}
 use Rattle.cf_request.specs.declared.faults.MachineFault.{MachineFault}
-use Rattle.cf_request.specs.declared.faults.MachineFault.TheVariants.{NoMemory, NoStage, Past}
+use Rattle.cf_request.specs.declared.faults.MachineFault.TheVariants.{NoMemory, NoStage, Past, Full}
 use Rattle.cf_request.specs.declared.machine.Next.{Next}
 use Rattle.cf_request.specs.declared.relays.Follow.{Follow}
 
@@ -121,6 +121,7 @@ abbrev pub IsNoFollow : ℕ → ℕ → State → MachineFault → Type 0
 IsNoFollow relay stage s NoMemory = Unit {0}
 IsNoFollow relay stage s NoStage = ¬ ((relay < length s.plan.stages) × (stage < length s.plan.stages))
 IsNoFollow relay stage s Past = ⊥
+IsNoFollow relay stage s Full = ⊥
 
 -- ---- deadlines
 
@@ -135,6 +136,7 @@ abbrev pub IsNoDeadline : Deadline → State → MachineFault → Type 0
 IsNoDeadline d s NoMemory = d.stage < length s.plan.stages
 IsNoDeadline d s NoStage = length s.plan.stages ≤ d.stage
 IsNoDeadline d s Past = ⊥
+IsNoDeadline d s Full = ⊥
 
 -- stages whose moment had come are settled, and relays before them, until none is left
 pub record Passes (moment : ℕ) (old new : Machine) : Type 0 where
@@ -152,6 +154,7 @@ pub record Passes (moment : ℕ) (old new : Machine) : Type 0 where
 abbrev pub IsNoPass : ℕ → Machine → MachineFault → Type 0
 IsNoPass moment m NoMemory = (come : ℕ) × AreCome moment m.deadlines come × (free_in m < length m.follows + come)
 IsNoPass moment m NoStage = ⊥
+IsNoPass moment m Full = ⊥
 IsNoPass moment m Past = moment < m.moment
 
 -- ---- stages that end at once

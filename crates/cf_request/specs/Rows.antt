@@ -11,11 +11,12 @@ use Rattle.cf_model.specs.Events.{answered}
 use Rattle.cf_model.specs.States.{State, start}
 use Rattle.cf_event.specs.Decoding.{decoded, event_of}
 use Rattle.cf_event.specs.Words.{word_of}
-use Rattle.cf_ledger.specs.Ledgers.{AreTaken, IsFirstMisfit, Ledger, state_at, state_of}
+use Rattle.cf_ledger.specs.Ledgers.{AreTaken, IsFirstMisfit, Ledger, roomier, state_at, state_of, with_more}
 use Rattle.cf_ledger.specs.declared.faults.LedgerFault.{LedgerFault}
 use Rattle.cf_ledger.specs.declared.faults.LedgerFault.TheVariants.{NoMemory}
 use Rattle.cf_ledger.specs.declared.step.Held.{Held}
 use Rattle.cf_ledger.specs.declared.step.Taken.{Taken}
+use Rattle.cf_request.specs.Growing.{Grows}
 use Rattle.cf_request.specs.Machines.{AppliesWord, CancelsAll, GoesOn, Machine, OnlyFinds, Passes, Refuses, Restarts, SetsDeadline, SetsFollow, state_in}
 use Rattle.cf_request.specs.Ready.{HasLanes, Lanes}
 use Rattle.cf_request.specs.Telling.{AreFresh, AreSettled, IsApart, IsOnce}
@@ -59,6 +60,7 @@ pub data IsCall (old : Machine) (out : Out) (new : Machine) : Type 0 where
   refuses : (lane code : ℕ) → out ≡ nothing → Refuses lane code old new → IsCall old out new
   cancels_all : (who : ℕ) → out ≡ nothing → CancelsAll who old new → IsCall old out new
   took : (count : ℕ) → out ≡ (record { jobs = []; told = take count old.teller.told }) → Took count old new → IsCall old out new
+  grows : out ≡ nothing → Grows old new → IsCall old out new
   is_refused : out ≡ nothing → OnlyFinds old new → IsCall old out new
 
 -- a row of them
@@ -115,9 +117,13 @@ RunsOnce = (old new : Machine) (outs : List Out) → AreCalls old outs new → A
 abbrev pub unclaimed : State → ℕ
 unclaimed s = claimable_count s + s.plan.room
 
--- each stage that is told leaves fewer that may be claimed, and no call makes them more
+-- the room that it has had in all, with what growing gave
+abbrev pub room_in : Machine → ℕ
+room_in m = m.teller.ledger.plan.room
+
+-- each stage that is told leaves fewer that may be claimed, and no call makes them more but growing, by the room that it gives
 abbrev pub ComesToAnEnd : Type 0
-ComesToAnEnd = (old new : Machine) (outs : List Out) → AreCalls old outs new → length (all_jobs outs) + unclaimed (state_in new) ≤ unclaimed (state_in old)
+ComesToAnEnd = (old new : Machine) (outs : List Out) → AreCalls old outs new → length (all_jobs outs) + unclaimed (state_in new) + room_in old ≤ unclaimed (state_in old) + room_in new
 
 -- ---- words
 
@@ -125,12 +131,14 @@ ComesToAnEnd = (old new : Machine) (outs : List Out) → AreCalls old outs new �
 abbrev pub HasWord : Event → Type 0
 HasWord e = event_of (word_of e) ≡ Some e
 
--- there are more events behind those of before, each of which is taken
+-- The plan has so much room more, which changes no earlier state but for that. There are more events behind those of before, each of which is taken.
 pub record IsLater (old new : Ledger) : Type 0 where
-  pub plan : new.plan ≡ old.plan
+  pub grown : ℕ
+  pub plan : new.plan ≡ (with_more old grown).plan
+  pub states : (place : ℕ) → state_at (with_more old grown) place ≡ roomier grown (state_at old place)
   pub more : List Event
   pub events : new.events ≡ old.events ++ more
-  pub taken : AreTaken (state_of old) more
+  pub taken : AreTaken (roomier grown (state_of old)) more
   pub words : All HasWord more
 
 -- the lanes of stages stay, and those of later stages stand behind them
@@ -158,10 +166,11 @@ WordsTellAll = (old new : Machine) (outs : List Out) → IsOpened old → AreCal
 
 -- ---- rows that begin anew
 
--- it is opened, with the plan and the lanes with which another was
+-- it is opened, with the plan and the lanes with which another was, and perhaps with more room
 pub record IsOpenedAs (first new : Machine) : Type 0 where
   pub opened : IsOpened new
-  pub plan : new.teller.ledger.plan ≡ first.teller.ledger.plan
+  pub grown : ℕ
+  pub plan : new.teller.ledger.plan ≡ (with_more first.teller.ledger grown).plan
   pub lanes : new.teller.lanes ≡ first.teller.lanes
 
 -- A machine that starts again is none of the calls of a row. After any row it is as it was opened, so a row begins anew, of which all laws hold.

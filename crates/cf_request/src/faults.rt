@@ -12,6 +12,8 @@ pub enum MachineFault {
     NoStage,
     /// The moment is before the last one.
     Past,
+    /// Its plan has no place for one more stage.
+    Full,
 }
 
 impl From<AllocError> for MachineFault {

@@ -1,5 +1,6 @@
 //! Laws of machines: the contract of each function is the statement, and its body is empty. Each says what holds after
 //! any row of calls, by any callers, in any order.
+ghost use Rattle.cf_request.specs.Gathering.{GathersAsOne, GathersAtOnce};
 ghost use Rattle.cf_request.specs.Rows.{AddsBehind, BeginsAnew, ComesToAnEnd, RunsOnce, TellsOnce, WordsTellAll};
 
 /// All that was taken, one taking behind the other, and then what is told and not yet taken, are each settled stage
@@ -14,14 +15,14 @@ pub fn each_stage_is_run_once()
     ensures { RunsOnce }
 {}
 
-/// Each stage that `next` tells leaves fewer that may be claimed, now or later, and no call makes them more. So a host
-/// that goes on asking comes to an end.
+/// Each stage that `next` tells leaves fewer that may be claimed, now or later. No call makes them more but `grow`, and
+/// that by no more than the room that it gives. So a host that goes on asking comes to an end.
 pub fn running_comes_to_an_end()
     ensures { ComesToAnEnd }
 {}
 
 /// There are more events behind those of before, each of which is taken as those before it leave the graph; and what
-/// was taken stands behind what was taken before.
+/// was taken stands behind what was taken before. More room changes no earlier state but for that.
 pub fn calls_add_behind()
     ensures { AddsBehind }
 {}
@@ -32,8 +33,19 @@ pub fn words_tell_all()
     ensures { WordsTellAll }
 {}
 
-/// A machine that starts again after any row of calls is as it was opened, with the same plan and lanes. So a row begins
-/// anew, of which all laws hold.
+/// A machine that starts again after any row of calls is as it was opened, with the same plan and lanes, and with the
+/// room that it has by then. So a row begins anew, of which all laws hold.
 pub fn a_row_begins_anew()
     ensures { BeginsAnew }
+{}
+
+/// If each of the stages that gather sources has what its two sources give, the root has what one stage of the form over
+/// all of them would have.
+pub fn stages_gather_as_one()
+    ensures { GathersAsOne }
+{}
+
+/// Where stages are gathered, the root has at once what one stage of the form over all of them would have.
+pub fn roots_have_it_at_once()
+    ensures { GathersAtOnce }
 {}

@@ -17,6 +17,8 @@
 
 mod deadlines;
 mod faults;
+mod gathering;
+mod growing;
 mod lanes;
 pub mod laws;
 mod machine;
@@ -29,5 +31,6 @@ mod teller;
 pub use cf_ledger::{Event, Finish, Held, Ledger, LedgerFault, Reply, StepFault, Taken};
 pub use deadlines::Deadline;
 pub use faults::MachineFault;
+pub use gathering::Gathering;
 pub use machine::{Machine, Next};
 pub use relays::Follow;

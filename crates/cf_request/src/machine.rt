@@ -1,17 +1,21 @@
 //! The machine.
-ghost use Rattle.std.specs.Prelude.{◌≡◌, ◌+◌, ◌-◌, ◌^◌, ◌<◌, ◌≤◌, ◌++◌, [], All, IfErr, IfNone, IfOk, IfSome, None, OnErr, OnOk, drop, length, take, true};
+ghost use Rattle.std.specs.Prelude.{◌≡◌, ◌+◌, ◌-◌, ◌^◌, ◌<◌, ◌≤◌, ◌++◌, ◌∷◌, [], All, IfErr, IfNone, IfOk, IfSome, None, OnErr, OnOk, drop, length, replicate, take, true};
 ghost use Rattle.cf_forms.specs.Plans.{has_place, with_room};
 ghost use Rattle.cf_model.specs.States.{start};
 ghost use Rattle.cf_request.specs.Deadlines.{AreInOrder, Forgets, IsNextOpen, NoneOpen};
+ghost use Rattle.cf_request.specs.Gathering.{Gathers, IsNoGather, gathers, stages_for};
+ghost use Rattle.cf_request.specs.Growing.{Grows, IsNoGrowth};
 ghost use Rattle.cf_request.specs.Lanes.{IsIdle, NoneReadyIn, ready_below};
 ghost use Rattle.cf_request.specs.Ready.{IsLaneCount};
 ghost use Rattle.cf_request.specs.Machines.{AppliesWord, CancelsAll, GoesOn, IsNoCancel, IsNoDeadline, IsNoFollow, IsNoNext, IsNoPass, IsNoWord, OnlyFinds, Passes, Refuses, Restarts, SetsDeadline, SetsFollow, free_in, open_in, state_in};
 ghost use Rattle.cf_request.specs.Relays.{NoneBehind};
-ghost use Rattle.cf_request.specs.Rows.{unclaimed};
+ghost use Rattle.cf_request.specs.Rows.{AreCalls, nothing, unclaimed};
 ghost use Rattle.cf_request.specs.Telling.{AreFresh, AreSettled, IsOnce};
 
 use crate::deadlines::{Deadline, come_by, next_open, pass, set};
 use crate::faults::MachineFault;
+use crate::gathering::{Gathering, check_gathering, gather};
+use crate::growing::room_for;
 use crate::lanes::{check_held, finish_held, is_idle, take};
 use crate::refusals::{Ending, end_all, open_stages};
 use crate::relays::{Follow, catch_up, catch_up_with};
@@ -141,6 +145,24 @@ impl Machine {
             self.own,
         );
         Ok(reply)
+    }
+
+    /// A caller attaches a stage that gathers these sources, of which there may be any number: it settles as an allOf or an
+    /// anyOf of all of them would. The first stage gathers two of them, and each stage behind it one more. The last of
+    /// these is the root, which is told. Nothing else is done, and a row of calls that apply these words does the same. It
+    /// is refused for the first of: its caller's number, a source that isn't there, the room, memory.
+    pub fn gather(&mut self, who: u8, how: Gathering, sources: &[u16]) -> Result<u16, LedgerFault>
+        ensures done { IfOk result (λ root. Gathers who how sources.now self.old root self.new) }
+        ensures written { OnOk result (self.new.teller.ledger.events ≡ self.old.teller.ledger.events
+            ++ gathers who how (length (state_in self.old).plan.stages) sources.now) }
+        ensures calls { OnOk result
+            (AreCalls self.old (nothing ∷ replicate (stages_for sources.now) nothing) self.new) }
+        ensures refused { OnErr result (self.new ≡ self.old) }
+        ensures why { IfErr result (λ fault. IsNoGather who sources.now self.old fault) }
+    {
+        let count = check_gathering(&self.teller, who, sources)?;
+        self.teller.reserve(count + self.waiting)?;
+        Ok(gather(&mut self.teller, who, how, sources))
     }
 
     /// What a caller does next: it finishes what it holds, if it holds a stage. Then the relays whose stages are
@@ -336,6 +358,20 @@ impl Machine {
             Ending::OfAll,
             who,
         );
+        Ok(())
+    }
+
+    /// Makes room for as many stages more as there are by now, and for 16 at least, or else for as many as its plan has
+    /// place for. It does all words again. It is refused for the first of: no place for one stage more, memory.
+    pub fn grow(&mut self, alloc: Global) -> Result<(), MachineFault>
+        ensures grows { OnOk result (Grows self.old self.new) }
+        ensures refused { OnErr result (self.new ≡ self.old) }
+        ensures why { IfErr result (λ fault. IsNoGrowth self.old.teller.ledger fault) }
+    {
+        let Some(more) = room_for(self.teller.ledger()) else {
+            return Err(MachineFault::Full);
+        };
+        self.teller.grow(alloc, more)?;
         Ok(())
     }
 

@@ -132,6 +132,16 @@ impl ReadySets {
         })
     }
 
+    /// The same lanes of stages, with room for so many stages more. No stage is ready. It fails only where there is no
+    /// memory.
+    pub(crate) fn with_room(&self, alloc: Global, room: u16) -> Result<ReadySets, AllocError>
+        requires { length self.now.of + room ≤ 4096 }
+        ensures { IfOk result (λ sets. sets
+            ≡ none_ready self.now.of (length self.now.sets) (length self.now.of + room)) }
+    {
+        ReadySets::new(alloc, &self.of, room, self.lanes())
+    }
+
     /// How many lanes there are.
     #[inline(always)]
     pub(crate) fn lanes(&self) -> u8

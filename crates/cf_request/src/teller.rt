@@ -6,7 +6,7 @@ ghost use Rattle.cf_model.specs.Calls.{is_attach};
 ghost use Rattle.cf_model.specs.States.{is_ready, outcome_at, outcome_of, start};
 ghost use Rattle.cf_model.specs.Ranges.{EventFits};
 ghost use Rattle.cf_event.specs.Words.{IsEvent};
-ghost use Rattle.cf_ledger.specs.Ledgers.{IsShort, LedgerRefuses, state_of};
+ghost use Rattle.cf_ledger.specs.Ledgers.{AreTaken, IsShort, LedgerRefuses, roomier, state_of, with_more};
 ghost use Rattle.cf_request.specs.Lanes.{IsLowestIn, NoneReadyIn, ready_below};
 ghost use Rattle.cf_request.specs.Ready.{AreFitBut, FitState, HasLanes, IsFit, IsLaneCount, none_ready, with_lane};
 ghost use Rattle.cf_request.specs.Telling.{AreFresh, AreSettled, AreSettledBelow, IsOnce, Tells, TellsEvent, is_settled_in, most_stages, with_memory};
@@ -18,6 +18,7 @@ use cf_outcome::Outcome;
 use cf_plan::Plan;
 use std::alloc::{AllocError, Global};
 use std::marker::Model;
+use std::mem;
 
 /// A ledger, with all stages that were settled, in order, how many of these its host has taken, and the ready stages of
 /// each lane.
@@ -218,6 +219,33 @@ impl Teller {
         ensures lanes { self.new.lanes ≡ self.old.lanes }
     {
         self.count += count.min(self.order.len() - self.count);
+    }
+
+    /// Makes room for so many stages more, by doing all words again. It fails only where there is no memory, and then
+    /// changes nothing.
+    pub fn grow(&mut self, alloc: Global, more: u16) -> Result<(), AllocError>
+        requires { has_place self.old.ledger.plan.stages (self.old.ledger.plan.room + more) ≡ true }
+        ensures grown { OnOk result (self.new ≡ record self.old { ledger = with_more self.old.ledger more }) }
+        ensures taken { OnOk result (AreTaken (start self.old.ledger.plan) self.old.ledger.events) }
+        ensures state { OnOk result (state_of self.new.ledger ≡ roomier more (state_of self.old.ledger)) }
+        ensures refused { OnErr result (self.new ≡ self.old) }
+    {
+        let stages = self.ledger.stages();
+        let room = self.ledger.room() + more;
+        let places = (stages + room) as usize;
+        let mut sets = self.lanes.with_room(alloc, room)?;
+        mark_all(&self.ledger, stages, &mut sets);
+        self.order.reserve(places.saturating_sub(self.order.len()))?;
+        match self.ledger.grow(alloc, more) {
+            Ok(()) => {
+                drop(mem::replace(&mut self.lanes, sets));
+                Ok(())
+            }
+            Err(_) => {
+                drop(sets);
+                Err(AllocError)
+            }
+        }
     }
 
     /// Starts again, as it was opened. It takes no memory.

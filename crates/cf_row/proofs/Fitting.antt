@@ -13,10 +13,10 @@ use Rattle.cf_model.proofs.Shape.{answered-shape}
 use Rattle.cf_event.specs.Words.{IsEvent, word_of}
 use Rattle.cf_event.specs.Decoding.{decoded, decoded_with, event_of}
 use Rattle.std.specs.Bool.{OnFalse, OnTrue}
-use Rattle.cf_ledger.specs.Ledgers.{AreTaken, HasRoomFor, IsTaken, Ledger, LedgerRefuses, state_of as ledger_state}
+use Rattle.cf_ledger.specs.Ledgers.{AreTaken, HasRoomFor, IsTaken, Ledger, LedgerRefuses, roomier, state_of as ledger_state}
 use Rattle.cf_ledger.specs.declared.faults.LedgerFault.{LedgerFault}
 use Rattle.cf_ledger.specs.declared.faults.LedgerFault.TheVariants.{NoMemory, NoEvent, NoStage, NoRoom}
-use Rattle.cf_ledger.proofs.Growth.{answered_more, roomier}
+use Rattle.cf_ledger.proofs.Growth.{answered_more}
 use Rattle.cf_row.specs.Rows.{Replica, ledger_of, state_of}
 use Rattle.cf_row.specs.Puts.{AreWordsBehind, AreWordsFor, IsWordFor, attached_by, who_at, who_by}
 

@@ -16,8 +16,8 @@ use Rattle.cf_model.specs.Ranges.{AskFits}
 use Rattle.cf_event.specs.declared.record.Record.{Record}
 use Rattle.cf_event.specs.declared.record.Record.TheVariants.{Did, Saw}
 use Rattle.cf_event.specs.Histories.{IsAnswered, dids}
-use Rattle.cf_ledger.specs.Ledgers.{AreTaken, IsTaken, Ledger, with_more}
-use Rattle.cf_ledger.proofs.Growth.{answered_more, roomier, state_more, taken_more}
+use Rattle.cf_ledger.specs.Ledgers.{AreTaken, IsTaken, Ledger, roomier, with_more}
+use Rattle.cf_ledger.proofs.Growth.{answered_more, state_more, taken_more}
 use Rattle.cf_row.specs.declared.entry.Entry.{Entry}
 use Rattle.cf_row.specs.Rows.{FitsUpTo, IsKept, history_of, own_from, own_in, session_of}
 

@@ -12,7 +12,7 @@ from ..events import Attach, Claim, Finish
 from ..values import Link, Thrown
 from .ending import Hook
 from .history import Entry, History, _whole
-from .words import ANSWER, COMPOSE_FORMS, FIRST_WORKER, FORMS, NUMBER, TIMED_OUT, VALUE, Told
+from .words import ANSWER, COMPOSE_FORMS, FIRST_WORKER, FORMS, NUMBER, VALUE, Told
 
 UNSET, OK, ERROR = range(3)  # the codes of a status
 INTERNAL = 1  # the kind of these spans
@@ -99,7 +99,7 @@ class _Reading:
             return UNSET, ""
         if told.kind == VALUE:
             return OK, ""
-        return ERROR, "timed out" if told.kind == TIMED_OUT else self.history.outcome(told)
+        return ERROR, self.history.fault(told)
 
     def _span(self, stage: int) -> Span:
         form, of = self.shapes[stage]

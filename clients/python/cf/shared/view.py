@@ -11,8 +11,7 @@ from .. import values
 from .._library import NOT_YOURS, CNews
 from ..events import _known
 from ..service._plain import PlanCore, _grow, _Ledger, _told
-from ..service.history import Entry as Event
-from ..service.history import History, escaped
+from ..service.history import History
 from ..service.words import (ANSWER, ATTACH, CLAIM, COMPLETE, COMPOSE_FORMS, FAIL, FAIL_AS, FAILURES, FINISH, GIVES,
                              IS_CLAIMED, IS_PENDING, IS_READY, IS_SETTLED, LINKS, MOST_STAGES, NOT_YET, NUMBER, THROWS,
                              TICK, RequestFull, Told)
@@ -46,10 +45,8 @@ class Done(NamedTuple):
 
 
 class RowHistory(History):
-    """A row's history: places in place of times, and numbers that sessions had as callers. `sessions` are those of
-    its words, and `named` what some of them are called in the request."""
-
-    _unit, _width = "words", 5
+    """A row's history: it has no times, and numbers that sessions had as callers. `sessions` are those of its words,
+    and `named` what some of them are called in the request."""
 
     def __init__(self, name: str, core: PlanCore, facts: Any, sessions: Sequence[int],
                  named: Optional[Mapping[int, str]] = None) -> None:
@@ -59,15 +56,11 @@ class RowHistory(History):
     def caller(self, who: int) -> str:
         """What a caller is called: all the names that sessions of its number have."""
         its = {session: None for session, word in zip(self._sessions, self.words) if word >> 48 & 0xFF == who}
-        return " or ".join([escaped(self._named[it]) for it in its if it in self._named] or [f"session {who}"])
-
-    def _who(self, entry: Event) -> str:
-        said = self._named.get(self._sessions[entry.place - 1])
-        return f"session {entry.event.who}" if said is None else escaped(said)
+        return " or ".join([self._named[it] for it in its if it in self._named] or [f"session {who}"])
 
     def account(self) -> str:
-        """What `cf_look check` judges, with the replies as this process has read them off the row. Where several
-        sessions had one number, each of them has its own records there."""
+        """What `cf_look check` judges. Where several sessions had one number, each of them has its own records
+        there."""
         account = json.loads(super().account())
         account["callers"] = [self._by_session(records) for records in account["callers"]]
         return json.dumps(account)
@@ -81,8 +74,8 @@ class RowHistory(History):
             own.append(record)
         return {"sessions": list(sessions.values())} if len(sessions) > 1 else records
 
-    def _at(self, place: int, seconds: float) -> str:
-        return f"{place:5}"
+    def _clock(self) -> List[int]:
+        return []
 
 
 class RowView:

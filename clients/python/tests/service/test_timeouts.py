@@ -113,8 +113,8 @@ class Causes(Case):
         self.assertIsInstance(behind.exception(20), TimeoutError)
         self.assertFalse(timed._change(FAIL_AS, CLOCK, late, TimeoutError()))
         late_history = timed.history()
-        for part in ("clock times out 0 late\n", "0 late ends: timeout\n", "1 inc ends: timeout, passed on\n",
-                     "clock times out 0 late, too late"):
+        for part in ("clock times out 0 late\n", "0 late ends: timed out\n", "1 inc ends: timed out, passed on\n",
+                     "clock times out 0 late: too late"):
             self.assertIn(part, str(late_history))
         script, before = json.loads(late_history.script()), json.loads(late_history.script(2))
         self.assertEqual((script["cf"], script["steps"]), (3, before["steps"] + [["failAs", 0, "timeout"]] * 2))
@@ -139,7 +139,7 @@ class Causes(Case):
         late_history = timed.history()
         for part in ("caller fails 0 p with a bad answer\n", "0 p ends: a bad answer\n"):
             self.assertIn(part, str(late_history))
-        self.assertIn('["failAs", 0, "badanswer"]', late_history.script())
+        self.assertIn('["failAs",0,"badanswer"]', late_history.script())
         self.assertEqual(cf.run_script(late_history.script()), late_history.report())
 
     def test_the_exception_of_a_timeout(self):

@@ -19,7 +19,7 @@ class DurableHistories(Case):
         recorded = service.request("order 17")
         self.assertEqual(recorded.supply(f.load, 17).then(f.fails).recover(f.text).result(20), "sorry, card declined")
         history = recorded.history()
-        for part in ("order 17: 9 words, 3 stages", "attaches 0 load, supply",
+        for part in ("order 17: 9 events, 3 stages", "attaches 0 load, supply",
                      "1 fails ends: PermissionError('card declined')", "2 text ends: 'sorry, card declined'"):
             self.assertIn(part, str(history))
         self.assertEqual(len(json.loads(history.account())["events"]), 9)
@@ -42,7 +42,7 @@ class DurableHistories(Case):
             self.assertEqual(sorry.result(20), "sorry, card declined")
             history = recorded.history()
             self.assertIn(f"0 load ends: {words[0]}", str(history))
-            self.assertIn(f"1 fails ends: {words[1]}", history.line())
+            self.assertIn(f"; 1 failed: 1 fails by {words[1]}; 0 open", history.line())
             self.assertIn(f"2 text ends: {words[2]}", str(history))
             self.assertNotIn("declined", history.account() + str(history.values + history.errors))
             self.assertFalse(any(told))

@@ -36,9 +36,9 @@ class DurableTimeouts(Case):
             self.assertEqual([stored_stage.result(20) for stored_stage in texts],
                              ["sorry, late took longer than 0.05 s"] * 3)
             history = stored.history()
-            for part in (" times out 0 late\n", "0 late ends: timeout\n", " ends: timeout, passed on\n"):
+            for part in (" times out 0 late\n", "0 late ends: timed out\n", " ends: timed out, passed on\n"):
                 self.assertIn(part, str(history))
-            self.assertIn('["failAs", 0, "timeout"]', history.script())
+            self.assertIn('["failAs",0,"timeout"]', history.script())
             self.assertEqual(run_script(history.script()), history.report())
             with Service(1) as plain:
                 relay = plain.request().adopt(late)

@@ -499,7 +499,7 @@ class Acting(WebCase):
             self.until(stages[3].cancelled)
             self.assertEqual(self.one(name)["words"], 9)
             text = self.text_of(name)
-            for said in ("Ada (by hand) completes 0 p0 with {'a': [1, None]}", "Bob (by hand) completes 1 p1 with None",
+            for said in ("Ada (by hand) completes 0 p0 with {'a': [1, None]}", "Bob (by hand) completes 1 p1 with nil",
                          "Ada (by hand) fails 2 p2 with RuntimeError('no <b>stock</b>')",
                          "Eve\\u202e (by hand) cancels 3 p3"):
                 self.assertIn(said, text)

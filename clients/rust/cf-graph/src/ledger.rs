@@ -251,23 +251,17 @@ impl Ledger {
 
     /// The words of all that was done, in their one order.
     pub fn words(&mut self) -> Result<Vec<u64>, Refused> {
-        let mut words = vec![0; self.count()?];
-        let (first, room) = (words.as_mut_ptr(), words.len());
-        // SAFETY: alone, pointers: `h` and what is told to are this call's, and `first` points to as many words as said.
-        self.handle.tell(|h, told| unsafe { sys::cf_ledger_words(h, 0, first, room, told) })?;
-        Ok(words)
+        words(&mut self.handle)
     }
 
     /// The lowest ready stage from this number on.
     pub fn ready(&mut self, from: u16) -> Result<Option<u16>, Refused> {
-        // SAFETY: alone, pointers: `h` and what is told to are this call's.
-        if_there(self.handle.tell(|h, told| unsafe { sys::cf_ledger_ready(h, from, told) }))
+        ready(&mut self.handle, from)
     }
 
     /// What a stage is. `NO_STAGE`.
-    pub fn stage(&mut self, stage: u16) -> Result<Stage, Refused> {
-        // SAFETY: alone, pointers: `h` and what is told to are this call's.
-        self.handle.tell(|h, told| unsafe { sys::cf_ledger_stage(h, stage, told) }).map(stage_out)
+    pub fn stage(&mut self, number: u16) -> Result<Stage, Refused> {
+        stage(&mut self.handle, number)
     }
 
     /// The number of a stage's function, if it has one. `NO_STAGE`.
@@ -278,8 +272,7 @@ impl Ledger {
 
     /// How many stages there are by now.
     pub fn stages(&mut self) -> Result<u16, Refused> {
-        // SAFETY: alone, pointers: `h` and what is told to are this call's.
-        self.handle.tell(|h, told| unsafe { sys::cf_ledger_stages(h, told) })
+        stages(&mut self.handle)
     }
 
     /// Makes room for so many stages more, by doing all words again. `ROOM`, `NO_MEMORY`.
@@ -311,6 +304,35 @@ fn apply(handle: &mut Handle, word: u64, changes: &mut Changes) -> Result<Reply,
 fn count(handle: &mut Handle) -> Result<usize, Refused> {
     // SAFETY: alone, pointers: `h` and what is told to are this call's, and there is room for no word.
     handle.tell(|h, told| unsafe { sys::cf_ledger_words(h, 0, std::ptr::null_mut(), 0, told) })
+}
+
+// What a request is asked, too, which has a ledger.
+
+/// The words of all that was done.
+pub(crate) fn words(handle: &mut Handle) -> Result<Vec<u64>, Refused> {
+    let mut words = vec![0; count(handle)?];
+    let (first, room) = (words.as_mut_ptr(), words.len());
+    // SAFETY: alone, pointers: `h` and what is told to are this call's, and `first` points to as many words as said.
+    handle.tell(|h, told| unsafe { sys::cf_ledger_words(h, 0, first, room, told) })?;
+    Ok(words)
+}
+
+/// The lowest ready stage from this number on.
+pub(crate) fn ready(handle: &mut Handle, from: u16) -> Result<Option<u16>, Refused> {
+    // SAFETY: alone, pointers: `h` and what is told to are this call's.
+    if_there(handle.tell(|h, told| unsafe { sys::cf_ledger_ready(h, from, told) }))
+}
+
+/// What a stage is.
+pub(crate) fn stage(handle: &mut Handle, stage: u16) -> Result<Stage, Refused> {
+    // SAFETY: alone, pointers: `h` and what is told to are this call's.
+    handle.tell(|h, told| unsafe { sys::cf_ledger_stage(h, stage, told) }).map(stage_out)
+}
+
+/// How many stages there are by now.
+pub(crate) fn stages(handle: &mut Handle) -> Result<u16, Refused> {
+    // SAFETY: alone, pointers: `h` and what is told to are this call's.
+    handle.tell(|h, told| unsafe { sys::cf_ledger_stages(h, told) })
 }
 
 #[inline]

@@ -87,12 +87,9 @@ impl PlanBuilder {
 
     /// Adds what is done to a stage that isn't settled at a moment. `NO_SUCH_STAGE`, `TOO_MANY_LIMITS`, `NO_MEMORY`.
     pub fn limit(&mut self, stage: u16, at: u32, limit: Limit) -> Result<(), Refused> {
-        let (kind, value) = match limit {
-            Limit::Timeout => (0, Value::Nil),
-            Limit::Give(value) => (1, value),
-        };
+        let (kind, value) = limit_in(limit);
         // SAFETY: alone: `h` is this call's.
-        self.0.call(|h| unsafe { sys::cf_builder_limit(h, stage, at, kind, value_in(value)) })
+        self.0.call(|h| unsafe { sys::cf_builder_limit(h, stage, at, kind, value) })
     }
 
     /// The plan of these stages. `NO_MEMORY`.
@@ -100,6 +97,14 @@ impl PlanBuilder {
         // SAFETY: alone: `h` is this call's.
         self.0.call(|h| unsafe { sys::cf_build(h) })?;
         Ok(Plan(self.0))
+    }
+}
+
+/// The kind of a limit, and the value that it gives.
+pub(crate) fn limit_in(limit: Limit) -> (u32, sys::cf_value) {
+    match limit {
+        Limit::Timeout => (sys::CF_TIMEOUT, value_in(Value::Nil)),
+        Limit::Give(value) => (sys::CF_GIVE_VALUE, value_in(value)),
     }
 }
 

@@ -9,7 +9,7 @@ use std::sync::atomic::{AtomicBool, Ordering};
 #[derive(Clone, Copy, PartialEq, Eq, Debug)]
 pub struct Refused(u32);
 
-const WORDS: [&str; 35] = [
+const WORDS: [&str; 37] = [
     "the plan has 4,096 stages already",
     "a source isn't below the new stage's number",
     "the number of sources isn't the form's",
@@ -45,6 +45,8 @@ const WORDS: [&str; 35] = [
     "a request has 1 to 16 lanes, and one for each stage of its plan",
     "there is no such lane",
     "the moment is before the last one",
+    "a text ends before it begins or behind its bytes, or isn't UTF-8",
+    "there are more texts or times than there can be",
 ];
 
 impl Refused {
@@ -79,6 +81,8 @@ impl Refused {
     pub const LANES: Refused = Refused(33);
     pub const NO_LANE: Refused = Refused(34);
     pub const PAST_MOMENT: Refused = Refused(35);
+    pub const BAD_TEXT: Refused = Refused(36);
+    pub const TOO_MANY: Refused = Refused(37);
     /// No code of the library: what is linked isn't the library that this crate was written for.
     pub const OTHER_LIBRARY: Refused = Refused(256);
 

@@ -63,6 +63,8 @@ pub const CF_NOT_OVER: u32 = 32;
 pub const CF_LANES: u32 = 33;
 pub const CF_NO_LANE: u32 = 34;
 pub const CF_PAST_MOMENT: u32 = 35;
+pub const CF_BAD_TEXT: u32 = 36;
+pub const CF_TOO_MANY: u32 = 37;
 pub const CF_NULL: u32 = 255;
 
 pub const CF_SOURCE: u32 = 0;
@@ -155,10 +157,22 @@ pub const CF_IS_CLAIMED: u32 = 2;
 pub const CF_IS_LINKED: u32 = 3;
 pub const CF_IS_SETTLED: u32 = 4;
 
+pub const CF_SAY_NAME: u32 = 0;
+pub const CF_SAY_STAGES: u32 = 1;
+pub const CF_SAY_CALLERS: u32 = 2;
+pub const CF_SAY_VALUES: u32 = 3;
+pub const CF_SAY_ERRORS: u32 = 4;
+
+pub const CF_LINES: u32 = 0;
+pub const CF_LINE: u32 = 1;
+pub const CF_ACCOUNT: u32 = 2;
+pub const CF_SCRIPT: u32 = 3;
+pub const CF_REPORT: u32 = 4;
+
 pub const CF_NO_FUNCTION: u32 = u32::MAX;
 pub const CF_NOBODY: u32 = u32::MAX;
 pub const CF_VERSION_MAJOR: u32 = 1;
-pub const CF_VERSION_MINOR: u32 = 6;
+pub const CF_VERSION_MINOR: u32 = 7;
 
 #[repr(C)]
 #[derive(Clone, Copy, Debug, Default, PartialEq, Eq)]
@@ -449,8 +463,13 @@ extern "C" {
     pub fn cf_request_told(request: *mut cf_handle, told: *mut cf_told, room: usize, n: *mut usize) -> u32;
     pub fn cf_request_ready(request: *mut cf_handle, lane: u8, ready: *mut u16) -> u32;
     pub fn cf_request_cancel_all(request: *mut cf_handle, who: u8, told: *mut cf_told, room: usize, n: *mut usize) -> u32;
+    pub fn cf_request_grow(request: *mut cf_handle) -> u32;
     pub fn cf_request_restart(request: *mut cf_handle) -> u32;
     pub fn cf_request_do(request: *mut cf_handle, calls: *mut cf_request_call, n: usize, done: *mut cf_request_done, told: *mut cf_told, room: usize) -> u32;
+    pub fn cf_history_new(plan: *mut cf_handle, room: u16, words: *const u64, n: usize, history: *mut cf_handle) -> u32;
+    pub fn cf_history_times(history: *mut cf_handle, times: *const u64, n: usize) -> u32;
+    pub fn cf_history_say(history: *mut cf_handle, what: u32, text: *const u8, n: usize, ends: *const usize, count: usize) -> u32;
+    pub fn cf_history_text(history: *mut cf_handle, kind: u32, text: *mut u8, room: usize, length: *mut usize) -> u32;
     pub fn cf_version() -> *const u8;
     pub fn cf_fits(major: u32, minor: u32) -> bool;
     pub fn cf_code_name(code: u32) -> *const u8;

@@ -76,7 +76,7 @@ impl Core {
         let mut inner = self.lock();
         inner.ledger.now = now;
         let done = act(&mut inner, &mut after);
-        inner.relay(&mut after);
+        inner.cancel_relays(&mut after);
         inner.hire(self.most(), false, &mut after);
         drop(inner);
         let mut panicked = None;
@@ -148,7 +148,7 @@ impl Core {
                 let _ = to.settle(RELAY, relay, told);
             }
             None => {
-                own.extra(stage).feeds.push((Some(Arc::clone(&to)), relay));
+                own.extra(stage).feeds.push((Arc::clone(&to), relay));
                 drop(own);
                 if !to.follow(relay, self, stage) {
                     self.unfeed(stage, &to, relay);
@@ -303,7 +303,7 @@ impl Core {
                 (_, 0) => None,
                 (ended, _) => inner.step(self, who, ended, &mut after),
             };
-            inner.relay(&mut after);
+            inner.cancel_relays(&mut after);
             inner.coming -= usize::from(begins);
             inner.jobs -= usize::from(next.is_none());
             inner.hire(self.most(), begins || next.is_none(), &mut after);

@@ -98,7 +98,7 @@ impl History {
         let record = inner.ledger.record.clone();
         let slots = inner.slots.iter();
         let (made, kept): (Vec<_>, Vec<_>) = slots.map(|slot| (slot.made, (slot.value().cloned(), slot.error().cloned()))).unzip();
-        let (given, relays, describe) = (inner.names.clone(), inner.relays.clone(), inner.describe.clone());
+        let (given, relays, describe) = (inner.names.clone(), inner.ledger.relays.clone(), inner.describe.clone());
         drop(inner);
         let mut names: Vec<String> = made.iter().map(Made::to_string).collect();
         given.into_iter().for_each(|(stage, name)| names[usize::from(stage)] = name.into_owned());

@@ -1,6 +1,6 @@
-//! What stands under a request's lock: the library's ledger, and what its numbers stand for.
+//! What stands under a request's lock: the library's machine, and what its numbers stand for.
 //!
-//! Each change is one word that the ledger does. What the word changed comes with its reply, and is written where polls read it under the same
+//! Each change is one call of the machine. The stages that it settled come with its reply, and are written where polls read them under the same
 //! hold: nobody reads what lies behind what he was told. Nothing here says who wins, what is ready or what follows.
 //!
 //! A value's number is that of the stage that gave it, and so is an error's.
@@ -14,8 +14,8 @@ use crate::spawn::RELAY;
 use crate::task::Task;
 use crate::value::{Call, Gave, Given, Val};
 use crate::wakers::Wakers;
-use crate::word::{self, Form, BAD_ANSWER, CANCEL, COMPLETE, FAIL, FAIL_AS, FINISH, LINKS, SOME, THROWS, TIMED_OUT};
-use cf_graph::{Answer, Args, Cause, Changes, Finished, Outcome, Reply, State, Value};
+use crate::word::{self, Form, BAD_ANSWER, CANCEL, CLAIM, COMPLETE, FAIL, FAIL_AS, FINISH, LINKS, SOME, THROWS, TIMED_OUT};
+use cf_graph::{Answer, Args, Cause, Claimed, Finished, Outcome, Reply, Told, Value};
 #[cfg(feature = "tokio")]
 use std::any::Any;
 use std::borrow::Cow;
@@ -37,8 +37,6 @@ pub(crate) struct Inner {
     pub(crate) describe: crate::describe::Describe,
     /// Who is told that the request is over.
     pub(crate) ending: Option<Box<Ending>>,
-    /// Which stage each relay of this request stands for.
-    pub(crate) relays: Vec<(u16, u16)>,
     /// The handles that wait for a stage.
     pub(crate) waiting: Wakers,
     /// Workers that wait for a stage of this request, and could run functions meanwhile.
@@ -46,23 +44,19 @@ pub(crate) struct Inner {
     /// Jobs that were asked for and aren't done, and those of them that haven't begun.
     pub(crate) jobs: usize,
     pub(crate) coming: usize,
-    /// How many stages are told to be ready, no one of them below this number, and whether one has become so under this hold.
-    ready: usize,
-    from: u16,
+    /// Whether a stage may have become ready under this hold: one was settled, or one was attached that doesn't wait.
     is_more: bool,
     /// What few stages have.
     extras: BTreeMap<u16, Extra>,
-    /// Relays that are to be settled as these stages were, before the lock is free.
-    relaying: Vec<(u16, u16)>,
-    /// Relays that are of no use any more, and are to be cancelled by then.
+    /// Relays that are of no use any more, and are to be cancelled before the lock is free.
     letting: Vec<u16>,
 }
 
 #[derive(Default)]
 pub(crate) struct Extra {
     pub(crate) task: Option<Arc<Task>>,
-    /// Relays that are settled as this one is, of other requests, or of this one, which doesn't keep itself alive.
-    pub(crate) feeds: Vec<(Option<Arc<Core>>, u16)>,
+    /// Relays of other requests that are settled as this one is.
+    pub(crate) feeds: Vec<(Arc<Core>, u16)>,
     /// The request and its stage for which it stands as a relay.
     pub(crate) of: Option<(Weak<Core>, u16)>,
     /// Relays that are of no use once it is settled.
@@ -86,7 +80,8 @@ impl Kept {
 /// What a hold of the lock changed, and what is to be told once the lock is free.
 #[derive(Default)]
 pub(crate) struct After {
-    changes: Changes,
+    /// What the last call of the machine settled.
+    told: Told,
     pub(crate) wakers: Vec<Waker>,
     pub(crate) dropped: Vec<Held>,
     pub(crate) feeds: Vec<Feed>,
@@ -138,16 +133,12 @@ impl Inner {
             names: BTreeMap::new(),
             describe: crate::describe::Describe::All,
             ending: None,
-            relays: Vec::new(),
             waiting: Wakers::default(),
             helpers: Vec::new(),
             jobs: 0,
             coming: 0,
-            ready: 0,
-            from: 0,
             is_more: false,
             extras: BTreeMap::new(),
-            relaying: Vec::new(),
             letting: Vec::new(),
         })
     }
@@ -210,9 +201,10 @@ impl Inner {
     // Changes.
 
     pub(crate) fn attach(&mut self, who: u8, form: Form, of: &[u16], call: Option<Call>, made: Made, after: &mut After) -> Result<u16, Refusal> {
-        match self.ledger.attach(who, form, of, call.is_some(), &mut after.changes) {
+        match self.ledger.attach(who, form, of, call.is_some(), &mut after.told) {
             Ok(stage) => {
                 self.slots.push(Slot::new(made, call));
+                self.is_more |= of.is_empty() || of.iter().any(|source| self.slots[usize::from(*source)].is_settled());
                 self.show(after);
                 Ok(stage)
             }
@@ -253,7 +245,7 @@ impl Inner {
 
     #[inline]
     fn act(&mut self, word: u64, after: &mut After) -> Reply {
-        self.ledger.act(word, &mut after.changes)
+        self.ledger.act(word, &mut after.told)
     }
 
     /// Keeps what a stage was settled with, unless it was cancelled again, or has nothing to keep.
@@ -268,44 +260,24 @@ impl Inner {
         }
     }
 
-    /// Shows what the last word changed: which stages are ready, and which are settled.
+    /// Shows which stages the last call settled. A relay that follows is settled by the machine alone, by an event of its own, and is the lowest
+    /// stage that this settles.
     #[inline]
     fn show(&mut self, after: &mut After) {
         let mut hangs = Hangs::new();
-        for at in 0..after.changes.len() {
-            let news = after.changes.at(at);
-            match news.now.state {
-                State::Ready => self.set_ready(news.stage),
-                State::Settled(outcome) => self.settled(news.stage, outcome, &mut hangs, after),
-                State::Pending | State::Claimed | State::Linked(_) => {}
+        for at in 0..after.told.len() {
+            let (stage, outcome) = after.told.at(at);
+            if self.ledger.followed(stage).is_some() {
+                self.ledger.relayed();
             }
+            self.settled(stage, outcome, &mut hangs, after);
         }
     }
 
-    #[inline]
-    fn set_ready(&mut self, stage: u16) {
-        self.slot(stage).set_ready(true);
-        self.ready += 1;
-        self.from = self.from.min(stage);
-        self.is_more = true;
-    }
-
-    #[inline]
-    fn set_unready(&mut self, stage: u16) {
-        let slot = self.slot(stage);
-        if slot.is_ready() {
-            slot.set_ready(false);
-            self.ready -= 1;
-        }
-    }
-
-    /// A stage is told to be settled. A second time that is told where only the claim of it has ended.
+    /// A stage is told to be settled.
     #[inline]
     fn settled(&mut self, stage: u16, outcome: Outcome, hangs: &mut Hangs, after: &mut After) {
-        self.set_unready(stage);
-        if self.slot(stage).is_settled() {
-            return;
-        }
+        self.is_more = true;
         let from = match outcome {
             Outcome::Fault { cause: Cause::TimedOut | Cause::BadAnswer, .. } => self.came_from(stage, hangs),
             _ => stage,
@@ -335,7 +307,7 @@ impl Inner {
             *hangs = self.ledger.hangs();
         }
         let [first, second, link] = hangs[usize::from(stage)].1;
-        let relayed = self.relays.iter().find(|relay| relay.0 == stage).map(|relay| relay.1);
+        let relayed = self.ledger.followed(stage);
         let mut of = [link, relayed, first, second].into_iter().flatten();
         of.find_map(|of| self.slots[usize::from(of)].blamed()).expect("what it hangs on failed")
     }
@@ -349,35 +321,13 @@ impl Inner {
         self.letting.extend(extra.lets_go);
         after.ends.extend(extra.of.map(|(of, number)| (of, number, stage)));
         for (to, relay) in extra.feeds {
-            match to {
-                None => self.relaying.push((relay, stage)),
-                Some(to) => after.feeds.push((to, relay, self.told(stage).expect("the stage is settled"))),
-            }
+            after.feeds.push((to, relay, self.told(stage).expect("the stage is settled")));
         }
     }
 
-    /// Settles relays of this request as the stages are for which they stand.
+    /// Cancels relays that are of no use any more.
     #[inline]
-    pub(crate) fn relay(&mut self, after: &mut After) {
-        while !self.relaying.is_empty() || !self.letting.is_empty() {
-            self.relay_all(after);
-        }
-    }
-
-    fn relay_all(&mut self, after: &mut After) {
-        while let Some((relay, stage)) = self.relaying.pop() {
-            let outcome = self.slot(stage).outcome().expect("the stage is settled");
-            let (kind, tail) = match outcome {
-                Outcome::Value(Value::Nil) => (COMPLETE, 0),
-                Outcome::Value(Value::Int(number)) => (COMPLETE, SOME | u64::from(number as u32)),
-                Outcome::Fault { cause: Cause::Thrown(code), .. } => (FAIL, u64::from(code)),
-                Outcome::Fault { cause: Cause::Cancelled, .. } => (CANCEL, 0),
-                Outcome::Fault { cause: Cause::TimedOut, .. } => (FAIL_AS, TIMED_OUT),
-                Outcome::Fault { cause: Cause::BadAnswer, .. } => (FAIL_AS, BAD_ANSWER),
-            };
-            self.act(word::of(kind, RELAY, relay, tail), after);
-            self.show(after);
-        }
+    pub(crate) fn cancel_relays(&mut self, after: &mut After) {
         while let Some(relay) = self.letting.pop() {
             if !self.slot(relay).is_settled() {
                 let _ = self.settle(RELAY, relay, Err(Error::Cancelled), after);
@@ -434,31 +384,17 @@ impl Inner {
             }
             None => (None, Held::Nothing),
         };
-        if held.is_none() && self.ready == 0 {
-            return None;
-        }
-        // What a finish makes ready is above it.
-        let from = held.map_or(self.from, |(stage, _)| self.from.min(stage + 1));
-        let (finished, taken) = self.ledger.step(who, held, from, &mut after.changes);
+        let (finished, taken) = self.ledger.step(who, held, &mut after.told);
         if let (Some(finished), Some((stage, _))) = (finished, held) {
             self.ended(stage, finished, holds, after);
         }
-        let (stage, args) = match taken {
-            Some(taken) => taken,
-            None => {
-                debug_assert_eq!(self.ready, 0);
-                self.from = u16::MAX;
-                return None;
-            }
-        };
-        self.from = stage + 1;
+        let (stage, args) = taken?;
+        self.ledger.claimed(args);
         Some(self.taken(stage, args))
     }
 
     #[inline]
     fn taken(&mut self, stage: u16, args: Args) -> Todo {
-        self.ledger.claimed(args);
-        self.set_unready(stage);
         let args = self.blaming(stage, args);
         match replace(&mut self.slot(stage).held, Held::Nothing) {
             Held::Call(call) => (stage, call, args),
@@ -481,8 +417,8 @@ impl Inner {
 
     /// Claims a stage that is ready.
     pub(crate) fn claim(&mut self, who: u8, stage: u16, after: &mut After) -> Todo {
-        match self.ledger.step(who, None, stage, &mut after.changes).1 {
-            Some((taken, args)) if taken == stage => self.taken(stage, args),
+        match self.act(word::of(CLAIM, who, stage, 0), after) {
+            Reply::Claimed(Claimed::Granted(args)) => self.taken(stage, args),
             _ => unreachable!("the stage is ready"),
         }
     }
@@ -494,19 +430,18 @@ impl Inner {
         if self.slot(stage).is_settled() {
             return needs;
         }
-        if is_own && self.slot(stage).is_ready() {
+        if is_own && self.ledger.is_ready(stage) {
             needs.first = Some(First::Function(stage));
             return needs;
         }
         let hangs = self.ledger.hangs();
         let (mut row, mut seen) = (vec![stage], vec![false; self.slots.len()]);
-        let relays: BTreeMap<u16, u16> = self.relays.iter().copied().collect();
+        let relays: BTreeMap<u16, u16> = self.ledger.relays.iter().copied().collect();
         while let Some(stage) = row.pop() {
-            let slot = &self.slots[usize::from(stage)];
-            if slot.is_settled() || replace(&mut seen[usize::from(stage)], true) {
+            if self.slot(stage).is_settled() || replace(&mut seen[usize::from(stage)], true) {
                 continue;
             }
-            if slot.is_ready() && is_own {
+            if is_own && self.ledger.is_ready(stage) {
                 needs.first = Some(First::Function(stage));
                 return needs;
             }
@@ -529,7 +464,7 @@ impl Inner {
 
     /// Anything that a worker can do, where what it waits for may need any, and the stages for which relays wait.
     pub(crate) fn any(&mut self, is_own: bool) -> Needs {
-        let ready = (0..self.slots.len() as u16).find(|stage| self.slots[usize::from(*stage)].is_ready());
+        let ready = self.ledger.lowest_ready(0);
         let queued = || self.extras.values().filter_map(|extra| extra.task.as_ref()).find(|task| task.is_queued()).map(Arc::clone);
         let first = if is_own { ready.map(First::Function).or_else(|| queued().map(First::Future)) } else { None };
         let relays = self.extras.values().filter_map(|extra| extra.of.as_ref());
@@ -585,24 +520,24 @@ impl Inner {
             return;
         }
         self.names.insert(target, format!("relay of {number}").into());
-        self.relays.push((target, number));
-        if self.slot(number).is_settled() {
-            self.relaying.push((target, number));
-        } else {
-            self.extra(number).feeds.push((None, target));
-        }
+        self.ledger.follow(target, number, &mut after.told);
+        self.show(after);
     }
 
     /// Asks for one more job where more stages are ready than jobs come for, and wakes workers that only wait. A job that begins asks for the
     /// next one, so nobody wakes many.
     #[inline]
     pub(crate) fn hire(&mut self, most: usize, begins: bool, after: &mut After) {
-        if take(&mut self.is_more) {
-            after.wakers.append(&mut self.helpers);
-        } else if !begins {
+        let is_more = take(&mut self.is_more);
+        let may_hire = self.jobs < most;
+        if !is_more && !begins || !may_hire && self.helpers.is_empty() {
             return;
         }
-        if self.ready > self.coming && self.jobs < most {
+        let ready = self.ledger.ready();
+        if is_more && ready > 0 {
+            after.wakers.append(&mut self.helpers);
+        }
+        if ready > self.coming && may_hire {
             self.jobs += 1;
             self.coming += 1;
             after.jobs += 1;
@@ -624,14 +559,16 @@ impl Inner {
     /// Takes out a relay that is settled otherwise, and gives back its request.
     pub(crate) fn unfed(&mut self, stage: u16, to: &Arc<Core>, relay: u16) -> Option<Arc<Core>> {
         let feeds = &mut self.extras.get_mut(&stage)?.feeds;
-        let is_it = |feed: &(Option<Arc<Core>>, u16)| feed.1 == relay && feed.0.as_ref().map_or(false, |core| Arc::ptr_eq(core, to));
-        feeds.iter().rposition(is_it).and_then(|at| feeds.remove(at).0)
+        let is_it = |feed: &(Arc<Core>, u16)| feed.1 == relay && Arc::ptr_eq(&feed.0, to);
+        feeds.iter().rposition(is_it).map(|at| feeds.remove(at).0)
     }
 
     /// The stages that are ready, if no job is there that would run them. One that rests may rest for them.
-    pub(crate) fn given_up(&self, resting: usize) -> Vec<u16> {
-        let all = 0..self.slots.len() as u16;
-        all.filter(|stage| self.jobs <= resting && self.slots[usize::from(*stage)].is_ready()).collect()
+    pub(crate) fn given_up(&mut self, resting: usize) -> Vec<u16> {
+        if self.jobs > resting {
+            return Vec::new();
+        }
+        std::iter::successors(self.ledger.lowest_ready(0), |stage| self.ledger.lowest_ready(stage + 1)).collect()
     }
 }
 

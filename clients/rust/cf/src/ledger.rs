@@ -1,18 +1,27 @@
-//! The library's ledger of one request, and what callers were told by it. One thread at a time has it.
+//! The library's machine of one request, and what callers were told by it. One thread at a time has it.
 use crate::error::Refusal;
 use crate::inner::SLOTS;
 use crate::record::Record;
+use crate::spawn::RELAY;
 use crate::word::{self, Form};
-use cf_graph::{Answer, Args, Changes, Claimed, Finished, Ledger as Words, Outcome, Plan, PlanBuilder, Refused, Reply};
+use cf_graph::{Answer, Args, Claimed, Finished, Ledger as Words, Outcome, Plan, PlanBuilder, Refused, Reply, Request, RequestSizes, State, Told};
+use std::cell::RefCell;
 use std::sync::{Mutex, MutexGuard, PoisonError};
 
 /// How many stages a request can have.
 pub(crate) const MOST_STAGES: u16 = 4096;
 
+/// All stages are of one lane, since a request has one executor.
+const LANE: u8 = 0;
+
 pub(crate) struct Ledger {
-    words: Words,
+    /// There until this is dropped.
+    machine: Option<Request>,
+    /// For how many stages there was room at first.
     room: u16,
     pub(crate) stages: u16,
+    /// Which stage each relay of this request follows.
+    pub(crate) relays: Vec<(u16, u16)>,
     pub(crate) record: Record,
     /// The moment of all that is done, in nanoseconds since the request began.
     pub(crate) now: u64,
@@ -58,26 +67,28 @@ pub(crate) fn comes_again(words: &[u64], record: &Record, stages: u16) -> Result
 impl Ledger {
     pub(crate) fn new(room: u16) -> Result<Ledger, Refusal> {
         let room = room.clamp(1, MOST_STAGES);
-        let words = match nothing().map_err(|_| Refusal::NoLedger)?.as_mut() {
-            Some(plan) => Words::new(plan, room).map_err(|_| Refusal::NoLedger)?,
-            None => return Err(Refusal::NoLedger),
-        };
-        Ok(Ledger { words, room, stages: 0, record: Record::of_stages(room.min(SLOTS)), now: 0 })
+        let (room, machine) = kept(room).map_or_else(|| opened(room).map(|machine| (room, machine)), Ok).map_err(|_| Refusal::NoLedger)?;
+        Ok(Ledger { machine: Some(machine), room, stages: 0, relays: Vec::new(), record: Record::of_stages(room.min(SLOTS)), now: 0 })
+    }
+
+    #[inline]
+    fn machine(&mut self) -> &mut Request {
+        self.machine.as_mut().expect("it is there until this is dropped")
     }
 
     /// Does the event of a word, and writes down what it was answered.
     #[inline]
-    pub(crate) fn act(&mut self, word: u64, changes: &mut Changes) -> Reply {
-        let reply = self.words.apply_telling(word, changes).expect("memory for a word");
+    pub(crate) fn act(&mut self, word: u64, told: &mut Told) -> Reply {
+        let reply = self.machine().apply(word, LANE, told).expect("memory for a word");
         self.record.event(self.now, reply);
         reply
     }
 
-    /// Finishes what a caller holds, if it holds a stage, and claims the lowest ready stage from a number on, if there is one. What the finish
-    /// was answered is written down, and what was claimed is to be, by [`claimed`](Ledger::claimed), behind what the finish settled.
+    /// Finishes what a caller holds, if it holds a stage, and claims the lowest ready stage, if there is one. What the finish was answered is written
+    /// down, and what was claimed is to be, by [`claimed`](Ledger::claimed), behind what the finish settled.
     #[inline]
-    pub(crate) fn step(&mut self, who: u8, held: Option<(u16, Answer)>, from: u16, changes: &mut Changes) -> (Option<Finished>, Option<(u16, Args)>) {
-        let step = self.words.step(who, held, from, changes).expect("memory for two words, and an open claim of what is held");
+    pub(crate) fn step(&mut self, who: u8, held: Option<(u16, Answer)>, told: &mut Told) -> (Option<Finished>, Option<(u16, Args)>) {
+        let step = self.machine().next(who, LANE, held, told).expect("memory for two words, and an open claim of what is held");
         if let Some(finished) = step.finished {
             self.record.event(self.now, Reply::Finished(finished));
         }
@@ -90,19 +101,57 @@ impl Ledger {
         self.record.event(self.now, Reply::Claimed(Claimed::Granted(args)));
     }
 
-    /// Writes down that a stage was settled by the last word.
+    /// Lets a stage end as another one does.
+    pub(crate) fn follow(&mut self, relay: u16, stage: u16, told: &mut Told) {
+        self.machine().follow(relay, stage, told).expect("memory for a relay");
+        self.relays.push((relay, stage));
+    }
+
+    /// The stage that a relay of this request follows.
+    #[inline]
+    pub(crate) fn followed(&self, relay: u16) -> Option<u16> {
+        self.relays.iter().find(|it| it.0 == relay).map(|it| it.1)
+    }
+
+    /// Writes down that the machine has settled a relay.
+    pub(crate) fn relayed(&mut self) {
+        self.record.event(self.now, Reply::Flag(true));
+    }
+
+    /// How many stages are ready.
+    #[inline]
+    pub(crate) fn ready(&mut self) -> usize {
+        usize::from(self.machine().ready(LANE).expect("the lane is there"))
+    }
+
+    /// The lowest stage from a number on that is ready.
+    pub(crate) fn lowest_ready(&mut self, from: u16) -> Option<u16> {
+        self.machine().lowest_ready(from).expect("the machine is there")
+    }
+
+    pub(crate) fn is_ready(&mut self, stage: u16) -> bool {
+        self.machine().stage(stage).expect("the stage is there").state == State::Ready
+    }
+
+    /// Writes down that a stage was settled by the last event.
     #[inline]
     pub(crate) fn told(&mut self, stage: u16, outcome: Outcome) {
         self.record.told(stage, outcome);
     }
 
     /// Attaches a stage, whose function has the stage's own number, and gives the number.
-    pub(crate) fn attach(&mut self, who: u8, form: Form, of: &[u16], has_function: bool, changes: &mut Changes) -> Result<u16, Refusal> {
-        let number = self.stages;
-        if number == self.room {
-            self.grow()?;
+    pub(crate) fn attach(&mut self, who: u8, form: Form, of: &[u16], has_function: bool, told: &mut Told) -> Result<u16, Refusal> {
+        let (number, now) = (self.stages, self.now);
+        if number == MOST_STAGES {
+            return Err(Refusal::Full);
         }
-        self.act(word::attach(who, form, of, if has_function { number } else { 0 }), changes);
+        let word = word::attach(who, form, of, if has_function { number } else { 0 });
+        let mut applied = self.machine().apply(word, LANE, told);
+        if applied == Err(Refused::NO_ROOM) {
+            self.machine().grow().map_err(|_| Refusal::NoLedger)?;
+            applied = self.machine().apply(word, LANE, told);
+        }
+        self.record.event(now, applied.expect("memory for a word"));
         self.stages = number + 1;
         Ok(number)
     }
@@ -128,18 +177,46 @@ impl Ledger {
     }
 
     pub(crate) fn words(&mut self) -> Vec<u64> {
-        self.words.words().expect("the words are there")
+        self.machine().words().expect("the words are there")
     }
+}
 
-    /// Makes room for three times as many stages more, for which the library does all words again.
-    fn grow(&mut self) -> Result<(), Refusal> {
-        if self.room == MOST_STAGES {
-            return Err(Refusal::Full);
-        }
-        let room = self.room.saturating_mul(4).min(MOST_STAGES);
-        self.words.grow(room - self.room).map_err(|_| Refusal::NoLedger)?;
-        self.room = room;
-        Ok(())
+impl Drop for Ledger {
+    /// Keeps the machine for a later request of this thread, unless it is large, or enough are kept.
+    fn drop(&mut self) {
+        let (room, is_small) = (self.room, self.room.max(self.stages) <= SLOTS);
+        let machine = self.machine.take().filter(|_| is_small);
+        let _ = KEPT.try_with(|kept| {
+            let mut kept = kept.borrow_mut();
+            let machine = machine.filter(|_| kept.len() < MOST_KEPT);
+            kept.extend(machine.and_then(|mut machine| machine.restart().ok().map(|()| (room, machine))));
+        });
+    }
+}
+
+/// How many machines a thread keeps: one takes less to start again than a new one to be opened.
+const MOST_KEPT: usize = 8;
+
+thread_local! {
+    /// The machines of requests that ended on this thread, and their rooms.
+    static KEPT: RefCell<Vec<(u16, Request)>> = const { RefCell::new(Vec::new()) };
+}
+
+/// A machine that was kept, with room for so many stages or more.
+fn kept(room: u16) -> Option<(u16, Request)> {
+    let taken = |kept: &RefCell<Vec<(u16, Request)>>| {
+        let mut kept = kept.borrow_mut();
+        let at = kept.iter().rposition(|it| it.0 >= room)?;
+        Some(kept.swap_remove(at))
+    };
+    KEPT.try_with(taken).ok().flatten()
+}
+
+/// A machine of no stages, which settles relays by their caller.
+fn opened(room: u16) -> Result<Request, Refused> {
+    match nothing()?.as_mut() {
+        Some(plan) => Request::new(plan, RequestSizes { room, lanes: LANE + 1, own: RELAY }, &[]),
+        None => Err(Refused::NO_MEMORY),
     }
 }
 
@@ -149,20 +226,43 @@ mod tests {
     use crate::record::Item;
     use crate::word::{CANCEL, COMPLETE, SOME};
 
+    /// A few small ones, which are as they were opened.
+    #[test]
+    fn few_machines_are_kept() {
+        let many = |room| (0..2 * MOST_KEPT).map(|_| Ledger::new(room).unwrap()).collect::<Vec<_>>();
+        let count = || KEPT.with(|kept| kept.borrow().len());
+        drop(many(SLOTS + 1));
+        assert_eq!(count(), 0);
+        let (mut ledgers, mut told) = (many(4), Told::default());
+        for ledger in &mut ledgers {
+            ledger.attach(0, Form::Source, &[], false, &mut told).unwrap();
+        }
+        drop(ledgers);
+        assert_eq!(count(), MOST_KEPT);
+        let mut again = Ledger::new(3).unwrap();
+        assert_eq!((count(), again.room, again.words()), (MOST_KEPT - 1, 4, Vec::new()));
+        let large = Ledger::new(5).unwrap();
+        assert_eq!((count(), large.room), (MOST_KEPT - 1, 5));
+        for _ in 0..SLOTS {
+            again.attach(0, Form::Source, &[], false, &mut told).unwrap();
+        }
+        assert_eq!(again.attach(0, Form::Source, &[], false, &mut told), Ok(SLOTS));
+        drop(again);
+        assert_eq!(count(), MOST_KEPT - 1);
+        drop(large);
+        assert_eq!(count(), MOST_KEPT);
+    }
+
     /// What another ledger would tell of the same words, or this one of others.
     #[test]
     fn what_differs_does_not_come_again() {
-        let (mut ledger, mut changes) = (Ledger::new(2).unwrap(), Changes::default());
+        let (mut ledger, mut told) = (Ledger::new(2).unwrap(), Told::default());
         for _ in 0..2 {
-            ledger.attach(0, Form::Source, &[], false, &mut changes).unwrap();
+            ledger.attach(0, Form::Source, &[], false, &mut told).unwrap();
         }
         for word in [word::of(COMPLETE, 0, 0, SOME), word::of(COMPLETE, 0, 0, SOME | 1), word::of(CANCEL, 0, 1, 0)] {
-            ledger.act(word, &mut changes);
-            for news in changes.iter() {
-                if let cf_graph::State::Settled(outcome) = news.now.state {
-                    ledger.told(news.stage, outcome);
-                }
-            }
+            ledger.act(word, &mut told);
+            told.iter().for_each(|(stage, outcome)| ledger.told(stage, outcome));
         }
         let (words, items) = (ledger.words(), ledger.record.items().collect::<Vec<_>>());
         assert_eq!((words.len(), items.len()), (5, 7));

@@ -5,7 +5,7 @@
 //! ([`complete`](Stage::complete), [`fail`](Stage::fail), [`cancel`](Stage::cancel), [`or_timeout`](Stage::or_timeout)), waited for by a
 //! thread ([`wait`](Stage::wait)) and, as it is a [`Future`](std::future::Future), awaited under any runtime.
 //!
-//! Which stage is settled with what, and who may call which function, is decided by a ledger of the proved library `libcf`: one word for each
+//! Which stage is settled with what, and who may call which function, is decided by a machine of the proved library `libcf`: one word for each
 //! change, in one order. So each request has one [`History`], which can be read, judged by `cf_look check`, done again by `cf run`, and drawn.
 //!
 //! ```

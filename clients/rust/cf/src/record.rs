@@ -13,6 +13,8 @@ pub(crate) struct Record {
     attached: u16,
 }
 
+/// The bytes of an item at most: a tag, ten of a time, and five of each number.
+const ITEM: usize = 21;
 const TOLD: u8 = 64;
 const GOT: u8 = 32;
 /// An attach was answered with the number that is next, and a stage settled with its own number.
@@ -33,8 +35,8 @@ impl Record {
     }
 
     /// An event that was done at this moment, in nanoseconds since the request began.
+    #[inline]
     pub(crate) fn event(&mut self, at: u64, reply: Reply) {
-        let mut item = Bytes::default();
         let (mut tag, mut numbers) = tag_of(reply);
         if let Reply::Attached(Some(stage)) = reply {
             if stage == self.attached {
@@ -42,73 +44,54 @@ impl Record {
             }
             self.attached += 1;
         }
-        item.push(tag);
-        item.number(at.saturating_sub(self.last));
+        self.make_room();
+        self.bytes.push(tag);
+        self.number(at.saturating_sub(self.last));
         self.last = self.last.max(at);
         if let Some(first) = numbers[0] {
-            item.number(u64::from(first));
+            self.number(u64::from(first));
         }
         if let Some(second) = numbers[1] {
-            item.number(u64::from(second));
+            self.number(u64::from(second));
         }
-        self.write(&item);
         self.events += 1;
     }
 
     /// A stage that the last event settled.
+    #[inline]
     pub(crate) fn told(&mut self, stage: u16, outcome: Outcome) {
-        let mut item = Bytes::default();
         let (tag, number) = match outcome_tag(outcome) {
             (tag @ 1..=3, Some(number)) if number == u32::from(stage) => (OWN + tag, None),
             other => other,
         };
-        item.push(TOLD + tag);
-        item.number(u64::from(stage));
+        self.make_room();
+        self.bytes.push(TOLD + tag);
+        self.number(u64::from(stage));
         if let Some(number) = number {
-            item.number(u64::from(number));
+            self.number(u64::from(number));
         }
-        self.write(&item);
     }
 
-    /// Room grows by a quarter, since there are many records that grow no more.
+    /// Makes room for an item, which grows by a quarter, since there are many records that grow no more.
     #[inline]
-    fn write(&mut self, item: &Bytes) {
-        let length = self.bytes.len() + item.length;
-        if self.bytes.capacity() < self.bytes.len() + item.bytes.len() {
+    fn make_room(&mut self) {
+        if self.bytes.capacity() - self.bytes.len() < ITEM {
             self.bytes.reserve_exact(64 + self.bytes.len() / 4);
         }
-        // All of an item is copied at once, since so many bytes as are known beforehand take no call.
-        self.bytes.extend_from_slice(&item.bytes);
-        self.bytes.truncate(length);
-    }
-
-    /// All that was written.
-    pub(crate) fn items(&self) -> Items<'_> {
-        Items { bytes: self.bytes.iter(), at: 0, attached: 0 }
-    }
-}
-
-/// The bytes of one item: a tag, at most ten of a time, and five of each number.
-#[derive(Default)]
-struct Bytes {
-    bytes: [u8; 24],
-    length: usize,
-}
-
-impl Bytes {
-    #[inline]
-    fn push(&mut self, byte: u8) {
-        self.bytes[self.length] = byte;
-        self.length += 1;
     }
 
     #[inline]
     fn number(&mut self, mut number: u64) {
         while number >= 128 {
-            self.push(number as u8 | 128);
+            self.bytes.push(number as u8 | 128);
             number >>= 7;
         }
-        self.push(number as u8);
+        self.bytes.push(number as u8);
+    }
+
+    /// All that was written.
+    pub(crate) fn items(&self) -> Items<'_> {
+        Items { bytes: self.bytes.iter(), at: 0, attached: 0 }
     }
 }
 

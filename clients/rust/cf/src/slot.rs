@@ -32,7 +32,6 @@ pub(crate) enum Held {
 #[derive(Clone, Copy, PartialEq, Eq)]
 enum Told {
     Waits,
-    Ready,
     Nil,
     Value,
     Fault(Fault),
@@ -52,20 +51,9 @@ impl Slot {
         Slot { made, held: call.map_or(Held::Nothing, Held::Call), waits: 0, told: Told::Waits, number: 0 }
     }
 
-    /// Whether it was told to be ready, and nobody has claimed it.
-    #[inline]
-    pub(crate) fn is_ready(&self) -> bool {
-        self.told == Told::Ready
-    }
-
-    #[inline]
-    pub(crate) fn set_ready(&mut self, is_ready: bool) {
-        self.told = if is_ready { Told::Ready } else { Told::Waits };
-    }
-
     #[inline]
     pub(crate) fn is_settled(&self) -> bool {
-        !matches!(self.told, Told::Waits | Told::Ready)
+        self.told != Told::Waits
     }
 
     /// Keeps what it was settled with, and the stage from which an error came that has no code.
@@ -90,7 +78,7 @@ impl Slot {
     #[inline]
     pub(crate) fn outcome(&self) -> Option<Outcome> {
         let (fault, wrapped) = match self.told {
-            Told::Waits | Told::Ready => return None,
+            Told::Waits => return None,
             Told::Nil => return Some(Outcome::Value(Value::Nil)),
             Told::Value => return Some(Outcome::Value(Value::Int(i32::from(self.number)))),
             Told::Fault(fault) => (fault, false),
@@ -144,9 +132,7 @@ mod tests {
     #[test]
     fn what_is_settled_is_told() {
         let mut slot = Slot::new(Made::as_a(|| "tested"), None);
-        assert!(!slot.is_settled() && !slot.is_ready() && slot.outcome().is_none());
-        slot.set_ready(true);
-        assert!(!slot.is_settled() && slot.is_ready() && slot.outcome().is_none());
+        assert!(!slot.is_settled() && slot.outcome().is_none());
         let mut outcomes = vec![Outcome::Value(Value::Nil), Outcome::Value(Value::Int(0)), Outcome::Value(Value::Int(4095))];
         for wrapped in [false, true] {
             for cause in [Cause::Thrown(0), Cause::Thrown(4095), Cause::Cancelled, Cause::TimedOut, Cause::BadAnswer] {
@@ -155,7 +141,7 @@ mod tests {
         }
         for outcome in outcomes {
             slot.settle(outcome, 17);
-            assert!(slot.is_settled() && !slot.is_ready());
+            assert!(slot.is_settled());
             assert_eq!(slot.outcome(), Some(outcome));
             let from = match outcome {
                 Outcome::Value(_) | Outcome::Fault { cause: Cause::Cancelled, .. } => None,

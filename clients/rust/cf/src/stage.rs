@@ -2,20 +2,21 @@
 //!
 //! # The design
 //!
-//! A request is one ledger of the proved library and the Rust values that the ledger knows by numbers. Who may settle a
-//! stage, which stage is ready, and what follows from a settled stage is decided by the ledger alone. The code of this crate
-//! hands words in, reads the reply and the news, and does to Rust values what they say.
+//! A request is one machine of the proved library and the Rust values that the machine knows by numbers. Who may settle a
+//! stage, which stage is to be run next, what follows from a settled stage, and who has to be told is decided by the machine
+//! alone. The code of this crate is its host: it hands words in, is told which stages are settled, and does to Rust values
+//! what that says.
 //!
 //! **What is kept where.**
 //!
 //! - `Stage` is a handle: the request's `Core`, the stage's number or why there is none, and the place of this handle's
 //!   waker. Clones share the stage and have wakers of their own.
 //! - `Core` (core.rs) is the request: its executor, its clock, and one mutex.
-//! - `Inner` (inner.rs) stands under that mutex. It has the `Ledger` (the library's ledger, and the `Record` of what callers
+//! - `Inner` (inner.rs) stands under that mutex. It has the `Ledger` (the library's machine, and the `Record` of what callers
 //!   were told), a `Slot` for each stage, and `Extra`s for the few stages that have more: a future that is polled, relays,
 //!   timers, values for alarms.
 //! - A `Slot` (slot.rs) holds the stage's function until that is claimed, and then what the function gave: a value or an
-//!   error. It also holds what the ledger told. A value's number in words is that of the stage that gave it, and so is an
+//!   error. It also holds what the machine told. A value's number in words is that of the stage that gave it, and so is an
 //!   error's; stages behind it hold the number alone.
 //! - `Wakers` (wakers.rs) has the wakers of all handles that wait, in a row for each stage.
 //! - `After` is what one hold of the lock has changed and has yet to tell.
@@ -29,12 +30,11 @@
 //! **A change** (`Core::change`: `attach`, `settle`, an alarm, the end of a future) goes like this:
 //!
 //! 1. The clock is asked what time it is. Then the lock is taken.
-//! 2. The ledger does one word. `Inner::show` reads its news: a stage that is ready is counted; of one that is settled the
-//!    slot is written, its function is kept for dropping, and its wakers are taken. Polls read slots under the same lock, so
-//!    whoever is told an outcome can also see the outcomes of all earlier words.
-//! 3. `Inner::relay` settles the relays of this request that stand for stages settled now, and cancels those that nobody
-//!    needs any more. Both are words, which may settle more.
-//! 4. `Inner::hire` asks for one job, if more stages are ready than jobs are coming, and fewer jobs run than may.
+//! 2. The machine does one word, settles the relays that follow a stage that is settled now, and tells all that it has settled.
+//!    `Inner::show` takes that: of each stage the slot is written, its function is kept for dropping, and its wakers are taken.
+//!    Polls read slots under the same lock, so whoever is told an outcome can also see the outcomes of all earlier words.
+//! 3. `Inner::cancel_relays` cancels relays that nobody needs any more, each by a word, which may settle more.
+//! 4. `Inner::hire` asks for one job, if the machine has more ready stages than jobs are coming, and fewer jobs run than may.
 //! 5. The lock is given back. `Core::tell` tells what came of it, in this order: jobs go to the executor, wakers are called,
 //!    futures of settled stages are dropped, relays of other requests are settled, relays are hung on other requests'
 //!    stages or taken off, and at last values and functions are dropped. A relay of another request is a change there; what
@@ -43,7 +43,7 @@
 //!
 //! **A function from ready to finished.** A stage is told to be ready, and a `Job` is asked for. The executor runs the job on
 //! a thread, which is `Core::work`. Under the lock it claims the lowest ready stage, and takes its function and its arguments;
-//! without the lock it calls the function, and catches a panic. Under the lock again, one step of the ledger finishes that
+//! without the lock it calls the function, and catches a panic. Under the lock again, one step of the machine finishes that
 //! stage and claims the next one, until none is ready or the job has run 64 functions. A job that begins asks for the next
 //! one, so nobody has to start many. An executor that gives a job back, or drops it, lets the ready stages fail with
 //! `Refusal::Closed`, if no other job of the request is there that doesn't rest. A function that answers too late changes nothing; its value is
@@ -67,8 +67,8 @@
 //! value that it gives stays with the request, which drops it once the stage is settled. `Core::ring` settles the stage by the
 //! caller `CLOCK`: with that value, or as timed out. An alarm that is dropped lets the stage fail with `Refusal::NoClock`.
 //!
-//! **Room.** A request has at most 4,096 stages. The ledger has room for some of them at first, and makes more by doing its
-//! words again. Where there is none, the call gives a handle of a stage that has failed with `Refusal::Full`: its `at` is an
+//! **Room.** A request has at most 4,096 stages. The machine has room for some of them at first, and grows where
+//! there is none. Where there is none, the call gives a handle of a stage that has failed with `Refusal::Full`: its `at` is an
 //! error, and nothing was attached.
 //!
 //! **Which code calls a user's.** `Core::called` (a stage's function), `Polling::poll` (a future), `Core::tell` (wakers, and the

@@ -3,7 +3,10 @@ mod common;
 
 use cf::{Error, Job, Pool, Refusal, Request, Spawn, Stage};
 use common::{Keeps, LONG};
+use std::sync::atomic::{AtomicUsize, Ordering};
 use std::sync::{Arc, Mutex};
+use std::thread;
+use std::time::{Duration, Instant};
 
 #[test]
 fn a_job_that_is_dropped_lets_what_is_ready_fail() {
@@ -83,6 +86,28 @@ fn a_job_that_ends_leaves_no_function() {
     before_job.complete(1).unwrap();
     for (k, behind_job) in behind_jobs.iter().enumerate() {
         assert_eq!(behind_job.wait_timeout(LONG).expect("its job has ended").unwrap(), k + 1);
+    }
+}
+
+/// Nor if the functions that it ran were too late, so that they settled nothing.
+#[test]
+fn a_job_that_ends_late_leaves_no_function() {
+    let before_job = Request::new("many", Pool::new(1)).promise::<usize>();
+    let (behind_jobs, ran) = (Arc::new(Mutex::new(Vec::<Stage<()>>::new())), Arc::new(AtomicUsize::new(0)));
+    for k in 0..200 {
+        let (behind, ran) = (Arc::clone(&behind_jobs), Arc::clone(&ran));
+        let behind_job = before_job.clone().then(move |_| {
+            let own = behind.lock().unwrap()[k].clone();
+            assert!(own.cancel());
+            ran.fetch_add(1, Ordering::SeqCst);
+        });
+        behind_jobs.lock().unwrap().push(behind_job);
+    }
+    before_job.complete(1).unwrap();
+    let since = Instant::now();
+    while ran.load(Ordering::SeqCst) < 200 {
+        assert!(since.elapsed() < LONG, "{} were run", ran.load(Ordering::SeqCst));
+        thread::sleep(Duration::from_millis(1));
     }
 }
 

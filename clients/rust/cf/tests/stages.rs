@@ -1,7 +1,7 @@
 //! What stages do, by threads and without a runtime.
 use cf::{Error, Inline, Pool, Request, Stage};
 use std::sync::atomic::{AtomicUsize, Ordering};
-use std::sync::{mpsc, Arc, Barrier};
+use std::sync::{mpsc, Arc, Barrier, Mutex};
 use std::thread;
 
 fn request() -> Request {
@@ -34,6 +34,30 @@ fn errors_are_passed_on_and_recovered() {
     assert!(behind.clone().handle(|it| it.is_err()).wait().unwrap());
     let text = behind.and_then(|_| Ok::<_, &str>(1)).wait().unwrap_err().to_string();
     assert_eq!(text, "invalid digit found in string");
+}
+
+/// Its function gives a stage above it, which is settled once the request has grown.
+#[test]
+fn a_compose_that_waits_ends_as_the_later_stage() {
+    for is_cancelled in [false, true] {
+        let r = Request::new("test", Inline);
+        let (gate, given) = (r.promise::<i32>(), Arc::new(Mutex::new(None)));
+        let gives = Arc::clone(&given);
+        let composed = gate.clone().compose(move |_| gives.lock().unwrap().take().unwrap());
+        let later = r.promise::<i32>();
+        *given.lock().unwrap() = Some(later.clone());
+        gate.complete(1).unwrap();
+        let many: Vec<_> = (0..100).map(|_| r.promise::<i32>()).collect();
+        assert!(many.iter().chain([&composed, &later]).all(|stage| !stage.is_settled()));
+        if is_cancelled {
+            r.cancel_all();
+            assert!(composed.wait().unwrap_err().is_cancelled());
+        } else {
+            later.complete(5).unwrap();
+            assert_eq!(composed.wait().unwrap(), 5);
+        }
+        assert!(r.history().comes_again());
+    }
 }
 
 #[test]

@@ -8,6 +8,7 @@ use cf_desk::{Closed, Desk, Notice, Pass};
 use cf_ledger::Ledger;
 use cf_plan::{Plan, PlanBuilder};
 use cf_request::Machine;
+use cf_telling::{People, Tale};
 use std::alloc::Global;
 use std::mem;
 use std::sync::Arc;
@@ -27,6 +28,8 @@ pub enum Object {
     Ledger(Ledger),
     /// One request of a service as a machine.
     Request(Machine),
+    /// What happened to a request, to be told. In a box, so that no other handle takes more memory.
+    History(Box<History>),
     /// A caller of a graph that several share.
     Caller(Caller),
     /// What a caller had seen, for another one to heed.
@@ -35,6 +38,13 @@ pub enum Object {
     Closing(Closing),
     /// A closed desk.
     Closed(ClosedDesk),
+}
+
+/// What happened to a request, and what is said of it for people.
+#[derive(Drop)]
+pub struct History {
+    pub(crate) tale: Tale,
+    pub(crate) people: People,
 }
 
 /// A pass and its desk, which all callers share.

@@ -1,5 +1,5 @@
 //! What is done to a request behind a handle, and what it tells then.
-ghost use Rattle.cf_c_handles.specs.RequestCalls.{AppliesIn, CancelsIn, FollowsIn, GoesOnIn, PassesIn, RefusesIn, RestartsIn, SetsDeadlineIn, TellsIn, GoesOnOrNot};
+ghost use Rattle.cf_c_handles.specs.RequestCalls.{AppliesIn, CancelsIn, FollowsIn, GoesOnIn, GrowsIn, PassesIn, RefusesIn, RestartsIn, SetsDeadlineIn, TellsIn, GoesOnOrNot};
 ghost use Rattle.std.specs.Prelude.{◌<◌};
 ghost use Rattle.cf_c_handles.specs.declared.handle.object.Object.TheVariants.{Request as HeldRequest};
 
@@ -12,6 +12,7 @@ use crate::values::put_reply;
 use crate::values::request::{CfApplied, CfRequestStep, CfTold};
 use crate::values::task::{CfTask, held_by};
 use cf_request::{Deadline, Machine};
+use std::alloc::Global;
 
 /// Does a word; a stage that it attaches is this lane's.
 #[inline(always)]
@@ -200,6 +201,19 @@ pub fn set_deadline(held: &mut Object, deadline: Deadline) -> Result<(), Code>
         return Err(Code::WrongKind);
     };
     match machine.deadline(deadline) {
+        Ok(()) => Ok(()),
+        Err(fault) => Err(machine_code(fault)),
+    }
+}
+
+/// Makes room for more stages.
+pub fn grow(alloc: Global, held: &mut Object) -> Result<(), Code>
+    ensures { GrowsIn held.old result held.new }
+{
+    let Object::Request(machine) = held else {
+        return Err(Code::WrongKind);
+    };
+    match machine.grow(alloc) {
         Ok(()) => Ok(()),
         Err(fault) => Err(machine_code(fault)),
     }

@@ -6,9 +6,8 @@ use crate::checks::{holds, must};
 use crate::plans::supplies;
 use crate::pool::ends::Ended;
 use crate::pool::pools::{Opening, last_of, open, over_supplies, raced, run_over};
-use cf_desk::{Call, Desk, DeskFault, Kept, Pass, Rec};
+use cf_desk::{Desk, DeskFault, Pass};
 use cf_forms::{Answer, Args, StageFn};
-use cf_model::{Claimed, Reply};
 use cf_outcome::Value;
 use cf_pool::{Done, Gate, Shared, work};
 use std::alloc::Global;
@@ -91,26 +90,6 @@ impl Watch {
             && !self.early.load(Ordering::SeqCst)
     }
 
-    /// Whether the gate was told of the claims that were granted to this pass, in their order.
-    fn saw_claims_of(&self, kept: &Kept) -> bool {
-        let mut last = 0;
-        for record in &kept.records {
-            if let Rec::Did {
-                call: Call::Claim(stage),
-                reply: Reply::Claim(Claimed::Granted(_)),
-                ..
-            } = *record
-            {
-                let turn = self.turn_of(stage, kept.caller);
-                if turn <= last {
-                    return false;
-                }
-                last = turn;
-            }
-        }
-        true
-    }
-
     /// Whether it was told of workers alone, whose numbers are 1 to this one.
     fn saw_workers(&self, workers: u8) -> bool {
         for told in &self.told {
@@ -132,13 +111,8 @@ impl Watch {
         true
     }
 
-    /// Whether it saw all claims of a run of so many workers, which nothing stopped.
+    /// Whether it saw a run of so many workers, which nothing stopped.
     fn saw_run(&self, ended: &Ended, workers: u8) -> bool {
-        for kept in &ended.closed.passes {
-            if !self.saw_claims_of(kept) {
-                return false;
-            }
-        }
         self.saw_each_once() && self.saw_workers(workers) && ended.fault.is_none()
     }
 

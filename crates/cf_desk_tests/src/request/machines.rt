@@ -1,9 +1,10 @@
-use crate::request::steps::{Step, opened, take};
+use crate::checks::{holds, must};
+use crate::request::steps::{Step, opened, opened_with, take};
 use cf_forms::{Answer, Args, LimitKind};
 use cf_ledger::{Finish, Held, LedgerFault, Reply, StepFault, Taken};
 use cf_model::Attached;
 use cf_outcome::{Cause, Outcome, Value};
-use cf_request::{Deadline, MachineFault, Next};
+use cf_request::{Deadline, Gathering, MachineFault, Next};
 
 /// Caller 0 gives sources 0 and 1 the number 5.
 const COMPLETE_0: u64 = 0x0100000100000005;
@@ -98,12 +99,57 @@ const ATTACHES: [Step; 5] = [
     Step::Ready(3, 1),
 ];
 
+/// Once there is room, all is as it was, and one more is attached.
+const GROWN: [Step; 6] = [
+    Step::Told(&[1]),
+    Step::Len(2),
+    Step::Ready(2, 1),
+    Step::Ready(3, 1),
+    Step::Apply(ATTACH, 3, Ok(Reply::Attach(Attached::At(8)))),
+    Step::Ready(3, 2),
+];
+
 #[test]
 fn attached_stages_have_lanes(rt: HostRuntime) {
     let mut machine = opened(&rt, rt.alloc());
     take(&rt, &mut machine, &ATTACHES);
+    must(&rt, machine.grow(rt.alloc()));
+    holds(&rt, machine.ledger().room() == 16, "room");
+    take(&rt, &mut machine, &GROWN);
     drop(machine);
 }
+
+/// It cancels source 2.
+const CANCEL_2: u64 = 0x0300002000000000;
+
+/// Stages 7, 8 and 9 gather four, one of them twice.
+const GATHERS: [Step; 11] = [
+    Step::Gather(64, Gathering::AllOf, &[7], Err(LedgerFault::NoEvent)),
+    Step::Gather(7, Gathering::AllOf, &[0, 1, 7], Err(LedgerFault::NoStage)),
+    Step::Gather(7, Gathering::AllOf, &[0, 1, 2, 3, 0], Err(LedgerFault::NoRoom)),
+    Step::Len(0),
+    Step::Gather(7, Gathering::AllOf, &[0, 1, 2, 1], Ok(9)),
+    Step::Gather(7, Gathering::AnyOf, &[], Err(LedgerFault::NoRoom)),
+    Step::Len(3),
+    Step::Apply(COMPLETE_0, 0, SETTLED),
+    Step::Apply(CANCEL_2, 0, SETTLED),
+    Step::Apply(COMPLETE_1, 0, SETTLED),
+    Step::Told(&[0, 2, 1, 7, 8, 9]),
+];
+
+#[test]
+fn gathers_any_number(rt: HostRuntime) {
+    let mut machine = opened_with(&rt, rt.alloc(), 3);
+    take(&rt, &mut machine, &GATHERS);
+    take(&rt, &mut machine, &[Step::Ends(9, PASSED_ON)]);
+    drop(machine);
+}
+
+/// A cancellation, as it is passed on.
+const PASSED_ON: Outcome = Outcome::Fault {
+    cause: Cause::Cancelled,
+    wrapped: true,
+};
 
 const CANCELLED: Outcome = Outcome::Fault {
     cause: Cause::Cancelled,

@@ -4,7 +4,7 @@ use crate::plans::{Row, plan_of};
 use cf_forms::Form;
 use cf_ledger::{Held, LedgerFault, Reply, Stage, StepFault};
 use cf_outcome::Outcome;
-use cf_request::{Deadline, Machine, MachineFault, Next};
+use cf_request::{Deadline, Gathering, Machine, MachineFault, Next};
 use std::alloc::Global;
 use std::process::Abort;
 
@@ -13,6 +13,8 @@ use std::process::Abort;
 pub(crate) enum Step {
     /// A word, and the lane of a stage that it attaches.
     Apply(u64, u8, Result<Reply, LedgerFault>),
+    /// A caller, how it gathers, and what.
+    Gather(u8, Gathering, &'static [u16], Result<u16, LedgerFault>),
     /// A caller, the lane that it asks, and what it holds.
     Next(u8, u8, Option<Held>, Result<Next, StepFault>),
     Ready(u8, u16),
@@ -38,6 +40,7 @@ fn is_answered(machine: &mut Machine, step: Step) -> bool {
         Step::Apply(word, lane, answer) => {
             lane < machine.lanes() && machine.apply(word, lane) == answer
         }
+        Step::Gather(who, how, sources, answer) => machine.gather(who, how, sources) == answer,
         Step::Next(who, lane, held, answer) => {
             lane < machine.lanes() && machine.next(who, lane, held) == answer
         }
@@ -90,8 +93,13 @@ const OWN: u8 = 63;
 
 /// A machine of these stages, with room for one more.
 pub(crate) fn opened(rt: &impl Abort, alloc: Global) -> Machine {
+    opened_with(rt, alloc, 1)
+}
+
+/// A machine of these stages, with room for so many more.
+pub(crate) fn opened_with(rt: &impl Abort, alloc: Global, room: u16) -> Machine {
     let plan = plan_of(rt, alloc, &STAGES);
-    holds(rt, plan.has_place(1), "place");
+    holds(rt, plan.has_place(room), "place");
     holds(rt, plan.stages() == 7, "stages");
-    must(rt, Machine::new(alloc, &plan, 1, &LANES, 4, OWN))
+    must(rt, Machine::new(alloc, &plan, room, &LANES, 4, OWN))
 }

@@ -15,18 +15,19 @@ final class Faults {
     /** What an exception is told by: the stage's outcome, and what its function is called with. */
     static final class Fault {
         final Throwable error;
-        /** Its number in the request, or -1 of a cancellation, a timeout and what is no stage's. */
-        final int code;
+        /** Whether it has a number in a request: a cancellation, a timeout and what is no stage's have none. */
+        final boolean isCoded;
         /** Whether a stage timed out: not that somebody's exception says so. */
         final boolean isTimeout;
 
-        Fault(Throwable error, int code) {
-            this(error, code, false);
+        /** Of what is no stage's. */
+        Fault(Throwable error) {
+            this(error, false, false);
         }
 
-        private Fault(Throwable error, int code, boolean isTimeout) {
+        private Fault(Throwable error, boolean isCoded, boolean isTimeout) {
             this.error = error;
-            this.code = code;
+            this.isCoded = isCoded;
             this.isTimeout = isTimeout;
         }
 
@@ -41,12 +42,12 @@ final class Faults {
         private Fault wrapped;
 
         Uncoded(Throwable error, boolean isTimeout) {
-            raw = new Fault(error, -1, isTimeout);
+            raw = new Fault(error, false, isTimeout);
         }
 
         Fault told(boolean isWrapped) {
             if (isWrapped && wrapped == null) {
-                wrapped = new Fault(wrapping(raw.error), -1, raw.isTimeout);
+                wrapped = new Fault(wrapping(raw.error), false, raw.isTimeout);
             }
             return isWrapped ? wrapped : raw;
         }
@@ -84,9 +85,9 @@ final class Faults {
     /** An exception that is one of completing isn't wrapped once more. */
     Fault thrown(boolean isWrapped, int code) {
         if (isWrapped && !(errors[code] instanceof CompletionException)) {
-            return wrapped[code] != null ? wrapped[code] : (wrapped[code] = new Fault(wrapping(errors[code]), code));
+            return wrapped[code] != null ? wrapped[code] : (wrapped[code] = new Fault(wrapping(errors[code]), true, false));
         }
-        return raw[code] != null ? raw[code] : (raw[code] = new Fault(errors[code], code));
+        return raw[code] != null ? raw[code] : (raw[code] = new Fault(errors[code], true, false));
     }
 
     /**

@@ -38,8 +38,8 @@ public final class Flow {
     private final List<Row> rows = new ArrayList<>();
     private final List<Integer> promises = new ArrayList<>();
     private volatile Row[] fixed;
-    private volatile Ledger.Plan plan;
-    private boolean startsReady, isMixed;
+    private volatile Machine.Plan plan;
+    private boolean startsReady;
     private int edges;
 
     static final class Row {
@@ -226,7 +226,7 @@ public final class Flow {
     /** Where there is place for so many steps, and sources of them. */
     private void open(int steps, int sources) {
         open();
-        if (rows.size() + steps > Ledger.MOST_STAGES || edges + sources > Ledger.MOST_EDGES) {
+        if (rows.size() + steps > Machine.MOST_STAGES || edges + sources > Machine.MOST_EDGES) {
             throw new RequestFullException(name);
         }
     }
@@ -238,12 +238,12 @@ public final class Flow {
 
     // For requests.
 
-    Ledger.Plan plan() {
-        Ledger.Plan made = plan;
+    Machine.Plan plan() {
+        Machine.Plan made = plan;
         return made != null ? made : fixed();
     }
 
-    private synchronized Ledger.Plan fixed() {
+    private synchronized Machine.Plan fixed() {
         if (plan == null) {
             int length = 0;
             for (Row row : rows) {
@@ -253,16 +253,15 @@ public final class Flow {
             int at = 0;
             for (int k = 0; k < rows.size(); k++) {
                 Row row = rows.get(k);
-                // Its function is called by whoever makes it ready, or by an executor.
-                numbers[at++] = row.form.ordinal() + (row.form.calls && row.executor == null ? 256 : 0);
-                isMixed |= row.executor != null;
+                // Its function is called by an executor, or by whoever makes it ready.
+                numbers[at++] = row.form.ordinal() + (row.form.calls && row.executor != null ? 256 : 0);
                 numbers[at++] = row.form.calls ? k : -1;
                 numbers[at++] = row.of.length;
                 for (int source : row.of) {
                     numbers[at++] = source;
                 }
             }
-            Ledger.Plan made = new Ledger.Plan(numbers, rows.size(), edges);
+            Machine.Plan made = new Machine.Plan(numbers, rows.size(), edges);
             fixed = rows.toArray(new Row[0]);
             plan = made; // Who reads it finds all that stands above.
         }
@@ -300,11 +299,6 @@ public final class Flow {
 
     String name(int number) {
         return fixed[number].name;
-    }
-
-    /** Whether executors call some of its functions. */
-    boolean isMixed() {
-        return isMixed;
     }
 
     <U> Stage<U> stage(Request request, int number) {

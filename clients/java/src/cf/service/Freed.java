@@ -4,7 +4,7 @@ import java.lang.ref.PhantomReference;
 import java.lang.ref.ReferenceQueue;
 
 /**
- * What is freed once its owner can't be reached any more, if it wasn't before; as Cleaner does, which Java 8 hasn't. Whoever opens a ledger
+ * What is freed once its owner can't be reached any more, if it wasn't before; as Cleaner does, which Java 8 hasn't. Whoever opens a request
  * frees some of it: a thread of its own would keep its class loader for good. What nobody has freed when that goes, the library frees then.
  */
 final class Freed extends PhantomReference<Object> {

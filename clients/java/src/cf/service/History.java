@@ -15,7 +15,7 @@ import java.util.function.IntFunction;
 
 /**
  * What happened to a request: told in words, as an account that {@code cf_look check} judges, and as a script for {@code cf run}. It stays
- * as it is while the request goes on. Replies and outcomes are those of a ledger in which the words are done once more.
+ * as it is while the request goes on. Replies and outcomes are those of a machine in which the words are done once more.
  */
 public final class History {
     // Kinds of outcomes and of arguments, answers of claims and finishes: numbers of cf.h.
@@ -46,15 +46,15 @@ public final class History {
     private int[] replies, told, ends;
 
     /** Its request's lock is held. {@link #describe} is called once that is free. */
-    History(String name, Flow flow, Ledger ledger, String[] names, Object[] values, Throwable[] errors, String[] threads) {
+    History(String name, Flow flow, Machine machine, String[] names, Object[] values, Throwable[] errors, String[] threads) {
         this.name = name;
         this.flow = flow;
-        long[] kept = ledger.kept();
-        words = Arrays.copyOf(kept, ledger.events());
-        times = Ledger.times(kept, words.length);
-        began = Ledger.began(kept, words.length);
-        stages = ledger.stages();
-        witness = ledger.witness();
+        long[] kept = machine.kept();
+        words = Arrays.copyOf(kept, machine.events());
+        times = Machine.times(kept, words.length);
+        began = Machine.began(kept, words.length);
+        stages = machine.stages();
+        witness = machine.witnessed();
         this.names = names;
         this.values = values;
         this.errors = Arrays.copyOf(errors, errors.length, Object[].class);
@@ -106,68 +106,93 @@ public final class History {
         if (replies != null) {
             return;
         }
-        Ledger ledger = new Ledger(flow == null ? null : flow.plan(), stages - planned());
+        Machine machine = new Machine(flow == null ? null : flow.plan(), stages - planned());
         int[] replies = new int[REPLY * words.length];
         int[] told = new int[TOLD * stages];
         int tolds = 0;
         for (int k = 0; k < words.length; k++) {
-            ledger.apply(words[k], Ledger.ARGUMENTS, -1);
-            replies[REPLY * k] = ledger.answer();
-            replies[REPLY * k + 1] = ledger.number();
+            machine.apply(words[k], Machine.NOBODY);
+            replies[REPLY * k] = machine.answer();
+            replies[REPLY * k + 1] = machine.number();
             for (int i = 0; i < 10; i++) {
-                replies[REPLY * k + 2 + i] = ledger.argument(i);
+                replies[REPLY * k + 2 + i] = machine.argument(i);
             }
             do {
-                for (int i = 0; i < ledger.news(); i++) {
-                    int what = (int) ledger.news(i);
-                    if ((what >>> 12 & 1) != 0) {
-                        told = tolds == told.length ? Arrays.copyOf(told, 2 * tolds) : told;
+                for (int i = 0; i < machine.told(); i++) {
+                    int what = machine.told(i);
+                    if (!isSettledFirst(what & 0xfff)) {
                         told[tolds++] = k + 1;
                         told[tolds++] = what & 0xfff;
                         told[tolds++] = what >>> 16;
-                        told[tolds++] = (int) (ledger.news(i) >>> 32);
+                        told[tolds++] = machine.number(i);
                     }
                 }
-            } while (ledger.more());
+            } while (machine.more(Machine.NOBODY));
         }
         int[] ends = new int[2 * stages];
         for (int k = 0; k < stages; k++) {
-            ledger.ask(k);
-            if (ledger.news() > 0) {
-                ends[2 * k] = (int) ledger.news(0) >>> 16;
-                ends[2 * k + 1] = (int) (ledger.news(0) >>> 32);
+            if (machine.isSettled(k)) {
+                ends[2 * k] = machine.told(0) >>> 16;
+                ends[2 * k + 1] = machine.number(0);
             }
         }
-        ledger.rest();
+        machine.rest(null);
         this.told = Arrays.copyOf(told, tolds);
         this.ends = ends;
         this.replies = replies;
-        for (int k = 0; witness != null && k < witness.length; k++) {
-            compare(witness[k]);
+        if (witness != null) {
+            compare();
         }
     }
 
-    /** Compares what was told when a word was done. */
-    private void compare(int[] seen) {
-        int place = seen[0], claimed = seen[2];
-        boolean same = seen[1] == answer(place) && (claimed < 0 || Words.kind(words[place + 1]) == Words.CLAIM
-                && Words.stage(words[place + 1]) == claimed && answer(place + 1) == GRANTED);
-        for (int k = 0; k < 10 && claimed >= 0; k++) {
-            same &= seen[3 + k] == argument(place + 1, k);
-        }
-        int settled = 0;
-        for (int k = 13; k < seen.length; k += 2) {
-            if ((seen[k] >>> 12 & 1) != 0) {
-                settled++;
-                same &= seen[k] >>> 16 == ends[2 * (seen[k] & 0xfff)] && seen[k + 1] == ends[2 * (seen[k] & 0xfff) + 1];
+    /** Whether a stage is settled before anything was done. */
+    private boolean isSettledFirst(int stage) {
+        return stage < planned() && flow.form(stage) == Form.ALL_OF && flow.at(stage).of.length == 0;
+    }
+
+    /** Compares what was told with this: each settled stage once, and each claim with what its function was called with. */
+    private void compare() {
+        int[] claims = new int[stages];
+        for (int k = 0; k < words.length; k++) {
+            if (Words.kind(words[k]) == Words.CLAIM && answer(k) == GRANTED) {
+                claims[Words.stage(words[k])] = k + 1;
             }
         }
-        for (int k = 0; k < told.length; k += TOLD) {
-            settled -= told[k] == place + 1 ? 1 : 0;
+        int left = told.length / TOLD;
+        boolean[] seen = new boolean[stages];
+        for (int[] each : witness) {
+            int stage = each[0] & 0xfff;
+            boolean same;
+            if (each.length == 2) {
+                same = !seen[stage] && each[0] >>> 16 == ends[2 * stage] && each[1] == ends[2 * stage + 1];
+                seen[stage] = true;
+                left -= isSettledFirst(stage) ? 0 : 1;
+            } else {
+                same = claims[stage] > 0 && Arrays.equals(each, claimed(stage, claims[stage] - 1));
+                claims[stage] = 0;
+            }
+            if (!same) {
+                throw new AssertionError("it was told otherwise: " + Arrays.toString(each) + "\n" + this);
+            }
         }
-        if (!same || settled > 0 || settled < 0 && seen.length < 13 + 2 * 64) {
-            throw new AssertionError("event " + place + " was told otherwise: " + Arrays.toString(seen) + "\n" + toString());
+        if (left != 0) {
+            throw new AssertionError(left + " stages weren't told\n" + this);
         }
+    }
+
+    /** A claim, as it is told. */
+    private int[] claimed(int stage, int event) {
+        int kind = argument(event, 0), first = some(argument(event, 1), argument(event, 2)), second = some(argument(event, 3), argument(event, 4));
+        if (kind == OUTCOME) {
+            int of = argument(event, 5);
+            kind |= of << 4 | argument(event, 6) << 8;
+            first = of == GIVES ? some(argument(event, 8), argument(event, 9)) : argument(event, 7);
+        }
+        return new int[] {stage, kind, first, second};
+    }
+
+    private static int some(int kind, int number) {
+        return kind == 0 ? -1 : number;
     }
 
     // For spans.
@@ -322,7 +347,7 @@ public final class History {
 
     private String sentence(int k, String[] forms) {
         long word = words[k];
-        String who = who(Words.who(word)), on = stage(Words.stage(word), forms);
+        String who = by(word, forms), on = stage(Words.stage(word), forms);
         switch (Words.kind(word)) {
             case Words.ATTACH:
                 int sources = Words.tag(word), form = Words.low(word) >>> 24;
@@ -366,6 +391,13 @@ public final class History {
             default:
                 return ", with " + value(argument(k, 1), argument(k, 2)) + " and " + value(argument(k, 3), argument(k, 4));
         }
+    }
+
+    /** Whoever did a word. The machine settles relays by the clock's number: those of this request stand right below composing stages. */
+    private String by(long word, String[] forms) {
+        int above = Words.stage(word) + 1;
+        boolean isRelay = Words.who(word) == Request.CLOCK && above < stages && forms[above].toLowerCase(Locale.ROOT).endsWith("compose");
+        return who(isRelay ? Request.RELAY : Words.who(word));
     }
 
     String who(int who) {

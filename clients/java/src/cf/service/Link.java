@@ -51,15 +51,6 @@ final class Link extends AtomicReference<Object> implements BiConsumer<Object, T
             return all;
         }
 
-        /** The first one, which it leaves, or null. */
-        Link poll() {
-            Link link = first;
-            if (link != null) {
-                remove(link);
-            }
-            return link;
-        }
-
         void remove(Link link) {
             if (first == null || link.before == null && first != link) {
                 return; // They were taken, or this one was.
@@ -115,7 +106,7 @@ final class Link extends AtomicReference<Object> implements BiConsumer<Object, T
 
     @Override
     public void accept(Object value, Throwable error) {
-        Object told = error != null ? new Fault(error, -1) : value == null ? Stage.NIL : value;
+        Object told = error != null ? new Fault(error) : value == null ? Stage.NIL : value;
         if (compareAndSet(null, told) || get() != HANGS) {
             return; // By whoever hangs it up: what a chain of finished futures tells is no recursion.
         }

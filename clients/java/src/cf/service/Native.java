@@ -3,7 +3,6 @@ package cf.service;
 import java.io.File;
 import java.io.IOException;
 import java.io.InputStream;
-import java.nio.ByteBuffer;
 import java.nio.file.Files;
 import java.nio.file.Path;
 import java.nio.file.Paths;
@@ -11,63 +10,26 @@ import java.nio.file.StandardCopyOption;
 import java.util.Locale;
 
 /**
- * The methods of native/cf_java.c, and how it is found: by the property {@code cf.native}, which names the file; else in the jar; else
- * where {@link System#loadLibrary} looks for {@code cf_java}. Each class loader has a library of its own.
- *
- * <p>One thread at a time has a core, whose lock it holds. Answers are codes of cf.h, 0 where all went well.
+ * The methods of native/cf_java.c but for those of {@link Machine}, and how it is found: by the property {@code cf.native}, which names the
+ * file; else in the jar; else where {@link System#loadLibrary} looks for {@code cf_java}. Each class loader has a library of its own.
  */
 final class Native {
     /** Codes of cf.h. */
     static final int OK = 0, NO_MEMORY = 8;
 
-    /** Places in a core's memory, in bytes: those of struct shown. */
-    static final int DONE = 0, NUMBER = 4, NEWS = 8, MOMENTS = 12, EVENTS = 16, ARGS = 20, REST = 60, WORDS = 64, OWN = 576, CHANGED = 1088;
-
-    /** How many words a core takes at once. */
-    static final int MOST_WORDS = 64;
-
     static {
-        load();
+        loadLibrary();
     }
 
     private Native() {}
 
-    /**
-     * Does the words in the memory that wait, so many, and then one more, if it isn't 0. Then it claims for the caller {@code who}, if that
-     * isn't negative: the first stage that became ready and is its own; or, if {@code from} isn't negative either, the lowest ready stage
-     * from there on. It gives the reply in one number, as {@link Ledger} reads it.
-     */
-    static native long apply(long core, int waiting, long word, int who, int from);
-
-    /** This is when the first word came that waits: these ticks, or now. */
-    static native void since(long core, long ticks);
+    /** Sees to it that the library is loaded. */
+    static void load() {}
 
     static native long ticks();
 
     /** Whether this thread's stack has place for all that a word leads to, but for functions. Where it hasn't, nothing is begun. */
     static native boolean hasStack();
-
-    /** The next news where not all had place. */
-    static native int more(long core);
-
-    /** One stage as news. */
-    static native int ask(long core, int stage);
-
-    /** The stages that are ready, from a number on, as news. */
-    static native int ready(long core, int from);
-
-    /** A core without a ledger, or 0. */
-    static native long create(boolean timed);
-
-    static native ByteBuffer memory(long core);
-
-    static native void destroy(long core);
-
-    /** A ledger of a plan, 0 for the one without stages, with room, in which the first n of these words are done, with their moments. */
-    static native int open(long core, long plan, int room, long[] kept, int n);
-
-    /** The n words, and behind them the moments: of each its ticks, and how many events were done by then. */
-    static native int keep(long core, long[] into, int n);
 
     static native double nanosPerTick();
 
@@ -78,7 +40,7 @@ final class Native {
 
     static native String version();
 
-    private static void load() {
+    private static void loadLibrary() {
         String named = System.getProperty("cf.native");
         String machine = System.getProperty("os.name").toLowerCase(Locale.ROOT) + "-" + System.getProperty("os.arch");
         String within = "native/" + ("linux-amd64".equals(machine) ? "linux-x86_64" : machine) + "/libcf_java.so";

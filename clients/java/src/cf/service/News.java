@@ -1,31 +1,19 @@
 package cf.service;
 
 /**
- * What is to be told once the lock is free: stages that were settled; that are ready, for executors or for this thread; one claimed. They may
- * be of several requests, so that a chain through many of them is no recursion.
+ * What is to be told once the lock is free: stages that were settled; that are ready, for executors; functions that this thread has claimed.
+ * They may be of several requests, so that a chain through many of them is no recursion.
  */
 final class News {
-    private Stage<?> settled, lastSettled, handed, lastHanded, lastHere;
-    /** The first stage that this thread is to claim and call. */
-    Stage<?> here;
-    /** The request of all of them, or null where there are none or of several; how many aren't claimed; below none of which this number is. */
-    Request hereOf;
-    int hereCount, lowest = Integer.MAX_VALUE;
-    private boolean isRising;
-
-    /** Stages of the request whose lock is held, on which relays hang in it; whether these are being settled. */
-    Stage<?> fed;
-    boolean isFeeding;
+    private Stage<?> settled, lastSettled, handed, lastHanded;
+    private Call calls, lastCall, free;
 
     /** Relays in other requests that are to be settled with this. */
     private Link relayed;
     Object told;
 
-    /** The request of the stage that was claimed, or null; the stage; what is called, and with what. */
-    Request claimedIn;
-    int claimed;
-    Form form;
-    Object function, first, second;
+    /** What kept a request from telling all. */
+    Throwable failure;
 
     void settled(Stage<?> stage) {
         if (settled == null) {
@@ -36,28 +24,47 @@ final class News {
         lastSettled = stage;
     }
 
-    void ready(Stage<?> stage) {
-        if (stage.executor == null) {
-            if (here == null) {
-                here = stage;
-                hereOf = stage.request;
-                lowest = stage.number;
-                isRising = true;
-            } else {
-                lastHere.nextReady = stage;
-                isRising &= stage.number > lastHere.number;
-                hereOf = hereOf == stage.request ? hereOf : null;
-                lowest = Math.min(lowest, stage.number);
-            }
-            lastHere = stage;
-            hereCount++;
+    void handed(Stage<?> stage) {
+        if (handed == null) {
+            handed = stage;
         } else {
-            if (handed == null) {
-                handed = stage;
-            } else {
-                lastHanded.nextReady = stage;
+            lastHanded.nextReady = stage;
+        }
+        lastHanded = stage;
+    }
+
+    /** One to be filled and handed to {@link #claimed}. */
+    Call call() {
+        Call call = free;
+        free = null;
+        return call != null ? call : new Call();
+    }
+
+    /** It was called. */
+    void called(Call call) {
+        call.clear();
+        free = call;
+    }
+
+    /** Of one request the lowest is called first. */
+    void claimed(Call call) {
+        if (calls == null) {
+            calls = lastCall = call;
+        } else if (lastCall.request != call.request || lastCall.number < call.number) {
+            lastCall.next = call;
+            lastCall = call;
+        } else {
+            Call before = null, at = calls;
+            while (at.request != call.request || at.number < call.number) {
+                before = at;
+                at = at.next;
             }
-            lastHanded = stage;
+            call.next = at;
+            if (before == null) {
+                calls = call;
+            } else {
+                before.next = call;
+            }
         }
     }
 
@@ -93,30 +100,12 @@ final class News {
         return stage;
     }
 
-    Stage<?> pollHere() {
-        Stage<?> stage = here;
-        if (stage != null) {
-            here = stage.nextReady;
-            stage.nextReady = null;
-            if (here == null) {
-                lowest = Integer.MAX_VALUE;
-            } else if (isRising) {
-                lowest = here.number;
-            }
+    Call pollCall() {
+        Call call = calls;
+        if (call != null) {
+            calls = call.next;
+            call.next = null;
         }
-        return stage;
-    }
-
-    /** One of them is claimed, or is to be. */
-    void left() {
-        hereCount--;
-        while (here != null && !here.waitsHere) {
-            pollHere();
-        }
-    }
-
-    /** Whether the next stage that becomes ready and is this thread's own is the one to be called next. */
-    boolean isFree() {
-        return claimedIn == null && here == null;
+        return call;
     }
 }

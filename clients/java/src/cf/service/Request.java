@@ -9,6 +9,7 @@ import java.util.concurrent.CancellationException;
 import java.util.concurrent.CompletableFuture;
 import java.util.concurrent.CompletionStage;
 import java.util.concurrent.Executor;
+import java.util.concurrent.Future;
 import java.util.concurrent.TimeUnit;
 import java.util.concurrent.atomic.AtomicInteger;
 import java.util.function.Supplier;
@@ -16,8 +17,8 @@ import java.util.function.Supplier;
 /**
  * Stages that belong together, of which one history is kept. Any thread may use it.
  *
- * <p>Its methods are named as the static ones of {@link CompletableFuture}. Each change is one word of the request's ledger, done under the
- * request's lock. Under the same lock the stages show what came of it, so nobody reads what is behind what he was told; whoever waits,
+ * <p>Its methods are named as the static ones of {@link CompletableFuture}. Each change is one word of the request, done by its machine under
+ * the request's lock. Under the same lock the stages show what came of it, so nobody reads what is behind what he was told; whoever waits,
  * and functions, are called once the lock is free.
  *
  * <p>A request has at most 4,096 stages. One more throws {@link RequestFullException} and changes nothing; of a request that
@@ -27,78 +28,82 @@ public final class Request implements AutoCloseable {
     /*
      * Overview.
      *
-     * A request is one ledger of the proved library and the Java objects that the ledger knows by numbers. Who may settle
-     * a stage, which stage is ready, what follows from a settled stage: the ledger alone decides that. The code here hands
-     * words in, reads the reply and the news, and does to Java objects what they say.
+     * A request is one machine of the proved library (docs/REQUEST.md) and the Java objects that it knows by numbers. Who may
+     * settle a stage, which stage is ready and who has claimed it, what follows from a settled stage, which relay ends by it,
+     * which deadline comes next: the machine alone decides that. The code here hands over what happens, and does to Java
+     * objects what the machine tells.
      *
      * What is kept where.
-     * - Ledger: the graph, the claims and the words, in a core outside the heap (native/cf_java.c). A core takes the words
-     *   that wait, does one more, and brings back the reply and the news: the stages that became ready or settled.
+     * - Machine: the graph, the claims, the words, relays within the request and deadlines, in a core outside the heap
+     *   (native/cf_java.c). One crossing does the words that wait and one change, and brings back the reply, the stages that
+     *   were settled, those that this thread has claimed by it, with their arguments, and those that are ready for executors.
      * - Request: the stages that aren't settled (of a flow, those that were asked for), their names, the values, the
      *   exceptions (Faults) and the threads. A value is the index in `values`, an exception the index in `faults`, and a
      *   thread the number of a caller; the words hold these numbers.
      * - Stage: its number, form and executor, which never change. `told` is what it is settled with: null before, then
      *   NIL, a value or a Fault. `function` is there until it is claimed, or not needed. The part that Stage inherits of
      *   CompletableFuture decides nothing. It is told last, and wakes who waits.
-     * - News: what one operation of one thread has changed and has yet to tell. Each operation has its own.
-     * - Link: what a relay hangs by on the future that settles it.
+     * - News: what one operation of one thread was told and has yet to tell. Each operation has its own. A Call in it is a
+     *   function that this thread has claimed.
+     * - Link: what a relay hangs by on a future that is no stage of its request.
      *
-     * Locks. The monitor of `ledger` is the request's lock. It guards the ledger and its core, all fields of this class that
-     * aren't final but `goesOn`, and of each stage `function`, `dependents`, `waitsHere`, `more` and the rows of links in
+     * Locks. The monitor of `machine` is the request's lock. It guards the machine and its core, all fields of this class that
+     * aren't final but `goesOn`, and of each stage `function`, `dependents`, `unwritten`, `more` and the rows of links in
      * that. `told`, `more` and `next` are volatile, so they can be read without it. No thread holds the locks of two
      * requests. Under the lock no function, callback or executor is called, and nobody is woken. A flight recording takes
      * words there. The one method of a user's that is called there is `toString` of an exception that is wrapped for the
      * first time: the constructor of CompletionException asks for its text (Faults.wrapping). Below the lock there is one
      * more, that of the list of Freed, around a few assignments.
      *
-     * An operation (complete, fail, timeOut, cancel, attach, work, relayed) goes like this:
+     * An operation (complete, fail, cancel, attach, work, relayed, passes) goes like this:
      * 1. checkDepth throws where the stack is nearly full. Nothing was done then.
-     * 2. Under the lock, `change` has the ledger do one word. `publish` reads the news: it writes `told` of each stage that
-     *    is settled, and notes the stage in News; it notes each stage that is ready. So whoever sees an outcome also sees
-     *    all outcomes of earlier words.
-     * 3. Still under the lock, `feed` settles the relays of this request whose stages were settled, and `claimNext` claims
-     *    the next stage whose function this thread is to call, if it has none yet.
-     * 4. The lock is free. `tell` takes one thing after another out of News, in this order: relays of other requests, which
-     *    are settled under their request's lock; settled stages, which are shown; stages for executors; the claimed
-     *    function; stages that wait here. Each of these may add to News. The loop is the only way from a stage to the next
+     * 2. Under the lock, the machine is called once. `publish` reads what it brings: it writes `told` of each stage that is
+     *    settled, and notes in News these stages, the functions that were claimed, and the stages for executors. So whoever
+     *    sees an outcome also sees all outcomes of earlier words.
+     * 3. The lock is free. `tell` takes one thing after another out of News, in this order: relays of other requests, which
+     *    are settled under their request's lock; settled stages, which are shown; stages for executors; claimed functions,
+     *    of one request the lowest first. Each of these may add to News. The loop is the only way from a stage to the next
      *    one, so a chain of any length, also through many requests, takes no more stack.
-     * 5. What was thrown meanwhile, as an Error by an executor or by an action that Java's classes have attached, keeps
+     * 4. What was thrown meanwhile, as an Error by an executor or by an action that Java's classes have attached, keeps
      *    nothing else from being told. The first of it is thrown at the end.
      *
-     * A function from ready to finished. A stage has an executor or it hasn't.
-     * - Without one, the thread that made it ready calls its function, as in CompletableFuture. Such a stage waits in
-     *   News (`waitsHere`; `pending` counts those of the request). The core claims the first of them in the same crossing
-     *   in which it became ready, where this thread has nothing else to call. `granted` takes the function and its arguments
-     *   under the lock, `call` calls it without, and `finish` does the word of its answer. Where all that is ready in the
-     *   request is this thread's, that crossing claims the lowest ready stage, too.
+     * A function from ready to finished. A stage has an executor or it hasn't: these are the two lanes of the machine.
+     * - Without one, the thread that made it ready calls its function, as in CompletableFuture. Each call of the machine that
+     *   can make such stages ready claims them all for its thread. So between calls none is ready, and no thread calls what
+     *   another one has made ready. `call` calls the function without the lock, and finishes the stage: one crossing finishes
+     *   it and claims what that made ready. If somebody settles a claimed stage before its turn, its function isn't called.
      * - With one, the executor is given a Task. Its thread claims the stage in `work`, and goes on as above. An executor that
      *   throws has its stage claimed and finished with what it threw (`refused`).
      * A claim may be refused, since somebody has settled the stage meanwhile: then nothing is called. A finish may come too
-     * late: then the ledger says so, and the value or exception is kept for the history alone.
+     * late: then the machine says so, and the value or exception is kept for the history alone.
      *
      * Attaching. The word of a stage that can't have anything to do yet, since a source isn't settled, waits in the core's
-     * memory for the next word that can change something (Ledger.attachLater); one crossing does them all. Any other stage
+     * memory for the next call that can change something (Machine.attachLater); one crossing does them all. Any other stage
      * is attached at once, and what it takes of its sources it takes in that word. A composing stage has a source right
-     * below it, its relay. Where its function gives a lower stage of this request, the finish links to that; where it gives
-     * anything else, the finish links to the relay, and the relay ends as that does.
+     * below it, its relay. Where its function gives a lower stage of this request, the finish links to that. Where it gives
+     * anything else, the finish links to the relay: the machine has it follow a higher stage of this request, and what is
+     * elsewhere settles it by a Link.
      *
      * Relays. Of a future that isn't a stage of this request, a source of this request takes the place. Link.hang hangs it on
-     * any CompletionStage, `feeds` on a stage of another request, and `more.feeds` on one of this request. Whoever takes the
-     * relay out of its link (Link.take) settles it. Once the stage is settled for which the relay was made, the link is let
-     * go, so a future that lives long keeps nothing of requests that are over.
+     * any CompletionStage, `feeds` on a stage of another request. Whoever takes the relay out of its link (Link.take) settles
+     * it. Once the stage is settled for which the relay was made, the link is let go, so a future that lives long keeps
+     * nothing of requests that are over.
      *
-     * Deadlines. Stage.orTimeout and completeOnTimeout hand an act to Clock, and cancel it at the end of the stage. Clock
-     * has one thread that knows when. The acts run in threads of their own, where they are operations as all others, by the
-     * caller CLOCK. What was attached without an executor is called there.
+     * Deadlines. Stage.orTimeout and completeOnTimeout set a deadline of the machine (`limit`). Clock has one thread that
+     * knows when the first deadline of a request comes (`alarm`). Then `passes` lets time pass up to it, in a thread of its
+     * own, where it is an operation as all others; what is settled is so by the caller CLOCK. What was attached without an
+     * executor is called there. The next deadline gets its alarm before that, so it comes after the one before it, and isn't
+     * delayed by what hangs on that. Once no stage is open that has a deadline, the clock forgets the request.
      *
      * Room. A request has at most 4,096 stages, and of a flow's, two edges are set aside for each stage that is attached.
      * `hasPlace` is asked under the lock, before anything is attached. Where there is none, the request throws, or hands the
-     * call on to `next`, if it goes on. The core makes more room itself, by doing its words again.
+     * call on to `next`, if it goes on. The machine makes more room itself.
      *
      * Memory. Where the system refuses memory, an OutOfMemoryError is thrown, and the words that were done by then stand
-     * (Ledger.refused). `close` keeps the words in the heap and gives the core to the next request; a word that comes later
-     * has another core do all words again. Cores of requests that nobody can reach are freed by whoever opens the next ones
-     * (Freed).
+     * (Machine.refused). `close` keeps the words in the heap and gives the core to the next request; a word that comes later
+     * has another core do all words again. Relays and deadlines aren't in the words: the stages that have any (`unwritten`)
+     * know them, and `setAgain` sets them again. Cores of requests that nobody can reach are freed by whoever opens the next
+     * ones (Freed).
      *
      * Contexts and ends. Where the service has contexts, a function that is attached is a Carried, which has what was captured
      * before anything is done; one of a flow becomes one as it is claimed (`granted`). `closed` sees to it that a hook of the
@@ -110,7 +115,10 @@ public final class Request implements AutoCloseable {
      * somebody's CompletionStage; and those that call Contexts: the constructors, `attach`, `started` and `oneCall`.
      */
 
-    /** Callers: the clock, what settles relays, the threads in the order in which they came, and those for which there is no number. */
+    /**
+     * Callers: the machine itself, which is the clock of histories; what settles relays of what is elsewhere; the threads in the order in which
+     * they came, and those for which there is no number.
+     */
     static final int CLOCK = 0, RELAY = 1, FIRST_THREAD = 2, OTHER_THREADS = 63;
 
     private static final Stage<?>[] NO_STAGES = {};
@@ -122,7 +130,7 @@ public final class Request implements AutoCloseable {
     private final boolean single;
     /** Of which it has the first stages, or null. */
     private final Flow flow;
-    private final Ledger ledger;
+    final Machine machine;
     /** What is told of values and exceptions. */
     final Describe describe;
     /** The contexts of where it was opened; null without. */
@@ -138,10 +146,15 @@ public final class Request implements AutoCloseable {
     private long[] threads;
     private String[] threadNames = new String[1];
     private int threadCount;
-    /** How many stages wait for threads to claim them that have made them ready. */
-    private int pending;
-    /** Whether executors call some of its functions. */
-    private boolean mixed;
+    /** How many relays and deadlines of stages that aren't settled the machine has: these aren't in the words. */
+    private int unwritten;
+    /** By when time is to pass, and who sees to it; {@code Long.MAX_VALUE} and null where nothing is due. */
+    private long alarmAt = Long.MAX_VALUE;
+    private Future<?> alarm;
+    /** Whether a core that it has again is given back once all relays and deadlines have ended. */
+    private boolean isClosed;
+    /** Up to where a recording has the words. */
+    private int recorded;
     private boolean goesOn;
     /** Whether the service's hook was told that it has ended. */
     private boolean isTold;
@@ -154,10 +167,9 @@ public final class Request implements AutoCloseable {
         single = false;
         this.describe = describe;
         within = service.captured();
-        ledger = new Ledger(flow == null ? null : flow.plan(), room);
+        machine = new Machine(flow == null ? null : flow.plan(), room);
         values = new Object[flow != null ? Math.max(flow.count(), 1) : 8];
         stages = flow == null && room > 0 ? new Stage<?>[room] : NO_STAGES;
-        mixed = flow != null && flow.isMixed();
     }
 
     /** A request of one stage. */
@@ -170,13 +182,10 @@ public final class Request implements AutoCloseable {
         within = service.captured();
         values = new Object[1];
         stages = new Stage<?>[1];
-        mixed = true;
-        long word = Words.attach(who(), Form.SUPPLY, 0, 0, 0, 0);
-        ledger = new Ledger(word);
-        record(word);
+        machine = new Machine(Words.attach(who(), Form.SUPPLY, 0, 0, 0, 0));
     }
 
-    /** A request of one stage that rests once that is settled. The executor's thread opens its ledger, and gives it back. */
+    /** A request of one stage that rests once that is settled. The executor's thread opens its machine, and gives it back. */
     static <U> Stage<U> oneCall(Service service, Supplier<U> supplier) {
         Objects.requireNonNull(supplier);
         Request request = new Request(service);
@@ -261,7 +270,7 @@ public final class Request implements AutoCloseable {
     }
 
     private static <U> Stage<U> completed(Stage<U> stage, U value) {
-        stage.request.complete(stage.number, value, -1);
+        stage.request.complete(stage.number, value);
         return stage;
     }
 
@@ -315,7 +324,7 @@ public final class Request implements AutoCloseable {
         if (step.flow() != flow) {
             throw new IllegalArgumentException("the step is of another flow");
         }
-        synchronized (ledger) {
+        synchronized (machine) {
             Stage<U> stage = (Stage<U>) at(step.number());
             if (stage.told == null) {
                 shown(stage);
@@ -326,14 +335,10 @@ public final class Request implements AutoCloseable {
 
     /** A stage of a flow that is asked for once it is settled. */
     private void shown(Stage<?> stage) {
-        ledger.ask(stage.number);
-        if (ledger.news() > 0) {
-            long change = ledger.news(0);
-            if (((int) change >>> 12 & 1) != 0) {
-                stages[stage.number] = null;
-                stage.tells(told((int) change, (int) (change >>> 32)));
-                stage.inherit();
-            }
+        if (machine.isSettled(stage.number)) {
+            stages[stage.number] = null;
+            stage.tells(told(machine.told(0), machine.number(0)));
+            stage.inherit();
         }
     }
 
@@ -355,7 +360,7 @@ public final class Request implements AutoCloseable {
     /** All that happened until now. It costs the doing again of all words, some microseconds, once it is read. */
     public History history() {
         History history;
-        synchronized (ledger) {
+        synchronized (machine) {
             history = taken();
         }
         return history.described(describe);
@@ -363,12 +368,12 @@ public final class Request implements AutoCloseable {
 
     /** The same, not described yet. The lock is held. */
     private History taken() {
-        int count = ledger.stages();
+        int count = machine.stages();
         String[] names = this.names == null ? new String[count] : Arrays.copyOf(this.names, count);
         for (int k = 0; flow != null && k < flow.count(); k++) {
             names[k] = names[k] == null ? flow.name(k) : names[k];
         }
-        return new History(name, flow, ledger, names, Arrays.copyOf(values, valueCount), faults == null ? new Throwable[0] : faults.errors(),
+        return new History(name, flow, machine, names, Arrays.copyOf(values, valueCount), faults == null ? new Throwable[0] : faults.errors(),
                 Arrays.copyOf(threadNames, threadCount));
     }
 
@@ -381,17 +386,18 @@ public final class Request implements AutoCloseable {
         if (service.ends() != null) {
             closed();
         }
-        synchronized (ledger) {
-            ledger.rest();
+        synchronized (machine) {
+            isClosed = unwritten > 0;
+            machine.rest(isClosed ? this::setAgain : null);
         }
     }
 
     private void rests() {
         boolean rests;
-        synchronized (ledger) {
-            rests = ledger.stages() == 1 && stages[0] == null;
+        synchronized (machine) {
+            rests = machine.stages() == 1 && stages[0] == null;
             if (rests) {
-                ledger.rest();
+                machine.rest(null);
             }
         }
         if (rests && service.ends() != null) {
@@ -401,8 +407,8 @@ public final class Request implements AutoCloseable {
 
     private void closed() {
         List<Stage<?>> open = new ArrayList<>();
-        synchronized (ledger) {
-            for (int k = 0; k < ledger.stages() && !isTold; k++) {
+        synchronized (machine) {
+            for (int k = 0; k < machine.stages() && !isTold; k++) {
                 if (isOpen(k)) {
                     open.add(at(k));
                 }
@@ -423,15 +429,14 @@ public final class Request implements AutoCloseable {
         if (number < stages.length && stages[number] != null || flow == null || number >= flow.count()) {
             return number < stages.length && stages[number] != null;
         }
-        ledger.ask(number);
-        return ledger.news() == 0 || ((int) ledger.news(0) >>> 12 & 1) == 0;
+        return !machine.isSettled(number);
     }
 
     /** Has the service's hook told of it, if it wasn't yet. It throws nothing, nor keeps anybody waiting. */
     private void ended() {
         try {
             History history;
-            synchronized (ledger) {
+            synchronized (machine) {
                 if (isTold) {
                     return;
                 }
@@ -445,7 +450,7 @@ public final class Request implements AutoCloseable {
     }
 
     void name(int stage, String name) {
-        synchronized (ledger) {
+        synchronized (machine) {
             if (names == null || names.length <= stage) {
                 names = names == null ? new String[Math.max(stage + 1, 8)] : Arrays.copyOf(names, 2 * stage);
             }
@@ -455,7 +460,7 @@ public final class Request implements AutoCloseable {
 
     /** What a stage is called: by its name, or by its form. */
     String called(Stage<?> stage) {
-        synchronized (ledger) {
+        synchronized (machine) {
             String given = names == null || names.length <= stage.number ? null : names[stage.number];
             given = given == null && flow != null && stage.number < flow.count() ? flow.name(stage.number) : given;
             return stage.number + " " + (given != null ? given : stage.form.text);
@@ -472,8 +477,8 @@ public final class Request implements AutoCloseable {
         checkDepth();
         Object carried = service.carried(function);
         Stage<U> stage = null;
-        synchronized (ledger) {
-            if (ledger.hasPlace(1)) {
+        synchronized (machine) {
+            if (machine.hasPlace(1)) {
                 stage = added(form, null, null, carried, executor, false, null);
             }
         }
@@ -554,8 +559,8 @@ public final class Request implements AutoCloseable {
             Stage<?> a = own(form, first, links, 0), b = own(form, second, links, 1);
             // What went to a further request is of no use here.
             if ((a == null || a.request == this) && (b == null || b.request == this)) {
-                synchronized (ledger) {
-                    if (ledger.hasPlace(form.composes ? 2 : 1)) {
+                synchronized (machine) {
+                    if (machine.hasPlace(form.composes ? 2 : 1)) {
                         if (!waits(form, a, b)) {
                             checkDepth();
                             news = new News();
@@ -591,8 +596,8 @@ public final class Request implements AutoCloseable {
     }
 
     private boolean hasPlace(int more) {
-        synchronized (ledger) {
-            return ledger.hasPlace(more);
+        synchronized (machine) {
+            return machine.hasPlace(more);
         }
     }
 
@@ -611,7 +616,7 @@ public final class Request implements AutoCloseable {
     }
 
     private Request further() {
-        synchronized (ledger) {
+        synchronized (machine) {
             if (!goesOn) {
                 throw new RequestFullException(name);
             }
@@ -625,23 +630,21 @@ public final class Request implements AutoCloseable {
     private <U> Stage<U> added(Form form, Stage<?> a, Stage<?> b, Object function, Executor executor, boolean minimal, News news) {
         int who = who();
         if (form.composes) {
-            enter(new Stage<>(this, ledger.stages(), Form.SOURCE, null, null));
+            enter(new Stage<>(this, machine.stages(), Form.SOURCE, null, null));
             reserve(who);
         }
-        int number = ledger.stages();
+        int number = machine.stages();
         Stage<U> stage = minimal ? new MinimalStage<>(this, number, form, function, executor)
                 : new Stage<>(this, number, form, function, executor);
-        mixed |= executor != null;
-        ledger.own(number, executor == null && form.calls);
+        int lane = executor == null ? Machine.HERE : Machine.BY_EXECUTOR;
         int sources = b != null ? 2 : a != null ? 1 : 0;
         long word = Words.attach(who, form, sources, a == null ? 0 : a.number, b == null ? 0 : b.number, form.calls ? number : 0);
         enter(stage); // One whose word fails makes place for the next one of its number.
         if (news == null) {
-            ledger.attachLater(word);
+            machine.attachLater(word, lane);
         } else {
-            ledger.attach(word, who);
+            machine.attach(word, lane, who);
         }
-        record(word);
         if (a != null) {
             a.dependents++;
         }
@@ -655,14 +658,12 @@ public final class Request implements AutoCloseable {
     }
 
     private int reserve(int who) {
-        long word = Words.attach(who, Form.SOURCE, 0, 0, 0, 0);
-        record(word);
-        return ledger.attachLater(word);
+        return machine.attachLater(Words.attach(who, Form.SOURCE, 0, 0, 0, 0), Machine.HERE);
     }
 
     private void enter(Stage<?> stage) {
         if (stage.number >= stages.length) {
-            stages = Arrays.copyOf(stages, Math.min(Ledger.MOST_STAGES, Math.max(stage.number + 8, 2 * stages.length)));
+            stages = Arrays.copyOf(stages, Math.min(Machine.MOST_STAGES, Math.max(stage.number + 8, 2 * stages.length)));
         }
         stages[stage.number] = stage;
     }
@@ -670,13 +671,13 @@ public final class Request implements AutoCloseable {
     /** A source for a stage that is being made, which calls {@link #entered}: its number, or -1 where there is no place. */
     int reserve() {
         checkDepth();
-        synchronized (ledger) {
-            return ledger.hasPlace(1) ? reserve(who()) : -1;
+        synchronized (machine) {
+            return machine.hasPlace(1) ? reserve(who()) : -1;
         }
     }
 
     void entered(Stage<?> stage) {
-        synchronized (ledger) {
+        synchronized (machine) {
             enter(stage);
         }
     }
@@ -699,52 +700,44 @@ public final class Request implements AutoCloseable {
     void begin(Object[] given) {
         checkDepth();
         News news = new News();
-        synchronized (ledger) {
-            int who = who();
-            for (int from = 0; flow.startsReady();) {
-                from = ledger.ready(from);
-                for (int k = 0; k < ledger.news(); k++) {
-                    ready(at((int) ledger.news(k) & 0xfff), news);
-                }
-                if (from == 0) {
-                    break;
+        synchronized (machine) {
+            int who = who(), count = Machine.MOST_READY;
+            for (int from = 0; flow.startsReady() && count == Machine.MOST_READY;) {
+                count = machine.readyFrom(from);
+                for (int k = 0; k < count; k++) {
+                    from = machine.ready(k) + 1;
+                    news.handed(at(machine.ready(k)));
                 }
             }
             for (int k = 0; k < given.length; k++) {
                 change(Words.complete(who, flow.promise(k), number(given[k])), who, news);
             }
-            claimNext(news, who);
         }
         tell(news);
     }
 
     // Settling.
 
-    boolean complete(int stage, Object value, int by) {
-        return settle(Words.COMPLETE, stage, value, by);
+    boolean complete(int stage, Object value) {
+        return settle(Words.COMPLETE, stage, value);
     }
 
     boolean fail(int stage, Throwable error) {
-        return settle(Words.FAIL, stage, error, -1);
-    }
-
-    boolean timeOut(int stage) {
-        return settle(Words.FAIL_AS, stage, null, CLOCK);
+        return settle(Words.FAIL, stage, error);
     }
 
     boolean cancel(int stage) {
-        return settle(Words.CANCEL, stage, null, -1);
+        return settle(Words.CANCEL, stage, null);
     }
 
-    /** Does one word by this caller, or by this thread's where it is below 0, and tells what came of it. Answers whether it settled the stage. */
-    private boolean settle(int kind, int stage, Object given, int by) {
+    /** Does one word, and tells what came of it. Answers whether it settled the stage. */
+    private boolean settle(int kind, int stage, Object given) {
         checkDepth();
         News news = new News();
         boolean did;
-        synchronized (ledger) {
+        synchronized (machine) {
             int who = who();
-            did = change(word(kind, by < 0 ? who : by, stage, given), who, news);
-            claimNext(news, who);
+            did = change(word(kind, who, stage, given), who, news);
         }
         tell(news);
         return did;
@@ -757,24 +750,138 @@ public final class Request implements AutoCloseable {
                 return Words.complete(who, stage, number(given));
             case Words.FAIL:
                 return Words.fail(who, stage, code((Throwable) given));
-            case Words.FAIL_AS:
-                return Words.failAs(who, stage, Words.TIMED_OUT);
             default:
                 return Words.cancel(who, stage);
         }
     }
 
-    /** The word by which a relay is settled as a stage of this request or another one was; see {@link Link#wraps}. */
-    private long relayWord(int relay, Object told, boolean own, boolean wraps) {
+    // Limits of time.
+
+    /** Has a stage settled after a time: with this value, or as timed out. */
+    void limit(Stage<?> stage, long time, TimeUnit unit, boolean gives, Object value) {
+        long moment = Clock.moment(time, unit);
+        synchronized (machine) {
+            if (stage.told != null) {
+                return;
+            }
+            Stage.Limit limit = new Stage.Limit(moment, gives, gives ? number(value) : 0);
+            machine.deadline(stage.number, limit);
+            Stage.More more = stage.more();
+            more.limits = more.limits != null ? more.limits : new ArrayList<>(1);
+            more.limits.add(limit);
+            holds(stage);
+            if (moment >= alarmAt) {
+                return;
+            }
+            alarmAt = moment;
+        }
+        wakeAt(moment);
+    }
+
+    /** Has time pass at a moment. Where that can't be had, as no thread can be started, the next one who asks tries again. */
+    private void wakeAt(long moment) {
+        Future<?> made = null, over;
+        try {
+            made = Clock.at(moment, this::passes);
+        } finally {
+            synchronized (machine) {
+                over = made;
+                if (alarmAt == moment && (made == null || unwritten > 0)) {
+                    over = alarm;
+                    alarm = made;
+                    alarmAt = made == null ? Long.MAX_VALUE : moment;
+                }
+            }
+            stop(over);
+        }
+    }
+
+    private static void stop(Future<?> alarm) {
+        if (alarm != null) {
+            alarm.cancel(false);
+        }
+    }
+
+    /**
+     * Lets time pass up to the first deadline, if that has come, and tells what came of it. What hangs on it may take long, so the next deadline
+     * has a thread of its own, which comes after this one has passed.
+     */
+    private void passes() {
+        News news = new News();
+        long due = Long.MAX_VALUE;
+        synchronized (machine) {
+            long moment = alarmAt;
+            if (moment > Clock.now()) {
+                return;
+            }
+            int who = who();
+            alarm = null;
+            alarmAt = Long.MAX_VALUE;
+            machine.pass(moment, who);
+            due = machine.due();
+            publish(news, who);
+            alarmAt = due = unwritten > 0 ? due : Long.MAX_VALUE;
+        }
+        try {
+            if (due < Long.MAX_VALUE) {
+                wakeAt(due);
+            }
+        } catch (Throwable none) {
+            news.failure = none;
+        }
+        tell(news);
+    }
+
+    /** Has a machine that was opened again follow stages and keep deadlines as it did before. */
+    private void setAgain() {
+        for (Stage<?> stage : stages) {
+            if (stage != null && stage.unwritten > 0) {
+                if (stage.more.limits != null) {
+                    stage.more.limits.forEach(limit -> machine.deadline(stage.number, limit));
+                }
+                if (stage.more.followed >= 0) {
+                    machine.follow(stage.number, stage.more.followed);
+                }
+            }
+        }
+    }
+
+    /** The machine has a relay or a deadline more of this stage. */
+    private void holds(Stage<?> stage) {
+        stage.unwritten++;
+        unwritten++;
+    }
+
+    /** A stage was settled of which the machine had a relay or a deadline: the clock forgets the request where that was the last one. */
+    private void released() {
+        Future<?> over = null;
+        synchronized (machine) {
+            if (unwritten == 0) {
+                over = alarm;
+                alarm = null;
+                alarmAt = Long.MAX_VALUE;
+                if (isClosed) {
+                    isClosed = false;
+                    machine.rest(null);
+                }
+            }
+        }
+        stop(over);
+    }
+
+    // Relays.
+
+    /** The word by which a relay is settled as a stage of another request or a future was; see {@link Link#wraps}. */
+    private long relayWord(int relay, Object told, boolean wraps) {
         if (told instanceof Fault) {
             Fault fault = (Fault) told;
             // Who would see that it isn't wrapped any more gets the exception itself.
             if (fault.isTimeout && (wraps || !fault.isWrapped())) {
                 return Words.failAs(RELAY, relay, Words.TIMED_OUT);
             }
-            // The stage that is linked to a relay of this request has it wrapped in any case. A cancellation that says more keeps it.
-            boolean isPlain = fault.code < 0 && fault.error.getClass() == CancellationException.class && fault.error.getMessage() == null;
-            return isPlain ? Words.cancel(RELAY, relay) : Words.fail(RELAY, relay, own && fault.code >= 0 ? fault.code : code(fault.error));
+            // A cancellation that says more keeps it.
+            boolean isPlain = !fault.isCoded && fault.error.getClass() == CancellationException.class && fault.error.getMessage() == null;
+            return isPlain ? Words.cancel(RELAY, relay) : Words.fail(RELAY, relay, code(fault.error));
         }
         return Words.complete(RELAY, relay, number(told == Stage.NIL ? null : told));
     }
@@ -791,7 +898,7 @@ public final class Request implements AutoCloseable {
                 told = link.hang(of);
             } catch (Throwable refusal) {
                 thrown = refusal;
-                told = new Fault(refusal, -1);
+                told = new Fault(refusal);
             }
         }
         if (told != null) {
@@ -819,15 +926,14 @@ public final class Request implements AutoCloseable {
     }
 
     private void relayed(Stage<?> relay, Object told, boolean wraps, News news) {
-        synchronized (ledger) {
+        synchronized (machine) {
             int who = who();
-            change(relayWord(relay.number, told, false, wraps), who, news);
-            claimNext(news, who);
+            change(relayWord(relay.number, told, wraps), who, news);
         }
     }
 
     private boolean feeds(Stage<?> stage, Link link) {
-        synchronized (ledger) {
+        synchronized (machine) {
             if (stage.told == null) {
                 Stage.More more = stage.more();
                 more.outside = and(more.outside, link);
@@ -845,14 +951,14 @@ public final class Request implements AutoCloseable {
     }
 
     void unlink(Stage<?> stage, Link link) {
-        synchronized (ledger) {
+        synchronized (machine) {
             stage.more.outside.remove(link);
         }
     }
 
     /** What hangs on a settled stage outside its request. */
     private Link outside(Stage<?> stage) {
-        synchronized (ledger) {
+        synchronized (machine) {
             return stage.more.outside.take();
         }
     }
@@ -865,89 +971,51 @@ public final class Request implements AutoCloseable {
     }
 
     /** Does one word under the lock, and says whether its answer is 1, as of a stage that it settled. */
-    private boolean change(long word, int who, News news) {
-        return change(word, who, -1, news);
-    }
-
-    private boolean change(long word, int who, int from, News news) {
-        ledger.apply(word, from >= 0 || news.isFree() ? who : Ledger.NOBODY, from);
-        boolean answer = ledger.answer() == 1;
-        record(word);
+    boolean change(long word, int who, News news) {
+        machine.apply(word, who);
+        boolean answer = machine.answer() == 1;
         publish(news, who);
         return answer;
     }
 
-    /**
-     * Finishes a stage that this thread has claimed. Where all that is ready is this thread's own to call, the next one is claimed with it:
-     * the lowest. It isn't below any that waits here, nor below the stage itself.
-     */
-    private void finish(long word, int who, News news) {
-        boolean alone = !mixed && pending == (news.hereOf == this ? news.hereCount : 0) && (news.here == null || news.hereOf == this);
-        change(word, who, alone ? Math.min(Words.stage(word) + 1, news.lowest) : -1, news);
-    }
-
-    /** Takes a stage that is ready: for its executor, or for this thread. */
-    private void ready(Stage<?> stage, News news) {
-        news.ready(stage);
-        if (stage.executor == null) {
-            stage.waitsHere = true;
-            pending++;
-        }
-    }
-
-    /** Shows under the lock what was settled, takes what is ready, and goes on with what hangs on it by relays. */
+    /** Shows under the lock what was settled, and takes what is to be called and handed to executors. */
     private void publish(News news, int who) {
-        int claimed = ledger.claimed();
-        if (claimed >= 0) {
-            record(Words.claim(who, claimed));
-            granted(claimed, news);
+        Recorder recorder = Recorder.now();
+        if (recorder != null) {
+            record(recorder);
         }
-        do {
-            int count = ledger.news();
-            for (int k = 0; k < count; k++) {
-                long change = ledger.news(k);
-                int what = (int) change, number = what & 0xfff;
-                if ((what >>> 12 & 1) == 0) {
-                    if (number != claimed) {
-                        ready(at(number), news);
-                    }
-                    continue;
+        try {
+            do {
+                for (int k = 0; k < machine.told(); k++) {
+                    settled(machine.told(k), machine.number(k), news);
                 }
-                Stage<?> stage = number < stages.length ? stages[number] : null;
-                if (stage == null && Recorder.hasStages()) {
-                    stage = at(number);
+                for (int k = 0; k < machine.claimed(); k++) {
+                    granted(k, news);
                 }
-                if (stage != null) {
-                    stages[number] = null;
-                    stage.tells(told(what, (int) (change >>> 32)));
-                    news.settled(stage);
-                    if (stage.more != null && stage.more.feeds != null) {
-                        stage.more.nextFed = news.fed;
-                        news.fed = stage;
-                    }
+                for (int k = 0; k < machine.ready(); k++) {
+                    news.handed(at(machine.ready(k)));
                 }
-            }
-        } while (ledger.more());
-        if (news.fed != null && !news.isFeeding) {
-            news.isFeeding = true;
-            try {
-                feed(news, who);
-            } finally {
-                news.isFeeding = false;
-            }
+            } while (machine.more(who));
+        } catch (OutOfMemoryError refused) {
+            news.failure = refused;
         }
     }
 
-    /** Settles relays as stages of this request were, and those that hang on what is settled by that, which is no recursion. */
-    private void feed(News news, int who) {
-        while (news.fed != null) {
-            Stage<?> stage = news.fed;
-            Link link = stage.more.feeds.poll();
-            if (link == null) {
-                news.fed = stage.more.nextFed;
-            } else {
-                change(relayWord(link.take().number, stage.told, true, true), who, news);
+    /** Of a stage whose number is in the lowest 12 bits. */
+    private void settled(int what, int number, News news) {
+        int at = what & 0xfff;
+        Stage<?> stage = at < stages.length ? stages[at] : null;
+        if (stage == null && Recorder.hasStages()) {
+            stage = at(at);
+        }
+        if (stage != null) {
+            stages[at] = null;
+            if (stage.unwritten > 0) {
+                unwritten -= stage.unwritten;
+                stage.more.limits = null;
             }
+            stage.tells(told(what, number));
+            news.settled(stage);
         }
     }
 
@@ -956,78 +1024,56 @@ public final class Request implements AutoCloseable {
         return kind != History.GIVES ? fault(kind, (what >>> 20 & 1) != 0, number) : (what >>> 21 & 1) == 0 ? Stage.NIL : values[number];
     }
 
-    /** Claims the next stage whose function this thread is to call, if it is one of this request. */
-    private void claimNext(News news, int who) {
-        while (news.claimedIn == null && news.here != null && news.here.request == this) {
-            Stage<?> stage = news.pollHere();
-            if (stage.waitsHere) {
-                left(stage, news);
-                claim(stage, who, news);
-            }
-        }
-    }
-
-    /** Of a stage that waited for this thread: it doesn't any more. */
-    private void left(Stage<?> stage, News news) {
-        stage.waitsHere = false;
-        pending--;
-        news.left();
-    }
-
-    private void claimHere(News news) {
-        synchronized (ledger) {
-            claimNext(news, who());
-        }
-    }
-
     private void claim(Stage<?> stage, int who, News news) {
-        long word = Words.claim(who, stage.number);
-        ledger.apply(word, Ledger.ARGUMENTS, -1);
-        record(word);
-        if (ledger.answer() == History.GRANTED) {
-            granted(stage.number, news);
-        }
+        machine.apply(Words.claim(who, stage.number), who);
+        publish(news, who);
     }
 
-    /** Takes the function of a stage that was claimed, and what it is called with, which the ledger has just told. */
-    private void granted(int number, News news) {
+    /** Takes the function of a stage that was claimed, and what it is called with. */
+    private void granted(int k, News news) {
+        int number = machine.claimed(k), kind = machine.kind(k);
         Stage<?> stage = number < stages.length ? stages[number] : null;
-        news.claimedIn = this;
-        news.claimed = number;
-        if (stage == null) {
-            news.form = flow.form(number);
-            news.function = flow.function(number);
-        } else {
-            if (stage.waitsHere) {
-                left(stage, news);
-            }
-            news.form = stage.form;
-            news.function = stage.function;
+        Object function = stage != null ? stage.function : flow.function(number), first = null, second = null;
+        if (stage != null) {
             stage.function = null;
         }
         if (within != null && flow != null && number < flow.count()) {
-            news.function = new Carried(within, news.function);
+            function = new Carried(within, function);
         }
-        switch (ledger.arguments()) {
+        switch (kind & 3) {
             case History.NO_ARGS:
-                news.first = news.second = null;
                 break;
-            case History.OUTCOME:
-                int kind = ledger.argument(5);
-                news.first = kind == History.GIVES && ledger.argument(8) != 0 ? values[ledger.argument(9)] : null;
-                news.second = kind == History.GIVES ? null : fault(kind, ledger.argument(6) != 0, ledger.argument(7)).error;
+            case History.ONE:
+                first = value(machine.first(k));
+                break;
+            case History.TWO:
+                first = value(machine.first(k));
+                second = value(machine.second(k));
                 break;
             default:
-                news.first = ledger.argument(1) == 0 ? null : values[ledger.argument(2)];
-                news.second = ledger.argument(3) == 0 ? null : values[ledger.argument(4)];
+                int of = kind >>> 4 & 0xf;
+                if (of == History.GIVES) {
+                    first = value(machine.first(k));
+                } else {
+                    second = fault(of, (kind >>> 8 & 1) != 0, machine.first(k)).error;
+                }
         }
+        Call call = news.call();
+        call.request = this;
+        call.number = number;
+        call.stage = stage;
+        call.form = stage != null ? stage.form : flow.form(number);
+        call.function = function;
+        call.first = first;
+        call.second = second;
+        news.claimed(call);
     }
 
     /** Claims a stage for an executor's thread, calls its function, and goes on with what that thread is to call then. */
     void work(Stage<?> stage) {
         checkDepth();
         News news = new News();
-        synchronized (ledger) {
+        synchronized (machine) {
             claim(stage, who(), news);
         }
         tell(news);
@@ -1037,7 +1083,7 @@ public final class Request implements AutoCloseable {
      * Tells who waits, hands stages to executors, and calls functions until there is none that this thread is to call. What one of them throws
      * here, as an Error may be, keeps nothing from the others, and is thrown in the end.
      */
-    private static void tell(News news) {
+    static void tell(News news) {
         Throwable first = null;
         for (boolean goesOn = true; goesOn;) {
             try {
@@ -1046,6 +1092,7 @@ public final class Request implements AutoCloseable {
                 first = first == null ? thrown : first;
             }
         }
+        first = first == null ? news.failure : first;
         if (first != null) {
             Request.<RuntimeException>rethrow(first);
         }
@@ -1055,6 +1102,7 @@ public final class Request implements AutoCloseable {
     private static boolean tellNext(News news) {
         Stage<?> stage;
         Link link;
+        Call call;
         if ((link = news.pollRelayed()) != null) {
             relayed(link, news.told, news);
         } else if ((stage = news.pollSettled()) != null) {
@@ -1062,15 +1110,16 @@ public final class Request implements AutoCloseable {
                 news.relayed(stage.request.outside(stage), stage.told);
             }
             stage.show();
+            if (stage.unwritten > 0) {
+                stage.request.released();
+            }
             if (stage.request.single) {
                 stage.request.rests();
             }
         } else if ((stage = news.pollHanded()) != null) {
             stage.request.hand(stage, news);
-        } else if (news.claimedIn != null) {
-            news.claimedIn.call(news);
-        } else if (news.here != null) {
-            news.here.request.claimHere(news);
+        } else if ((call = news.pollCall()) != null) {
+            call.request.call(call, news);
         } else {
             return false;
         }
@@ -1102,24 +1151,27 @@ public final class Request implements AutoCloseable {
 
     /** A stage whose executor takes nothing ends by what that threw. */
     private void refused(Stage<?> stage, Throwable refused, News news) {
-        synchronized (ledger) {
+        synchronized (machine) {
             int who = who();
-            long word = Words.claim(who, stage.number);
-            ledger.apply(word, Ledger.ARGUMENTS, -1);
-            record(word);
-            if (ledger.answer() == History.GRANTED) {
-                change(Words.finishThrowing(who, stage.number, code(refused)), who, news);
+            machine.apply(Words.claim(who, stage.number), who);
+            if (machine.answer() == History.GRANTED) {
+                machine.finish(stage.number, true, code(refused), who);
             }
+            publish(news, who);
         }
     }
 
-    private void call(News news) {
-        int number = news.claimed;
-        Form form = news.form;
-        Object function = news.function, first = news.first, second = news.second, given = null;
-        news.claimedIn = null;
-        news.function = news.first = news.second = null;
+    /** Calls a function, unless its stage was settled since it was claimed, and finishes the stage. */
+    private void call(Call call, News news) {
+        if (call.stage != null && call.stage.told != null) {
+            news.called(call);
+            return;
+        }
+        int number = call.number;
+        Form form = call.form;
+        Object function = call.function, first = call.first, second = call.second, given = null;
         Throwable thrown = null;
+        news.called(call);
         try {
             given = Carried.call(form, function, first, second);
         } catch (Throwable error) {
@@ -1129,16 +1181,16 @@ public final class Request implements AutoCloseable {
             }
         }
         Link link = null;
-        synchronized (ledger) {
+        synchronized (machine) {
             int who = who();
             if (thrown != null) {
-                finish(Words.finishThrowing(who, number, code(thrown)), who, news);
-            } else if (form.composes) {
-                link = link(number, (CompletionStage<?>) given, who, news);
+                machine.finish(number, true, code(thrown), who);
+            } else if (!form.composes) {
+                machine.finish(number, false, number(given), who);
             } else {
-                finish(Words.finish(who, number, number(given)), who, news);
+                link = link(number, (CompletionStage<?>) given, who);
             }
-            claimNext(news, who);
+            publish(news, who);
         }
         if (link != null) {
             hang(link, (CompletionStage<?>) given, news);
@@ -1147,29 +1199,24 @@ public final class Request implements AutoCloseable {
     }
 
     /** Links a stage to what its function gave, or to the relay below it: that relay's link where it is to be settled from outside. */
-    private Link link(int number, CompletionStage<?> to, int who, News news) {
+    private Link link(int number, CompletionStage<?> to, int who) {
         Stage<?> own = to instanceof Stage<?> && ((Stage<?>) to).request == this ? (Stage<?>) to : null;
         if (own != null && own.number < number) {
-            change(Words.finishLinking(who, number, own.number), who, news);
+            machine.link(Words.finishLinking(who, number, own.number), -1, 0, who);
             return null;
         }
         Stage<?> relay = relayOf(number);
         name(relay.number, own == null ? "relay of what is elsewhere" : "relay of " + own.number);
-        long word = Words.finishLinking(who, number, relay.number);
-        ledger.apply(word, Ledger.NOBODY, -1);
-        record(word);
-        boolean won = ledger.answer() == History.WON;
-        publish(news, who);
-        if (!won) {
+        machine.link(Words.finishLinking(who, number, relay.number), own == null ? -1 : relay.number, own == null ? 0 : own.number, who);
+        if (machine.answer() != History.WON) {
             return null;
         }
         if (own == null) {
             return new Link(relay, at(number), true);
         }
-        if (own.told != null) {
-            change(relayWord(relay.number, own.told, true, true), who, news);
-        } else {
-            own.more().feeds = and(own.more().feeds, new Link(relay, null, true));
+        if (stages[relay.number] == relay) {
+            relay.more().followed = own.number;
+            holds(relay); // Also where the machine has just settled it, which is yet to be told.
         }
         return null;
     }
@@ -1185,7 +1232,7 @@ public final class Request implements AutoCloseable {
 
     /** Keeps what is to be done at the end of a stage that isn't settled, and says whether it isn't. */
     boolean observes(Stage<?> stage, Runnable act) {
-        synchronized (ledger) {
+        synchronized (machine) {
             if (stage.told == null) {
                 Stage.More more = stage.more();
                 more.observers = new Stage.Observer(act, more.observers);
@@ -1195,17 +1242,19 @@ public final class Request implements AutoCloseable {
         }
     }
 
-    private void record(long word) {
-        Recorder recorder = Recorder.now();
-        if (recorder != null && recorder.takesWords()) {
-            recorder.word(name, word);
+    private void record(Recorder recorder) {
+        if (recorder.takesWords()) {
+            for (long word : machine.words(recorded)) {
+                recorder.word(name, word);
+            }
         }
+        recorded = machine.events();
     }
 
-    // What the ledger's numbers stand for. The lock is held.
+    // What the machine's numbers stand for. The lock is held.
 
     /** The calling thread's number in words. */
-    private int who() {
+    int who() {
         long id = Thread.currentThread().getId();
         if (thread == id) {
             return FIRST_THREAD;
@@ -1247,6 +1296,10 @@ public final class Request implements AutoCloseable {
         }
         values[valueCount] = value;
         return valueCount++;
+    }
+
+    private Object value(int number) {
+        return number < 0 ? null : values[number];
     }
 
     private int code(Throwable error) {

@@ -12,7 +12,7 @@ import java.util.function.Supplier;
 /** Requests, and the executor that calls the functions of their Async stages where no other is given. Any thread may use it. */
 public final class Service {
     /** For how many stages a request has room at first; more is made where it is needed. */
-    private static final int ROOM = Math.max(0, Math.min(Integer.getInteger("cf.room", 32), Ledger.MOST_STAGES));
+    private static final int ROOM = Math.max(0, Math.min(Integer.getInteger("cf.room", 32), Machine.MOST_STAGES));
 
     private final Executor executor;
     private final Describe describe;

@@ -1,6 +1,7 @@
 package cf.service;
 
 import cf.service.Faults.Fault;
+import java.util.List;
 import java.util.Objects;
 import java.util.concurrent.CancellationException;
 import java.util.concurrent.CompletableFuture;
@@ -8,7 +9,6 @@ import java.util.concurrent.CompletionException;
 import java.util.concurrent.CompletionStage;
 import java.util.concurrent.ExecutionException;
 import java.util.concurrent.Executor;
-import java.util.concurrent.Future;
 import java.util.concurrent.TimeUnit;
 import java.util.concurrent.TimeoutException;
 import java.util.concurrent.atomic.AtomicReferenceFieldUpdater;
@@ -19,9 +19,9 @@ import java.util.function.Function;
 import java.util.function.Supplier;
 
 /**
- * A {@link CompletableFuture} whose state a request's ledger decides: each method that changes something is a word of its history.
+ * A {@link CompletableFuture} whose state the machine of a request decides: each method that changes something is a word of its history.
  *
- * <p>It is a CompletableFuture, so that all that takes one takes it. The part that it inherits is told what the ledger has decided, wakes
+ * <p>It is a CompletableFuture, so that all that takes one takes it. The part that it inherits is told what the machine has decided, wakes
  * who waits, and serves what Java's own classes attach by themselves, as the static methods of CompletableFuture do; it decides nothing.
  */
 public class Stage<T> extends CompletableFuture<T> {
@@ -42,17 +42,32 @@ public class Stage<T> extends CompletableFuture<T> {
     // These are the request's, under its lock, or of the one thread that tells the news.
     Object function;
     int dependents;
-    /** Whether it is ready and waits for the thread that made it so to claim it. */
-    boolean waitsHere;
+    /** How many relays and deadlines of it the machine has. */
+    int unwritten;
     Stage<?> nextSettled, nextReady;
     volatile More more;
 
     /** What few stages have. */
     static final class More {
-        /** Relays of this request, and of others, that are settled as this stage is. */
-        Link.Row feeds, outside;
-        Stage<?> nextFed;
+        /** Relays of other requests that are settled as this stage is. */
+        Link.Row outside;
         Observer observers;
+        /** What the machine has of it that isn't in the words: deadlines, in the order in which they were set, and the stage that it follows, or -1. */
+        List<Limit> limits;
+        int followed = -1;
+    }
+
+    /** A deadline: with a value's number, or as timed out. */
+    static final class Limit {
+        final long moment;
+        final boolean gives;
+        final int number;
+
+        Limit(long moment, boolean gives, int number) {
+            this.moment = moment;
+            this.gives = gives;
+            this.number = number;
+        }
     }
 
     static final class Observer {
@@ -376,7 +391,7 @@ public class Stage<T> extends CompletableFuture<T> {
 
     @Override
     public boolean complete(T value) {
-        return request.complete(number, value, -1);
+        return request.complete(number, value);
     }
 
     @Override
@@ -415,21 +430,13 @@ public class Stage<T> extends CompletableFuture<T> {
 
     @Override
     public Stage<T> orTimeout(long timeout, TimeUnit unit) {
-        Objects.requireNonNull(unit);
-        return at(timeout, unit, () -> request.timeOut(number));
+        request.limit(this, timeout, Objects.requireNonNull(unit), false, null);
+        return this;
     }
 
     @Override
     public Stage<T> completeOnTimeout(T value, long timeout, TimeUnit unit) {
-        Objects.requireNonNull(unit);
-        return at(timeout, unit, () -> request.complete(number, value, Request.CLOCK));
-    }
-
-    private Stage<T> at(long timeout, TimeUnit unit, Runnable act) {
-        if (told == null) {
-            Future<?> timer = Clock.after(timeout, unit, act);
-            observe(() -> timer.cancel(false));
-        }
+        request.limit(this, timeout, Objects.requireNonNull(unit), true, value);
         return this;
     }
 
@@ -564,7 +571,7 @@ public class Stage<T> extends CompletableFuture<T> {
         inherit(told);
     }
 
-    /** Tells the inherited part what the ledger has decided, by which it wakes who waits. */
+    /** Tells the inherited part what the machine has decided, by which it wakes who waits. */
     @SuppressWarnings("unchecked")
     private void inherit(Object told) {
         if (told instanceof Fault) {

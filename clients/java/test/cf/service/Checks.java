@@ -80,6 +80,17 @@ final class Checks {
                         : future.getClass().getMethod(method.getName(), method.getParameterTypes()).invoke(future, given));
     }
 
+    /** Times a stage out at once, by a word of the clock's, and calls in this thread what hangs on it. Whether it wasn't settled. */
+    static boolean timeOut(Stage<?> stage) {
+        News news = new News();
+        boolean did;
+        synchronized (stage.request.machine) {
+            did = stage.request.change(Words.failAs(Request.CLOCK, stage.number, Words.TIMED_OUT), stage.request.who(), news);
+        }
+        Request.tell(news);
+        return did;
+    }
+
     /** MB of memory that the process has. */
     static long resident() throws Exception {
         Path statm = Paths.get("/proc/self/statm");

@@ -33,6 +33,46 @@ final class ClosingTest {
         }
     }
 
+    /** Limits of time, and stages that functions gave, come also if the request is closed before. */
+    static void closedBefore() throws Exception {
+        Request closing = SERVICE.request();
+        Stage<Integer> timed = closing.<Integer>promise().completeOnTimeout(5, 20, TimeUnit.MILLISECONDS), first = closing.promise();
+        List<Stage<Integer>> given = new ArrayList<>();
+        Stage<Integer> linked = first.thenCompose(x -> given.get(0)), behind = linked.thenApply(x -> x + 1);
+        given.add(closing.promise());
+        first.complete(1);
+        closing.close();
+        is(timed.get(20, TimeUnit.SECONDS), 5);
+        is(linked.isDone(), false);
+        closing.close();
+        given.get(0).complete(6);
+        is(linked.join() + behind.join(), 13);
+        is(closing.history().end(2), closing.history().end(5));
+        Stage<Integer> later = closing.promise();
+        closing.close();
+        later.complete(8);
+        is(later.join(), 8);
+        // What executors are to call, they call.
+        Stage<Integer> source = closing.promise();
+        Stage<String> elsewhere = source.thenApplyAsync(x -> Thread.currentThread().getName(), run -> new Thread(run, "elsewhere").start());
+        closing.close();
+        source.complete(9);
+        is(elsewhere.get(20, TimeUnit.SECONDS), "elsewhere");
+        // The core goes to the next one, while there is a limit and afterwards.
+        int live = Machine.live();
+        List<Stage<Integer>> limited = new ArrayList<>();
+        for (int k = 0; k < 300; k++) {
+            try (Request next = SERVICE.request()) {
+                limited.add(next.<Integer>promise().orTimeout(1, TimeUnit.HOURS));
+            }
+        }
+        is(Machine.live() <= live + 10, true);
+        for (Stage<Integer> each : limited) {
+            is(each.complete(1), true);
+        }
+        is(Machine.live() <= live + 10, true);
+    }
+
     /** Functions close the request, and so do others meanwhile. */
     static void closedWithin() throws Exception {
         Request closing = SERVICE.request();

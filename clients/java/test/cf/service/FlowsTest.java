@@ -102,7 +102,7 @@ final class FlowsTest {
             }
             Flow.Step<Integer> end = lastStep.thenCombine(flow.supplyAsync(() -> 1), Integer::sum);
             CyclicBarrier together = new CyclicBarrier(threads);
-            List<Ledger.Plan> plans = Collections.synchronizedList(new ArrayList<>());
+            List<Machine.Plan> plans = Collections.synchronizedList(new ArrayList<>());
             List<Future<?>> ends = new ArrayList<>();
             for (int t = 0; t < threads; t++) {
                 int who = t;

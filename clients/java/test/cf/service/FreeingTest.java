@@ -36,7 +36,7 @@ final class FreeingTest {
                 mayBeFreed.add(new WeakReference<>(raced(k % 8, each)));
             }
         }
-        is(livingStage.more.outside.poll() == null, true);
+        is(livingStage.more.outside.take() == null, true);
         for (CompletionStage<Object> each : lived) {
             Request keeping = SERVICE.request();
             wait.add(keeping.anyOf(keeping.promise(), keeping.promise(), each));
@@ -199,7 +199,7 @@ final class FreeingTest {
         for (int k = 0; k < 9000; k++) {
             open.add(INLINE.request("open"));
         }
-        is(Ledger.live() >= 9000, true);
+        is(Machine.live() >= 9000, true);
         int own = collectors.size();
         System.gc();
         for (int k = 0; k < 4000 && (asked.get() == 0 || told.get() < collections(collectors) - before); k++) {
@@ -210,7 +210,7 @@ final class FreeingTest {
         for (Request each : open) {
             each.close();
         }
-        is(Ledger.live() < 9000, true);
+        is(Machine.live() < 9000, true);
     }
 
     private static long collections(List<GarbageCollectorMXBean> collectors) {
@@ -227,7 +227,7 @@ final class FreeingTest {
         int most = 0;
         for (int k = 0; k < 60_000; k++) {
             INLINE.request("unclosed").completedFuture(k);
-            most = Math.max(most, Ledger.live());
+            most = Math.max(most, Machine.live());
         }
         System.out.println("at most " + most + " were alive");
         is(most < 30_000, true);

@@ -26,6 +26,69 @@ import java.util.concurrent.TimeUnit;
 final class FunctionsTest {
     private FunctionsTest() {}
 
+    /**
+     * Those that one event made ready are this thread's: nobody else calls them, whatever other threads settle meanwhile. One whose stage is
+     * settled before it was called isn't called.
+     */
+    static void together() throws Exception {
+        Request calling = SERVICE.request();
+        Stage<Integer> first = calling.promise(), second = calling.promise();
+        List<String> called = new ArrayList<>();
+        List<Stage<Object>> behind = new ArrayList<>();
+        CountDownLatch runs = new CountDownLatch(1), go = new CountDownLatch(1);
+        for (int k = 0; k < 5; k++) {
+            int each = k;
+            behind.add(first.thenApply(x -> {
+                called.add(each + " " + Thread.currentThread().getName());
+                if (each == 1) {
+                    behind.get(2).complete("instead");
+                    behind.get(3).cancel(true);
+                    runs.countDown();
+                    await(go);
+                }
+                return each;
+            }));
+        }
+        Stage<String> other = second.thenApply(x -> Thread.currentThread().getName());
+        Thread one = new Thread(() -> first.complete(1), "one");
+        one.start();
+        await(runs);
+        second.complete(2);
+        is(other.getNow("none"), Thread.currentThread().getName());
+        is(behind.get(4).isDone(), false);
+        go.countDown();
+        one.join();
+        is(called, Arrays.asList("0 one", "1 one", "4 one"));
+        is(behind.get(2).join() + " " + behind.get(3).isCancelled() + " " + behind.get(4).join(), "instead true 4");
+        String report = calling.history().report();
+        is(report.contains("late") || report.contains("taken"), false);
+    }
+
+    /** An executor is handed one task for each stage, however many events come between. */
+    static void handedOnce() {
+        List<Runnable> tasks = new ArrayList<>();
+        Request calling = new Service(tasks::add).request();
+        Stage<Integer> one = calling.supplyAsync(() -> 1), two = calling.supplyAsync(() -> 2), source = calling.promise();
+        List<Stage<Integer>> behind = new ArrayList<>();
+        for (int k = 0; k < 150; k++) {
+            behind.add(source.thenApplyAsync(x -> x + 1));
+        }
+        is(tasks.size(), 2);
+        source.complete(3);
+        Stage<Integer> third = source.thenApplyAsync(x -> x);
+        calling.promise().complete(null);
+        is(tasks.size(), 153);
+        for (Runnable task : tasks) {
+            task.run();
+        }
+        is(one.join() + two.join() + third.join(), 6);
+        for (Stage<Integer> each : behind) {
+            is(each.join(), 4);
+        }
+        String report = calling.history().report();
+        is(report.contains("settled") || report.contains("taken"), false);
+    }
+
     /** Without Async each function is called once, the lowest stage's first, also those that a function makes ready meanwhile. */
     static void here() {
         for (int round = 0; round < 2; round++) {

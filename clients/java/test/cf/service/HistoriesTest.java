@@ -51,7 +51,7 @@ final class HistoriesTest {
         Stage<Integer> first = told.<Integer>promise().named("first");
         first.thenApply(x -> 10 / x).named("divided");
         first.complete(0);
-        told.timeOut(told.promise().number());
+        Checks.timeOut(told.promise());
         String program = System.getProperty("cf.look", "cf_look");
         if (program.contains("/") && !Files.isExecutable(Paths.get(program))) {
             thrown(IOException.class, () -> told.history().page());

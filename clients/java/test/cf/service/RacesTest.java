@@ -119,7 +119,7 @@ final class RacesTest {
                     one.handle((x, e) -> 0).get(20, TimeUnit.SECONDS);
                 }
             }
-            is(raced.more.outside.poll() == null, true);
+            is(raced.more.outside.take() == null, true);
         }
         AtomicReference<Stage<Integer>> next = new AtomicReference<>();
         AtomicReference<List<Stage<Integer>>> hung = new AtomicReference<>();

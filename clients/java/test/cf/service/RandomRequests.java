@@ -103,7 +103,7 @@ public final class RandomRequests {
             throw new AssertionError(wrong.get(0));
         }
         if (seed % 4 == 0) {
-            other.timeOut(outside.number());
+            Checks.timeOut(outside);
         }
         outside.complete("outside");
         foreign.complete("foreign");
@@ -218,7 +218,7 @@ public final class RandomRequests {
             case 20: made.add(one.thenCompose(x -> foreign)); break;
             case 21: made.add(cast(one.thenAccept(x -> give(random)).thenRun(() -> give(random)))); break;
             case 22: stays(one); break;
-            case 23: one.request().timeOut(one.number()); break;
+            case 23: Checks.timeOut(one); break;
             case 24: made.add(async ? one.thenCompose(x -> behindOutside) : one.applyToEither(behindOutside, x -> x)); break;
             default: waits(one, random.nextInt(2));
         }

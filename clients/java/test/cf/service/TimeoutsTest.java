@@ -5,6 +5,7 @@ import static cf.service.Checks.breaks;
 import static cf.service.Checks.is;
 import static cf.service.Checks.SERVICE;
 import static cf.service.Checks.thrown;
+import static cf.service.Checks.timeOut;
 
 import java.util.ArrayList;
 import java.util.Arrays;
@@ -96,8 +97,8 @@ final class TimeoutsTest {
         Request otherTimed = SERVICE.request();
         Stage<Integer> firstTimed = otherTimed.promise(), secondTimed = otherTimed.promise(), done = otherTimed.completedFuture(1);
         is(otherTimed.history().script().startsWith("{\"cf\":2,"), true);
-        is(otherTimed.timeOut(firstTimed.number()) && otherTimed.timeOut(secondTimed.number()), true);
-        is(otherTimed.timeOut(done.number()) || otherTimed.timeOut(firstTimed.number()) || firstTimed.complete(1) || firstTimed.cancel(true), false);
+        is(timeOut(firstTimed) && timeOut(secondTimed), true);
+        is(timeOut(done) || timeOut(firstTimed) || firstTimed.complete(1) || firstTimed.cancel(true), false);
         is(firstTimed.exceptionNow() == secondTimed.exceptionNow() && firstTimed.exceptionNow() != why, true);
         is(otherTimed.history().toString().contains("the clock times out 2 source, too late\n"), true);
         is(otherTimed.history().report().endsWith("\ntrue\ntrue\nfalse\nfalse\nfalse\nfalse\n"
@@ -124,7 +125,7 @@ final class TimeoutsTest {
             Request otherTimed = SERVICE.request();
             Stage<Integer> slow = otherTimed.promise(), of = wrapped ? slow.thenApply(x -> x) : slow;
             if (before) {
-                otherTimed.timeOut(slow.number());
+                timeOut(slow);
             }
             Request three = SERVICE.request();
             List<Stage<?>> behindTimed = Arrays.asList(SERVICE.request().<Integer>promise().applyToEither(of, x -> x),
@@ -134,7 +135,7 @@ final class TimeoutsTest {
                     three.anyOf(three.promise(), of, three.promise()));
             Stage<Integer> adopted = SERVICE.request().adopt(of);
             if (!before) {
-                otherTimed.timeOut(slow.number());
+                timeOut(slow);
             }
             for (Stage<?> each : behindTimed) {
                 is(thrown(CompletionException.class, each::join).getCause().getClass(), TimeoutException.class);
@@ -173,7 +174,7 @@ final class TimeoutsTest {
                 of.whenComplete((x, error) -> seen.add(error)), of.exceptionally(error -> seen.add(error) ? 1 : 0),
                 of.exceptionallyCompose(error -> seen.add(error) ? of : null));
         Stage<Integer> passed = of.thenApply(x -> x);
-        timed.timeOut(slow.number());
+        timeOut(slow);
         is(seen.size(), behindTimed.size());
         for (Throwable each : seen) {
             is(each.getClass(), wrapped ? CompletionException.class : TimeoutException.class);
@@ -191,13 +192,65 @@ final class TimeoutsTest {
         Stage<Integer> slow = timed.promise();
         given.add(wrapped ? slow.thenApply(x -> x) : slow);
         firstTimed.complete(1);
-        timed.timeOut(slow.number());
+        timeOut(slow);
         secondTimed.complete(2);
         for (Stage<Integer> each : Arrays.asList(later, then)) {
             is(each.exceptionNow() == slow.exceptionNow(), true);
             is(end(each), "fault timeout wrapped");
         }
         is(timed.history().toString().split("a relay times out ", -1).length - 1, 2);
+    }
+
+    /**
+     * Stages are settled in the order in which their time is over: not in that in which it was asked for, nor in that in which threads come to
+     * act. Here nobody can act until all are due.
+     */
+    static void inOrder() throws Exception {
+        int many = 8;
+        for (int round = 0; round < 20; round++) {
+            Request timed = SERVICE.request();
+            List<Stage<Integer>> all = new ArrayList<>();
+            long[] soonest = new long[many], latest = new long[many];
+            for (int k = 0; k < many; k++) {
+                all.add(timed.promise());
+            }
+            synchronized (timed.machine) {
+                for (int k = 0; k < many; k++) {
+                    int at = (5 * k + round) % many;
+                    soonest[at] = Clock.moment(2 + 2 * at, TimeUnit.MILLISECONDS);
+                    if (at % 2 == 0) {
+                        all.get(at).orTimeout(2 + 2 * at, TimeUnit.MILLISECONDS);
+                    } else {
+                        all.get(at).completeOnTimeout(at, 2 + 2 * at, TimeUnit.MILLISECONDS);
+                    }
+                    latest[at] = Clock.moment(2 + 2 * at, TimeUnit.MILLISECONDS);
+                }
+                Thread.sleep(30);
+            }
+            for (Stage<Integer> each : all) {
+                each.handle((x, error) -> 1).get(20, TimeUnit.SECONDS);
+            }
+            List<Integer> order = new ArrayList<>();
+            for (long word : timed.history().words()) {
+                if (Words.who(word) == Request.CLOCK) {
+                    order.add(Words.stage(word));
+                }
+            }
+            is(order.size(), many);
+            for (int k = 1; k < many; k++) {
+                is(soonest[order.get(k - 1)] <= latest[order.get(k)], true);
+            }
+        }
+        // An earlier one that is asked for later comes at its time, also where the first one's stage is settled meanwhile.
+        Request timed = SERVICE.request();
+        Stage<Integer> far = timed.<Integer>promise().orTimeout(1, TimeUnit.HOURS), near = timed.<Integer>promise().orTimeout(1, TimeUnit.MILLISECONDS);
+        thrown(ExecutionException.class, () -> near.get(20, TimeUnit.SECONDS));
+        Stage<Integer> next = timed.<Integer>promise().completeOnTimeout(null, 10, TimeUnit.MILLISECONDS);
+        far.complete(1);
+        is(next.get(20, TimeUnit.SECONDS), null);
+        is(far.join(), 1);
+        is(timed.<Integer>promise().completeOnTimeout(3, -1, TimeUnit.DAYS).get(20, TimeUnit.SECONDS), 3);
+        is(timed.<Integer>promise().orTimeout(Long.MAX_VALUE, TimeUnit.DAYS).isDone(), false);
     }
 
     /** Who finishes behind a timeout is late, and what he gave is in the history alone. */

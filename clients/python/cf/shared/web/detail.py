@@ -127,9 +127,8 @@ class Details:
         entries = history.entries()
         last = min(before, len(entries)) if before else len(entries)
         first = max(0, last - EVENTS)
-        lines = [[it.place, history.sentence(it), [f"{history.stage(stage)} ends: {text}"
-                                                   for stage, text in history.ends(it)],
-                  _has_payload(it.word)] for it in entries[first:last]]
+        lines = [[it.place, said, [end.strip() for end in ends], _has_payload(it.word)]
+                 for it, (said, ends) in zip(entries[first:last], history.sentences()[first:last])]
         return {"lines": lines, "first": first, "last": last, "events": len(entries)}
 
     # What stands by itself.

@@ -1,9 +1,19 @@
-use Rattle.std.proofs.Common.{◌+◌}
+use Rattle.std.proofs.Common.{◌≡◌, ◌+◌, ◌∙◌, ℕ, List, ap}
 use Rattle.cf_forms.specs.Plans.{with_room}
+use Rattle.cf_model.specs.Events.{state_after}
 use Rattle.cf_model.specs.States.{start}
 use Rattle.cf_event.specs.Decoding.{decoded}
-use Rattle.cf_ledger.proofs.Growth.{only_memory, taken_more}
+use Rattle.cf_ledger.specs.Ledgers.{Ledger, roomier, state_of}
+use Rattle.cf_ledger.proofs.Growth.{only_memory, state_more, taken_more}
 use Rattle.cf_ledger.proofs.ledger.Ledger.grow.Goals as goal
+
+pub returns-in-Ok-clause-state : goal.returns-in-Ok-clause-state
+returns-in-Ok-clause-state c =
+    let l = c.self.inside in
+    let h = c.self.invariant.0 in
+    let roomy = with_room l.plan (l.room + c.args.more) in
+    let made : state_of c.in-Ok.ledger ≡ state_after (start roomy) (decoded l.words.items) = ap state_of c.in-Ok.ensures.made ∙ ap (λ (ws : List ℕ). state_after (start roomy) (decoded ws)) c.deref.ensures.value in
+    ap state_of c.replace.ensures.after ∙ made ∙ state_more c.args.more (start (with_room l.plan l.room)) (decoded l.words.items) h.taken ∙ ap (λ (x : Ledger). roomier c.args.more (state_of x)) c.self.view_is
 
 pub returns-in-Err-clause-refused : goal.returns-in-Err-clause-refused
 returns-in-Err-clause-refused c =

@@ -1,8 +1,8 @@
-use Rattle.std.proofs.Common.{◌≡◌, ◌∙◌, ℕ, [], List, ap, arith, length, subst, sym, vec_capacity}
+use Rattle.std.proofs.Common.{◌≡◌, ◌∙◌, ℕ, [], ap, arith, length, subst, sym, vec_capacity}
 use Rattle.std.specs.Prelude.{take}
 use Rattle.cf_model.specs.States.{start}
 use Rattle.cf_ledger.specs.Ledgers.{Ledger, state_of}
-use Rattle.cf_request.specs.Ready.{HasLanes, ReadySets, none_ready}
+use Rattle.cf_request.specs.Ready.{ReadySets, none_ready}
 use Rattle.cf_request.specs.Telling.{AreFresh, AreSettledBelow, IsKept, Teller}
 use Rattle.cf_request.proofs.Restarts.{fit_again, kept_again, lanes_left, most_again, stages_again, stages_stay}
 use Rattle.cf_request.proofs.Sets.{lanes_first, lanes_in, left_first}

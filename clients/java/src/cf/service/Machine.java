@@ -1,0 +1,575 @@
+package cf.service;
+
+import java.nio.ByteBuffer;
+import java.nio.ByteOrder;
+import java.util.ArrayList;
+import java.util.Arrays;
+import java.util.List;
+import java.util.concurrent.TimeUnit;
+import java.util.concurrent.atomic.AtomicInteger;
+import java.util.concurrent.atomic.AtomicReferenceArray;
+
+/**
+ * A request of the library (docs/REQUEST.md), with the times of its words. It decides everything: this class hands over what happens and
+ * brings back what is to be done. It is its request's lock. So one thread at a time has what stands behind the handle, which the library
+ * asks for; that of a history nobody else knows. Who holds the lock also keeps the core reachable, so that it isn't freed within a call. A
+ * core is in one machine or in the pool of one plan, never in two places.
+ *
+ * <p>Words that can change nothing but that there is one stage more, since its sources aren't settled, are handed over with the next call
+ * that can change something: one crossing does them all.
+ *
+ * <p>A call that claims tells all stages that are ready for whoever made them ready. So between calls no such stage is ready, unless memory
+ * was refused, and each is claimed by the thread that made it ready.
+ */
+final class Machine {
+    static final int MOST_STAGES = 4096, MOST_EDGES = 16384;
+
+    /** Who calls a stage's function: the thread that made it ready, or an executor. */
+    static final int HERE = 0, BY_EXECUTOR = 1;
+
+    /** What stands for nobody where a caller is asked for who would claim; the reply's arguments are brought then. */
+    static final int NOBODY = -1;
+
+    /** Places in a core's memory, in bytes: those of struct block. */
+    private static final int DONE = 0, NUMBER = 4, EVENTS = 8, MOMENTS = 12, ARGS = 16, DUE = 56, WORDS = 64, LANES = 576, TOLD = 640, CLAIMED = 1664,
+            READY = 2176;
+    /** How many words a core takes at once, and how many ready stages it brings. */
+    private static final int MOST_WORDS = 64;
+    static final int MOST_READY = 64;
+
+    private static final boolean TIMES = !"false".equals(System.getProperty("cf.times"));
+    /** Of how many stages more than those of its plan a core is kept to be used again, and with 16 times as many events. */
+    private static final int MOST_KEPT = 512;
+    private static final Pool NO_PLAN = new Pool(0);
+    private static final long[] NONE = {}, ONE = {1};
+    /** Cores that aren't freed, and how many of them there may be before each takes so many bytes in the heap for a moment. */
+    private static final AtomicInteger LIVE = new AtomicInteger();
+    private static final int MANY = 8192, BYTES = 8192;
+    private static byte[] ballast;
+    /** Whether histories also compare what was told with what is told where the words are done again; for tests. */
+    static final boolean WITNESSED = Boolean.getBoolean("cf.witness");
+
+    static {
+        Native.load();
+    }
+
+    private final Plan plan;
+    private Core core;
+    private int stages;
+    private int waiting;
+    /** The reply to the last call, as native/cf_java.c packs it; before it is opened, the word that waits then, and since when. */
+    private long reply, since;
+    /** The words and their moments, where the core was given back, and a bit for each stage whose function an executor calls. */
+    private long[] kept, executors = NONE;
+    private int keptWords;
+    /** What sets again what isn't in the words. */
+    private Runnable again;
+    /** What was told: of a stage its number and outcome, of a claim its stage and arguments. */
+    private final List<int[]> witness = WITNESSED ? new ArrayList<>() : null;
+
+    /** Memory outside the heap: a core of native/cf_java.c. */
+    static final class Core {
+        final long at;
+        final ByteBuffer memory;
+        private final Freed freed;
+
+        /** What is freed of it; it is told of at first, so that a core that fails to be made is freed, too. */
+        private static final class Outside implements Runnable {
+            private long at;
+
+            @Override
+            public void run() {
+                if (at != 0) {
+                    LIVE.getAndDecrement();
+                    destroy(at);
+                }
+            }
+        }
+
+        /**
+         * The collector doesn't see what a core takes outside the heap, and so may find late which cores nobody can reach. Where there are
+         * many, a new one also takes as much in the heap, which is garbage at once: so the collector comes as often as if it saw it. What it
+         * has found is freed by whoever opens the next ones. Nobody waits for it, and memory ends only where the system refuses it.
+         */
+        Core() {
+            Outside outside = new Outside();
+            freed = new Freed(this, outside);
+            at = outside.at = created();
+            int live = LIVE.incrementAndGet();
+            memory = memory(at).order(ByteOrder.nativeOrder());
+            if (live > MANY) {
+                ballast = new byte[BYTES];
+            }
+        }
+
+        private static long created() {
+            long made = create(TIMES);
+            if (made == 0) {
+                Freed.all();
+                made = create(TIMES);
+            }
+            if (made == 0) {
+                throw noMemory();
+            }
+            return made;
+        }
+    }
+
+    /** How many cores aren't freed. */
+    static int live() {
+        return LIVE.get();
+    }
+
+    /** Cores of closed requests of one plan, whose requests start again. A thread looks first where it has put one last. */
+    static final class Pool {
+        private static final int MOST = Math.max(1, Integer.getInteger("cf.kept", 64));
+        private final AtomicReferenceArray<Core> free;
+
+        Pool(int stages) {
+            free = new AtomicReferenceArray<>(stages <= MOST_KEPT ? MOST : Math.min(MOST, 4));
+        }
+
+        private int place() {
+            return (int) Math.floorMod(Thread.currentThread().getId(), (long) free.length());
+        }
+
+        /** One, or null. */
+        Core take() {
+            for (int k = 0, at = place(); k < free.length(); k++) {
+                Core core = free.get(at) == null ? null : free.getAndSet(at, null);
+                if (core != null) {
+                    return core;
+                }
+                at = at + 1 == free.length() ? 0 : at + 1;
+            }
+            return null;
+        }
+
+        /** Whether there was a place for it. */
+        boolean put(Core core) {
+            for (int k = 0, at = place(); k < free.length(); k++) {
+                if (free.get(at) == null && free.compareAndSet(at, null, core)) {
+                    return true;
+                }
+                at = at + 1 == free.length() ? 0 : at + 1;
+            }
+            return false;
+        }
+    }
+
+    /** A plan of the library; it is freed once no request needs it. */
+    static final class Plan {
+        final long at;
+        final int stages;
+        /** How many stages there may be by and by: two edges are set aside for each that is attached. */
+        final int most;
+        final Pool pool;
+
+        Plan(int[] rows, int stages, int edges) {
+            long made = Native.plan(rows);
+            if (made < 0) {
+                throw refusal((int) -made);
+            }
+            at = made;
+            this.stages = stages;
+            most = Math.min(MOST_STAGES, stages + (MOST_EDGES - edges) / 2);
+            pool = new Pool(stages);
+            new Freed(this, () -> Native.forget(made));
+        }
+    }
+
+    Machine(Plan plan, int room) {
+        this.plan = plan;
+        stages = planned();
+        open(room);
+    }
+
+    /** One of no plan that is opened by whoever makes the first call after this one. Its stage is an executor's. */
+    Machine(long word) {
+        plan = null;
+        reply = word;
+        since = TIMES ? Native.ticks() : 0;
+        stages = 1;
+        executors = ONE;
+    }
+
+    private int planned() {
+        return plan == null ? 0 : plan.stages;
+    }
+
+    private Pool pool() {
+        return plan == null ? NO_PLAN : plan.pool;
+    }
+
+    /** Has a core again, if it was given back, in which all is as it was. */
+    private Core core() {
+        if (core == null) {
+            long[] words = kept;
+            open(stages - planned());
+            if (again != null) {
+                try {
+                    again.run();
+                } catch (Throwable refused) {
+                    core.freed.now();
+                    core = null;
+                    kept = words;
+                    throw refused;
+                }
+                again = null;
+            }
+        }
+        return core;
+    }
+
+    /** With so much room, of which the machine makes more itself. */
+    private void open(int room) {
+        Freed.some();
+        Core core = pool().take();
+        if (core == null) {
+            core = new Core();
+        }
+        long of = plan == null ? 0 : plan.at;
+        int code = open(core.at, of, room, kept, keptWords, executors);
+        if (code == Native.NO_MEMORY) {
+            Freed.all();
+            code = open(core.at, of, room, kept, keptWords, executors);
+        }
+        if (code != Native.OK) {
+            core.freed.now();
+            throw refusal(code);
+        }
+        this.core = core;
+        if (kept == null && reply != 0) {
+            core.memory.putLong(WORDS, reply);
+            core.memory.put(LANES, (byte) BY_EXECUTOR);
+            waiting = 1;
+            since(core.at, since);
+        }
+        kept = null;
+    }
+
+    int stages() {
+        return stages;
+    }
+
+    boolean hasPlace(int more) {
+        return stages + more <= (plan == null ? MOST_STAGES : plan.most);
+    }
+
+    private void byExecutor(int stage) {
+        if (executors == ONE || executors.length <= stage >>> 6) {
+            executors = Arrays.copyOf(executors, Math.max(2 * executors.length, (stage >>> 6) + 1));
+        }
+        executors[stage >>> 6] |= 1L << stage;
+    }
+
+    /** A stage more whose sources aren't settled. */
+    int attachLater(long word, int lane) {
+        Core core = core();
+        if (waiting == MOST_WORDS) {
+            flush();
+        }
+        if (waiting == 0 && TIMES) {
+            since(core.at, 0);
+        }
+        core.memory.putLong(WORDS + 8 * waiting, word);
+        core.memory.put(LANES + waiting, (byte) lane);
+        waiting++;
+        return attached(lane);
+    }
+
+    int attach(long word, int lane, int who) {
+        apply(word, lane, who);
+        return attached(lane);
+    }
+
+    private int attached(int lane) {
+        if (lane == BY_EXECUTOR) {
+            byExecutor(stages);
+        }
+        return stages++;
+    }
+
+    /** Does what waits. Nothing is told of such words. */
+    void flush() {
+        if (waiting > 0) {
+            done(apply(core().at, waiting, 0, HERE, NOBODY));
+        }
+    }
+
+    /** Does the event of a word, and claims for the caller, if it isn't {@link #NOBODY}, what is ready then. */
+    void apply(long word, int who) {
+        apply(word, HERE, who);
+    }
+
+    private void apply(long word, int lane, int who) {
+        done(apply(core().at, waiting, word, lane, who));
+    }
+
+    /** Finishes a stage that the caller has claimed, by the number of a value or exception, and claims what is ready then. */
+    void finish(int stage, boolean isThrown, int number, int who) {
+        done(finish(core().at, waiting, stage, isThrown, number, who));
+    }
+
+    /** Finishes a stage by this word, which links it, to a relay where that isn't -1; from now on the relay follows that stage. */
+    void link(long word, int relay, int stage, int who) {
+        done(link(core().at, waiting, word, relay, stage, who));
+    }
+
+    /** From now on the relay follows that stage. */
+    void follow(int relay, int stage) {
+        done(link(core().at, waiting, 0, relay, stage, NOBODY));
+    }
+
+    void deadline(int stage, Stage.Limit limit) {
+        done(deadline(core().at, waiting, stage, limit.moment, limit.gives, limit.number));
+    }
+
+    /** Lets time pass up to a moment. */
+    void pass(long moment, int who) {
+        done(pass(core().at, waiting, moment, who));
+    }
+
+    /** Brings what had no place, and says whether there was any. */
+    boolean more(int who) {
+        if ((reply >>> 33 & 1) == 0) {
+            return false;
+        }
+        done(more(core.at, who));
+        return true;
+    }
+
+    private void done(long told) {
+        int code = (int) told & 0xff;
+        if (code != Native.OK) {
+            refused(code);
+        }
+        // No method is called from here on, so that a stack that is at its end can't leave half of it.
+        reply = told;
+        waiting = 0;
+        if (WITNESSED) {
+            witness();
+        }
+    }
+
+    /** Some of the words that waited may have been done. */
+    private void refused(int code) {
+        ByteBuffer memory = core.memory;
+        int done = memory.getInt(DONE);
+        waiting -= done;
+        for (int k = 0; k < waiting; k++) {
+            memory.putLong(WORDS + 8 * k, memory.getLong(WORDS + 8 * (k + done)));
+            memory.put(LANES + k, memory.get(LANES + k + done));
+        }
+        throw refusal(code);
+    }
+
+    private void witness() {
+        for (int k = 0; k < told(); k++) {
+            witness.add(new int[] {told(k), number(k)});
+        }
+        for (int k = 0; k < claimed(); k++) {
+            witness.add(new int[] {claimed(k), kind(k), first(k), second(k)});
+        }
+    }
+
+    /** What was told until now; null where that isn't kept. */
+    int[][] witnessed() {
+        return witness == null ? null : witness.toArray(new int[0][]);
+    }
+
+    private static Error refusal(int code) {
+        return code == Native.NO_MEMORY ? noMemory() : new AssertionError("the library refused with code " + code);
+    }
+
+    private static OutOfMemoryError noMemory() {
+        return new OutOfMemoryError("cf.service: the system refuses memory outside the heap, where " + LIVE.get() + " requests have some: close"
+                + " those that are done");
+    }
+
+    // What the last call brought, which stands in the core.
+
+    int answer() {
+        return (int) reply >>> 8 & 0xf;
+    }
+
+    int number() {
+        return core.memory.getInt(NUMBER);
+    }
+
+    int argument(int at) {
+        return core.memory.getInt(ARGS + 4 * at);
+    }
+
+    /** The moment of the next deadline, behind {@link #pass}; {@code Long.MAX_VALUE} where there is none. */
+    long due() {
+        return core.memory.getLong(DUE);
+    }
+
+    /** How many stages were settled. */
+    int told() {
+        return (int) (reply >>> 12) & 0xff;
+    }
+
+    /** One of them: its number, and what it is settled with, as {@link Request} reads it. */
+    int told(int k) {
+        return core.memory.getInt(TOLD + 8 * k);
+    }
+
+    /** Its value's number, or its exception's. */
+    int number(int k) {
+        return core.memory.getInt(TOLD + 4 + 8 * k);
+    }
+
+    /** How many stages were claimed. */
+    int claimed() {
+        return (int) (reply >>> 20) & 0x3f;
+    }
+
+    int claimed(int k) {
+        return core.memory.getInt(CLAIMED + 16 * k);
+    }
+
+    /** What its function is called with: 2 bits of the kind of arguments; of an outcome the kind from bit 4 on, and whether it is wrapped. */
+    int kind(int k) {
+        return core.memory.getInt(CLAIMED + 4 + 16 * k);
+    }
+
+    /** The number of its first value, or of its exception; -1 for null. */
+    int first(int k) {
+        return core.memory.getInt(CLAIMED + 8 + 16 * k);
+    }
+
+    int second(int k) {
+        return core.memory.getInt(CLAIMED + 12 + 16 * k);
+    }
+
+    /** How many stages became ready whose functions executors call. */
+    int ready() {
+        return (int) (reply >>> 26) & 0x7f;
+    }
+
+    int ready(int k) {
+        return core.memory.getShort(READY + 2 * k);
+    }
+
+    /** Those of the plan that are ready before anything was done, as many as there is place for, from a number on. */
+    int readyFrom(int stage) {
+        return ready(core().at, stage);
+    }
+
+    /** Brings a stage as the first that is told, and says whether it is settled. */
+    boolean isSettled(int stage) {
+        core();
+        flush();
+        check(ask(core.at, stage));
+        return told(0) != -1;
+    }
+
+    private static void check(int code) {
+        if (code != Native.OK) {
+            throw refusal(code);
+        }
+    }
+
+    // All of it.
+
+    int events() {
+        return (core == null ? keptWords : core.memory.getInt(EVENTS)) + waiting;
+    }
+
+    /** The words, and behind them the moments: of each its ticks, and how many events were done by then. */
+    long[] kept() {
+        if (kept != null) {
+            return kept;
+        }
+        core();
+        flush();
+        int events = events();
+        long[] all = new long[events + 2 * core.memory.getInt(MOMENTS)];
+        check(words(core.at, all, 0, events));
+        return all;
+    }
+
+    /** Those words that were done from a place on. */
+    long[] words(int from) {
+        long[] some = new long[events() - waiting - from];
+        check(words(core().at, some, from, some.length));
+        return some;
+    }
+
+    /** The time of each word in nanoseconds from the first one's on, of what was kept; null without times. */
+    static long[] times(long[] kept, int count) {
+        if (!TIMES) {
+            return null;
+        }
+        double rate = Native.nanosPerTick();
+        long[] times = new long[count];
+        for (int k = count, at = 0; k < kept.length; k += 2) {
+            while (at < kept[k + 1] && at < count) {
+                times[at++] = Math.round((kept[k] - kept[count]) * rate);
+            }
+        }
+        return times;
+    }
+
+    /** When the first word was done, of what was kept, in nanoseconds since 1970. */
+    static long began(long[] kept, int count) {
+        long now = TimeUnit.MILLISECONDS.toNanos(System.currentTimeMillis());
+        return TIMES && count < kept.length ? now - Math.round((Native.ticks() - kept[count]) * Native.nanosPerTick()) : now;
+    }
+
+    /** Gives the core back. A word that comes nevertheless has another one do all words again, and then this, if it isn't null. */
+    void rest(Runnable again) {
+        if (core == null) {
+            return;
+        }
+        long[] all = kept();
+        Core core = this.core;
+        keptWords = events();
+        kept = all;
+        this.again = again;
+        this.core = null;
+        if (stages - planned() > MOST_KEPT || keptWords > 16 * MOST_KEPT || !pool().put(core)) {
+            core.freed.now();
+        }
+    }
+
+    // The methods of native/cf_java.c. One thread at a time has a core, whose lock it holds.
+
+    /**
+     * Does the words in the memory that wait, so many, and then one more, if it isn't 0. Then it claims for the caller {@code who}, if that
+     * isn't negative: the stage that the word claims, or else all that are ready for whoever made them ready. The reply is one number.
+     */
+    static native long apply(long core, int waiting, long word, int lane, int who);
+
+    static native long finish(long core, int waiting, int stage, boolean isThrown, int number, int who);
+
+    static native long link(long core, int waiting, long word, int relay, int stage, int who);
+
+    static native long deadline(long core, int waiting, int stage, long moment, boolean gives, int number);
+
+    static native long pass(long core, int waiting, long moment, int who);
+
+    static native long more(long core, int who);
+
+    static native int ask(long core, int stage);
+
+    static native int ready(long core, int from);
+
+    /** This is when the first word came that waits: these ticks, or now. */
+    static native void since(long core, long ticks);
+
+    /** A core without a request, or 0. */
+    static native long create(boolean timed);
+
+    static native ByteBuffer memory(long core);
+
+    static native void destroy(long core);
+
+    /** A request of a plan, 0 for the one without stages, with room, in which the first n of these words are done, with their moments. */
+    static native int open(long core, long plan, int room, long[] kept, int n, long[] executors);
+
+    /** The n words from a place on, and behind them the moments for which there is place: of each its ticks, and how many events were done by then. */
+    static native int words(long core, long[] into, int from, int n);
+}

@@ -1,0 +1,190 @@
+package cf.service;
+
+import static cf.service.Checks.is;
+import static cf.service.Checks.thrown;
+
+import java.util.ArrayList;
+import java.util.List;
+import java.util.concurrent.ExecutorService;
+import java.util.concurrent.Executors;
+import java.util.concurrent.Future;
+import java.util.concurrent.TimeUnit;
+
+/** Machines and their cores: cores used again, attaches that fail, words, and numbers that would read past an array's end. */
+final class MachineTest {
+    private static final Service SERVICE = new Service(Runnable::run);
+    private static final int WHO = Request.FIRST_THREAD;
+
+    private MachineTest() {}
+
+    private static long source() {
+        return Words.attach(WHO, Form.SOURCE, 0, 0, 0, 0);
+    }
+
+    /** A core that was given back has no mark of the ledger before: no time, no event, nothing of whose function is whose. */
+    static void usedAgain() throws Exception {
+        Flow flow = new Flow("again");
+        Flow.Step<Integer> first = flow.promise();
+        Machine one = new Machine(flow.plan(), 8);
+        one.attach(Words.attach(WHO, Form.APPLY, 1, 0, 0, 1), Machine.BY_EXECUTOR, WHO);
+        one.apply(Words.complete(WHO, 0, 7), WHO);
+        is(one.claimed() + " " + one.ready() + " " + one.ready(0) + " " + one.told() + " " + one.told(0) + " " + one.number(0), "0 1 1 1 "
+                + (History.GIVES << 16 | 1 << 21) + " 7");
+        is(one.events(), 2);
+        one.rest(null);
+        long began = Native.ticks();
+        Machine two = new Machine(flow.plan(), 8);
+        two.attach(Words.attach(WHO, Form.APPLY, 1, 0, 0, 1), Machine.HERE, WHO);
+        two.apply(Words.complete(WHO, 0, 7), WHO);
+        is(two.claimed() + " " + two.ready() + " " + two.claimed(0) + " " + two.kind(0) + " " + two.first(0), "1 0 1 " + History.ONE + " 7");
+        two.finish(1, false, 8, WHO);
+        is(two.answer() + " " + two.told() + " " + two.number(0), History.WON + " 1 8");
+        long[] kept = two.kept();
+        is(two.events(), 4);
+        is(kept.length, 4 + 2 * 3);
+        is(kept[4] >= began && kept[6] >= kept[4] && kept[8] >= kept[6], true);
+        is(kept[5] + " " + kept[7] + " " + kept[9], "1 3 4");
+        is(Words.name(kept[0]) + " " + Words.name(kept[1]) + " " + Words.name(kept[2]), "attach complete claim");
+        two.rest(null);
+        // One that goes on has the lanes of before.
+        one.apply(Words.claim(WHO, 1), WHO);
+        is(one.answer() + " " + one.claimed() + " " + one.first(0) + " " + one.told(), History.GRANTED + " 1 7 0");
+        one.rest(null);
+        // The same by requests: the executor's functions stay its own.
+        ExecutorService pool = Executors.newSingleThreadExecutor(run -> new Thread(run, "pool"));
+        Service pooled = new Service(pool);
+        for (int round = 0; round < 20; round++) {
+            boolean async = round % 2 == 1;
+            try (Request request = pooled.start(flow)) {
+                Stage<Integer> given = request.stage(first);
+                List<Stage<String>> names = new ArrayList<>();
+                for (int k = 0; k < 70; k++) {
+                    names.add(async ? given.thenApplyAsync(x -> Thread.currentThread().getName())
+                            : given.thenApply(x -> Thread.currentThread().getName()));
+                }
+                given.complete(1);
+                for (Stage<String> name : names) {
+                    is(name.get(20, TimeUnit.SECONDS), async ? "pool" : "main");
+                }
+                is(request.history().events(), 1 + 3 * 70);
+            }
+        }
+        pool.shutdown();
+    }
+
+    /** Two requests never have one core: not where one is closed twice, nor where several threads open and close them. */
+    static void oneCoreEach() throws Exception {
+        Flow flow = new Flow("each");
+        Flow.Step<Object> first = flow.promise(), second = first.thenApply(x -> x + "!");
+        Request done = SERVICE.start(flow);
+        done.close();
+        done.close();
+        Request a = SERVICE.start(flow), b = SERVICE.start(flow);
+        Stage<Object> x = a.stage(first), y = b.stage(first);
+        x.complete("x");
+        is(y.isDone(), false);
+        y.complete("y");
+        is(a.stage(second).join() + "" + b.stage(second).join(), "x!y!");
+        is(a.history().report() + b.history().events(), "true\ngranted one 0\nwon\nstage 0 value 0\nstage 1 value 1\n3");
+        ExecutorService pool = Executors.newFixedThreadPool(4);
+        List<Future<?>> ends = new ArrayList<>();
+        for (int t = 0; t < 4; t++) {
+            int who = t;
+            ends.add(pool.submit(() -> {
+                for (int k = 0; k < 500; k++) {
+                    try (Request one = SERVICE.start(flow); Request two = SERVICE.start(flow, who + "b" + k)) {
+                        Stage<Object> given = one.stage(first);
+                        Thread.yield();
+                        is(given.complete(who + "a" + k), true);
+                        is(one.stage(second).join() + "" + two.stage(second).join(), who + "a" + k + "!" + who + "b" + k + "!");
+                    }
+                }
+            }));
+        }
+        for (Future<?> end : ends) {
+            end.get(60, TimeUnit.SECONDS);
+        }
+        pool.shutdown();
+    }
+
+    /** What an attach that failed has said of its stage isn't true of the next one of that number. */
+    static void failedAttach() {
+        Request[] request = new Request[1];
+        ExecutorService pool = Executors.newSingleThreadExecutor(run -> new Thread(run, "pool"));
+        request[0] = new Service(pool).request("nearly full");
+        Stage<Integer> first = request[0].promise();
+        while (request[0].history().stages() < 4095) {
+            request[0].promise();
+        }
+        thrown(RequestFullException.class, () -> first.thenCompose(x -> first));
+        Stage<String> async = first.thenApplyAsync(x -> Thread.currentThread().getName());
+        first.complete(1);
+        is(async.orTimeout(20, TimeUnit.SECONDS).join(), "pool");
+        pool.shutdown();
+    }
+
+    /** A history tells both causes, of which requests have but the first. */
+    static void failedAs() {
+        Machine machine = new Machine(null, 8);
+        machine.attachLater(source(), Machine.HERE);
+        machine.attachLater(Words.attach(WHO, Form.HANDLE, 1, 0, 0, 1), Machine.HERE);
+        machine.attachLater(source(), Machine.HERE);
+        for (long word : new long[] {Words.failAs(WHO, 0, Words.BAD_ANSWER), Words.claim(WHO, 1),
+            Words.failAs(WHO, 2, Words.TIMED_OUT), Words.failAs(WHO, 2, Words.BAD_ANSWER)}) {
+            machine.apply(word, Machine.NOBODY);
+        }
+        String[] threads = {"main"};
+        History history = new History("causes", null, machine, new String[3], new Object[0], new Throwable[0], threads);
+        is(history.script(), "{\"cf\":3,\"room\":3,\"stages\":[],\"steps\":[[\"attach\",{\"form\":\"source\"}],"
+                + "[\"attach\",{\"form\":\"handle\",\"of\":[0],\"fn\":{\"const\":1}}],[\"attach\",{\"form\":\"source\"}],"
+                + "[\"failAs\",0,\"badanswer\"],[\"claim\",2,1],[\"failAs\",2,\"timeout\"],[\"failAs\",2,\"badanswer\"]]}");
+        is(history.report(), "attached 0\nattached 1\nattached 2\ntrue\ngranted got fault badanswer raw\ntrue\nfalse\n"
+                + "stage 0 fault badanswer raw\nstage 1 pending\nstage 2 fault timeout raw\n");
+        String said = history.toString();
+        is(said.contains("main fails 0 source with a bad answer\n") && said.contains("0 source ends: a bad answer\n"), true);
+        is(said.contains("main claims 1 handle and is granted, with a bad answer\n"), true);
+        is(said.contains("main times out 2 source\n") && said.contains("2 source ends: timed out\n"), true);
+        is(said.contains("main fails 2 source with a bad answer, too late\n"), true);
+        machine.rest(null);
+    }
+
+    /** Numbers that are told beside an array or a place don't make the library read past them. */
+    static void huge() {
+        int[][] wrong = {{0}, {0, -1}, {0, -1, 1}, {0, -1, -1}, {0, -1, Integer.MAX_VALUE}, {0, -1, Integer.MIN_VALUE}, {3, 0, 5000, 0},
+            {0, -1, 0, 3, 0, 1}, {16, -1, 3, 0, 0}, {Integer.MAX_VALUE, Integer.MIN_VALUE, 0}};
+        for (int[] rows : wrong) {
+            is(Native.plan(rows) < 0, true);
+        }
+        int[] wide = new int[3 + 5000];
+        wide[0] = Form.ALL_OF.ordinal();
+        wide[1] = -1;
+        wide[2] = 5000;
+        is(Native.plan(wide) < 0, true);
+        long core = Machine.create(true);
+        for (int room : new int[] {-1, 4097, 65536 + 32, Integer.MAX_VALUE, Integer.MIN_VALUE}) {
+            is(Machine.open(core, 0, room, null, 0, null) != Native.OK, true);
+        }
+        for (int n : new int[] {-1, 2, Integer.MAX_VALUE, Integer.MIN_VALUE}) {
+            is(Machine.open(core, 0, 8, new long[1], n, null) != Native.OK, true);
+        }
+        is(Machine.open(core, 0, 8, new long[] {-1}, 1, null) != Native.OK, true);
+        is(Machine.open(core, 0, 8, new long[] {source(), 5, 1}, 1, new long[0]), Native.OK);
+        for (int waiting : new int[] {-1, 65, Integer.MAX_VALUE, Integer.MIN_VALUE}) {
+            is(Machine.apply(core, waiting, source(), 0, WHO) & 0xff, 26L);
+        }
+        for (int stage : new int[] {-1, 1, 4096, Integer.MAX_VALUE}) {
+            is(Machine.ask(core, stage) != Native.OK, true);
+            is((Machine.deadline(core, 0, stage, 5, false, 0) & 0xff) != Native.OK, true);
+            is((Machine.finish(core, 0, stage, false, 0, WHO) & 0xff) != Native.OK, true);
+        }
+        is((int) Machine.pass(core, 0, -1, Integer.MAX_VALUE) & 0xff, 0);
+        is((int) Machine.apply(core, 0, Words.complete(WHO, 0, 3), Integer.MAX_VALUE, Integer.MAX_VALUE) & 0xff, 34);
+        is((int) Machine.apply(core, 0, Words.complete(WHO, 0, 3), 0, WHO) & 0xff, 0);
+        for (int n : new int[] {-1, 3, 100, Integer.MAX_VALUE}) {
+            is(Machine.words(core, new long[0], 0, n) != Native.OK && Machine.words(core, new long[200], 0, n) != Native.OK, true);
+        }
+        is(Machine.words(core, new long[100], 0, 2), Native.OK);
+        is(Machine.words(core, new long[100], 2, 0) + Machine.words(core, new long[1], 1, 1), Native.OK);
+        Machine.destroy(core);
+    }
+}

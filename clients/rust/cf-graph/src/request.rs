@@ -1,0 +1,425 @@
+//! Requests: a ledger that also says what is to be done next, and tells each settled stage once.
+use crate::event::reply_of_word;
+use crate::handle::Handle;
+use crate::ledger::{self, Stage};
+use crate::plan::{limit_in, Limit, Plan};
+use crate::refused::{if_there, Refused};
+use crate::step::{step_out, taken_out, task_in, Step};
+use crate::values::*;
+use cf_sys as sys;
+
+/// One request of a service as a machine: it decides what a service has to decide for a request, and does none of it. It has no thread, no
+/// clock and no lock. The program that uses it is its host: it says what happened, and is told what is to be done. It goes to any thread, and is
+/// in one call at a time, since each takes it by `&mut`: threads share it behind a `Mutex`.
+///
+/// Each call that can settle stages tells them: [`Told`].
+///
+/// ```
+/// use cf_graph::{Answer, Args, Call, Event, Form, Of, PlanBuilder, Request, RequestSizes, Told, Value};
+/// # fn main() -> Result<(), cf_graph::Refused> {
+/// let mut plan = PlanBuilder::new()?.build()?;
+/// let mut request = Request::new(&mut plan, RequestSizes { room: 2, lanes: 1, own: 63 }, &[])?;
+/// let mut told = Told::default();
+/// request.apply(Event { who: 0, call: Call::Attach(Form::Supply, Of::None, Some(5)) }.word()?, 0, &mut told)?;
+/// request.apply(Event { who: 0, call: Call::Attach(Form::Apply, Of::One(0), Some(6)) }.word()?, 0, &mut told)?;
+/// assert_eq!(request.ready(0)?, 1);
+/// let first = request.next(3, 0, None, &mut told)?.taken.unwrap();
+/// assert_eq!((first.stage, first.function, first.args), (0, 5, Args::None));
+/// let second = request.next(3, 0, Some((0, Answer::Give(Value::Int(7)))), &mut told)?.taken.unwrap();
+/// assert_eq!((second.stage, second.args), (1, Args::One(Value::Int(7))));
+/// assert_eq!(told.iter().map(|(stage, _)| stage).collect::<Vec<_>>(), [0]);
+/// # Ok(())
+/// # }
+/// ```
+#[derive(Debug)]
+pub struct Request(Handle);
+
+/// What a request is opened with.
+#[derive(Clone, Copy, PartialEq, Eq, Debug)]
+pub struct RequestSizes {
+    /// How many stages may be attached later.
+    pub room: u16,
+    /// How many lanes there are, 1 to 16: whoever runs a lane calls the functions of its stages.
+    pub lanes: u8,
+    /// The caller in whose name the request itself settles stages, 0 to 63.
+    pub own: u8,
+}
+
+/// A moment by which a stage is to be settled, and what is done to it if it isn't.
+#[derive(Clone, Copy, PartialEq, Eq, Debug)]
+pub struct Deadline {
+    /// The stage's number.
+    pub stage: u16,
+    /// The moment, in a unit of your choice.
+    pub moment: u64,
+    /// What is done to the stage.
+    pub limit: Limit,
+}
+
+/// The stages that a call told, with their outcomes. Each is told once, when it is settled, in the order of the events that settled them; those
+/// of one event rise. It keeps its room, so one serves the calls of many requests.
+#[derive(Debug, Default)]
+pub struct Told {
+    rows: Vec<sys::cf_told>,
+    count: usize,
+}
+
+/// For how many stages there is room at first. What a call couldn't tell is asked for at once, and then there is room.
+const ROOM: usize = 16;
+
+impl Told {
+    /// How many they are.
+    #[inline]
+    pub fn len(&self) -> usize {
+        self.count
+    }
+
+    /// Whether none was told.
+    #[inline]
+    pub fn is_empty(&self) -> bool {
+        self.count == 0
+    }
+
+    /// One of them, by its place among them.
+    ///
+    /// # Panics
+    ///
+    /// Where there are no more than `at`.
+    #[inline]
+    pub fn at(&self, at: usize) -> (u16, Outcome) {
+        told_out(&self.rows[..self.count][at])
+    }
+
+    /// All of them.
+    #[inline]
+    pub fn iter(&self) -> impl ExactSizeIterator<Item = (u16, Outcome)> + '_ {
+        self.rows[..self.count].iter().map(told_out)
+    }
+
+    /// Makes a call that tells: where to, for how many there is room, and where it writes how many there were to tell. What there was no room
+    /// for is taken behind it.
+    #[inline]
+    fn tell(
+        &mut self,
+        handle: &mut Handle,
+        call: impl FnOnce(*mut sys::cf_handle, *mut sys::cf_told, usize, *mut usize) -> u32,
+    ) -> Result<(), Refused> {
+        if self.rows.is_empty() {
+            self.rows = vec![sys::cf_told::default(); ROOM];
+        }
+        self.count = 0;
+        let mut count = 0;
+        let (told, room) = (self.rows.as_mut_ptr(), self.rows.len());
+        let answer = handle.call(|h| call(h, told, room, &mut count));
+        self.count = count;
+        if count > room {
+            self.take_rest(handle, room)?;
+        }
+        answer
+    }
+
+    /// Takes what there was no room for behind so many.
+    #[cold]
+    fn take_rest(&mut self, handle: &mut Handle, taken: usize) -> Result<(), Refused> {
+        self.rows.resize(self.count.next_power_of_two(), sys::cf_told::default());
+        let rest = &mut self.rows[taken..];
+        let (told, room) = (rest.as_mut_ptr(), rest.len());
+        // SAFETY: alone, pointers: `h` and what is told to are this call's, and `told` points to as many elements as said.
+        handle.tell(|h, n| unsafe { sys::cf_request_told(h, told, room, n) }).map(|_: usize| ())
+    }
+}
+
+impl Request {
+    /// A request of the plan in which nothing is done, with the lanes of the plan's stages. Nothing follows, nothing is due, and the moment is
+    /// 0. `LANES`, `NO_LANE`, `NO_WORD` where `own` is above 63, `ROOM`, `NO_MEMORY`.
+    pub fn new(plan: &mut Plan, sizes: RequestSizes, lanes: &[u8]) -> Result<Request, Refused> {
+        let sizes = sys::cf_request_sizes { room: sizes.room, lanes: sizes.lanes, own: sizes.own };
+        let (first, n, mut handle) = (lanes.as_ptr(), lanes.len(), Handle::empty());
+        plan.0.call(|plan| {
+            // SAFETY: alone, apart, pointers: two handles, and both are this call's; `sizes` is a local, and `first` points to n numbers.
+            Refused::code_of(handle.call(|h| unsafe { sys::cf_request_new(plan, &sizes, first, n, h) }))
+        })?;
+        Ok(Request(handle))
+    }
+
+    /// Does the event of a word as a ledger does, and settles the stages that follow one that is settled now. A stage that it attaches is of this
+    /// lane. `NO_LANE`, `NO_WORD`, `NO_STAGE`, `NO_ROOM`, `NO_MEMORY`: nothing is changed then.
+    #[inline]
+    pub fn apply(&mut self, word: u64, lane: u8, told: &mut Told) -> Result<Reply, Refused> {
+        let mut applied = sys::cf_applied::default();
+        let to = &mut applied;
+        told.tell(&mut self.0, |h, rows, room, n| {
+            // SAFETY: alone, pointers: `h` and what is told to are this call's, and `rows` points to as many elements as said.
+            let code = unsafe { sys::cf_request_apply(h, word, lane, to, rows, room) };
+            // SAFETY: pointers: `n` is this call's.
+            unsafe { *n = to.told };
+            code
+        })?;
+        Ok(reply_of_word(word, applied.reply))
+    }
+
+    /// One step of a caller of a lane: finishes the stage that it holds with this answer, settles the stages that follow one that is settled now,
+    /// and claims the lowest ready stage of the lane. `NO_LANE`, `NO_WORD` where `who` is above 63, `NO_STAGE`, `NOT_HELD`, `NO_MEMORY`: nothing is
+    /// changed then.
+    #[inline]
+    pub fn next(&mut self, who: u8, lane: u8, held: Option<(u16, Answer)>, told: &mut Told) -> Result<Step, Refused> {
+        let mut step = sys::cf_request_step { who, lane, told: 0 };
+        let mut task = task_in(held);
+        let to = (&mut step, &mut task);
+        let answer = told.tell(&mut self.0, |h, rows, room, n| {
+            // SAFETY: alone, pointers: `h` and what is told to are this call's, and `rows` points to as many elements as said.
+            let code = unsafe { sys::cf_request_next(h, to.0, to.1, rows, room) };
+            // SAFETY: pointers: `n` is this call's.
+            unsafe { *n = to.0.told };
+            code
+        });
+        match answer {
+            Ok(()) | Err(Refused::NOTHING) => Ok(step_out(held, &task)),
+            Err(refused) => Err(refused),
+        }
+    }
+
+    /// From now on a stage ends as another stage of the request does, unless it is settled before. `NO_STAGE`, `NO_MEMORY`.
+    pub fn follow(&mut self, relay: u16, stage: u16, told: &mut Told) -> Result<(), Refused> {
+        // SAFETY: alone, pointers: `h` and what is told to are this call's, and `rows` points to as many elements as said.
+        told.tell(&mut self.0, |h, rows, room, n| unsafe { sys::cf_request_follow(h, relay, stage, rows, room, n) })
+    }
+
+    /// Sets a moment by which a stage has to be settled: [`pass`](Request::pass) does this to it if it is open then. `NO_STAGE`, `NO_MEMORY`.
+    pub fn deadline(&mut self, stage: u16, moment: u64, limit: Limit) -> Result<(), Refused> {
+        let (kind, value) = limit_in(limit);
+        // SAFETY: alone: `h` is this call's.
+        self.0.call(|h| unsafe { sys::cf_request_deadline(h, stage, moment, kind, value) })
+    }
+
+    /// Lets time pass up to a moment: all open stages whose deadline has come are settled, in the order of their moments, and those of one
+    /// moment in the order in which the deadlines were set. `PAST_MOMENT` where it is before the last one, `NO_MEMORY`.
+    ///
+    /// ```
+    /// use cf_graph::{Call, Cause, Event, Form, Limit, Of, Outcome, PlanBuilder, Request, RequestSizes, Told};
+    /// # fn main() -> Result<(), cf_graph::Refused> {
+    /// let sizes = RequestSizes { room: 1, lanes: 1, own: 63 };
+    /// let (mut request, mut told) = (Request::new(&mut PlanBuilder::new()?.build()?, sizes, &[])?, Told::default());
+    /// request.apply(Event { who: 0, call: Call::Attach(Form::Source, Of::None, None) }.word()?, 0, &mut told)?;
+    /// request.deadline(0, 5_000, Limit::Timeout)?;
+    /// assert_eq!(request.next_deadline()?.map(|next| next.moment), Some(5_000));
+    /// request.pass(5_000, &mut told)?;
+    /// assert_eq!(told.at(0), (0, Outcome::Fault { cause: Cause::TimedOut, wrapped: false }));
+    /// assert_eq!(request.next_deadline()?, None);
+    /// # Ok(())
+    /// # }
+    /// ```
+    pub fn pass(&mut self, moment: u64, told: &mut Told) -> Result<(), Refused> {
+        // SAFETY: alone, pointers: `h` and what is told to are this call's, and `rows` points to as many elements as said.
+        told.tell(&mut self.0, |h, rows, room, n| unsafe { sys::cf_request_pass(h, moment, rows, room, n) })
+    }
+
+    /// The deadline that comes next, of those whose stage is open.
+    pub fn next_deadline(&mut self) -> Result<Option<Deadline>, Refused> {
+        // SAFETY: alone, pointers: `h` and what is told to are this call's.
+        let next = self.0.tell(|h, told: *mut sys::cf_deadline| unsafe { sys::cf_request_next_deadline(h, told) });
+        let limit = |kind, value| if kind == sys::CF_GIVE_VALUE { Limit::Give(value_out(value)) } else { Limit::Timeout };
+        Ok(if_there(next)?.map(|next| Deadline { stage: next.stage, moment: next.moment, limit: limit(next.kind, next.value) }))
+    }
+
+    /// Nobody runs a lane any more: its ready stages fail with this code, and so do those that become ready by that. `NO_LANE`, `NO_MEMORY`.
+    pub fn refuse(&mut self, lane: u8, code: u32, told: &mut Told) -> Result<(), Refused> {
+        // SAFETY: alone, pointers: `h` and what is told to are this call's, and `rows` points to as many elements as said.
+        told.tell(&mut self.0, |h, rows, room, n| unsafe { sys::cf_request_refuse(h, lane, code, rows, room, n) })
+    }
+
+    /// Cancels all stages that are open, from the lowest on, by words of a caller. `NO_WORD` where `who` is above 63, `NO_MEMORY`.
+    pub fn cancel_all(&mut self, who: u8, told: &mut Told) -> Result<(), Refused> {
+        // SAFETY: alone, pointers: `h` and what is told to are this call's, and `rows` points to as many elements as said.
+        told.tell(&mut self.0, |h, rows, room, n| unsafe { sys::cf_request_cancel_all(h, who, rows, room, n) })
+    }
+
+    /// Tells the stages that are settled and weren't told: those that were settled as it was opened or restarted.
+    pub fn told(&mut self, told: &mut Told) -> Result<(), Refused> {
+        // SAFETY: alone, pointers: `h` and what is told to are this call's, and `rows` points to as many elements as said.
+        told.tell(&mut self.0, |h, rows, room, n| unsafe { sys::cf_request_told(h, rows, room, n) })
+    }
+
+    /// How many stages of a lane are ready. `NO_LANE`.
+    #[inline]
+    pub fn ready(&mut self, lane: u8) -> Result<u16, Refused> {
+        // SAFETY: alone, pointers: `h` and what is told to are this call's.
+        self.0.tell(|h, told| unsafe { sys::cf_request_ready(h, lane, told) })
+    }
+
+    /// Makes calls one after another, each as it is made alone, up to the first that is refused, and tells once. Its refusal where one is refused:
+    /// those before it are made then, [`done`](Calls::done) of them, and what they settled is told.
+    ///
+    /// ```
+    /// use cf_graph::{Answer, Call, Calls, Event, Form, Of, PlanBuilder, Reply, Request, RequestSizes, Told, Value};
+    /// # fn main() -> Result<(), cf_graph::Refused> {
+    /// let sizes = RequestSizes { room: 1, lanes: 1, own: 63 };
+    /// let (mut request, mut told) = (Request::new(&mut PlanBuilder::new()?.build()?, sizes, &[])?, Told::default());
+    /// let mut calls = Calls::default();
+    /// calls.apply(Event { who: 0, call: Call::Attach(Form::Supply, Of::None, Some(0)) }.word()?, 0);
+    /// calls.next(3, 0, None);
+    /// calls.next(3, 0, Some((0, Answer::Give(Value::Int(7)))));
+    /// request.run(&mut calls, &mut told)?;
+    /// assert_eq!(calls.reply(0), Reply::Attached(Some(0)));
+    /// assert_eq!((calls.step(1).taken.unwrap().stage, calls.step(2).taken, told.at(0).0), (0, None, 0));
+    /// # Ok(())
+    /// # }
+    /// ```
+    #[inline]
+    pub fn run(&mut self, calls: &mut Calls, told: &mut Told) -> Result<(), Refused> {
+        let mut done = sys::cf_request_done::default();
+        let (first, many, to) = (calls.rows.as_mut_ptr(), calls.rows.len(), &mut done);
+        let answer = told.tell(&mut self.0, |h, rows, room, n| {
+            // SAFETY: alone, pointers: `h` and what is told to are this call's, and `first` and `rows` point to as many elements as said.
+            let code = unsafe { sys::cf_request_do(h, first, many, to, rows, room) };
+            // SAFETY: pointers: `n` is this call's.
+            unsafe { *n = to.told };
+            code
+        });
+        calls.done = done.calls;
+        answer
+    }
+
+    /// Makes room for more stages, by doing all words again: for as many more as there are by now, and for 16 more at least, as far as the bounds let
+    /// them in. Nothing else changes. `ROOM` if not even one more could come, `NO_MEMORY`.
+    pub fn grow(&mut self) -> Result<(), Refused> {
+        // SAFETY: alone: `h` is this call's.
+        self.0.call(|h| unsafe { sys::cf_request_grow(h) })
+    }
+
+    /// Starts again as it was opened, with the memory that it has.
+    pub fn restart(&mut self) -> Result<(), Refused> {
+        // SAFETY: alone: `h` is this call's.
+        self.0.call(|h| unsafe { sys::cf_request_restart(h) })
+    }
+
+    /// The words of all that was done, in their one order, also of what the request settled itself.
+    pub fn words(&mut self) -> Result<Vec<u64>, Refused> {
+        ledger::words(&mut self.0)
+    }
+
+    /// What a stage is. `NO_STAGE`.
+    pub fn stage(&mut self, stage: u16) -> Result<Stage, Refused> {
+        ledger::stage(&mut self.0, stage)
+    }
+
+    /// How many stages there are by now.
+    pub fn stages(&mut self) -> Result<u16, Refused> {
+        ledger::stages(&mut self.0)
+    }
+
+    /// The lowest ready stage from this number on, of any lane.
+    pub fn lowest_ready(&mut self, from: u16) -> Result<Option<u16>, Refused> {
+        ledger::ready(&mut self.0, from)
+    }
+}
+
+/// Calls of a request that are made in one: what waits, such as an attach that can settle nothing, goes with the next call. It keeps its room.
+#[derive(Debug, Default)]
+pub struct Calls {
+    rows: Vec<sys::cf_request_call>,
+    done: usize,
+}
+
+impl Calls {
+    /// Leaves out all of them.
+    #[inline]
+    pub fn clear(&mut self) {
+        self.rows.clear();
+        self.done = 0;
+    }
+
+    /// How many they are.
+    #[inline]
+    pub fn len(&self) -> usize {
+        self.rows.len()
+    }
+
+    /// Whether there is none.
+    #[inline]
+    pub fn is_empty(&self) -> bool {
+        self.rows.is_empty()
+    }
+
+    /// Adds a call of [`apply`](Request::apply).
+    #[inline]
+    pub fn apply(&mut self, word: u64, lane: u8) {
+        self.add(sys::cf_request_call { call: sys::CF_DO_APPLY, word, lane, ..Default::default() });
+    }
+
+    /// Adds a call of [`next`](Request::next).
+    #[inline]
+    pub fn next(&mut self, who: u8, lane: u8, held: Option<(u16, Answer)>) {
+        // This call looks at no code, so that it can say whether something was held.
+        let code = u32::from(held.is_some());
+        self.add(sys::cf_request_call { call: sys::CF_DO_NEXT, who, lane, code, task: task_in(held), ..Default::default() });
+    }
+
+    /// Adds a call of [`follow`](Request::follow).
+    pub fn follow(&mut self, relay: u16, stage: u16) {
+        self.add(sys::cf_request_call { call: sys::CF_DO_FOLLOW, relay, stage, ..Default::default() });
+    }
+
+    /// Adds a call of [`deadline`](Request::deadline).
+    pub fn deadline(&mut self, stage: u16, moment: u64, limit: Limit) {
+        let (kind, value) = limit_in(limit);
+        self.add(sys::cf_request_call { call: sys::CF_DO_DEADLINE, stage, moment, kind, value, ..Default::default() });
+    }
+
+    /// Adds a call of [`pass`](Request::pass).
+    pub fn pass(&mut self, moment: u64) {
+        self.add(sys::cf_request_call { call: sys::CF_DO_PASS, moment, ..Default::default() });
+    }
+
+    /// Adds a call of [`refuse`](Request::refuse).
+    pub fn refuse(&mut self, lane: u8, code: u32) {
+        self.add(sys::cf_request_call { call: sys::CF_DO_REFUSE, lane, code, ..Default::default() });
+    }
+
+    /// Adds a call of [`cancel_all`](Request::cancel_all).
+    pub fn cancel_all(&mut self, who: u8) {
+        self.add(sys::cf_request_call { call: sys::CF_DO_CANCEL_ALL, who, ..Default::default() });
+    }
+
+    #[inline]
+    fn add(&mut self, row: sys::cf_request_call) {
+        self.rows.push(row);
+    }
+
+    /// How many of them [`run`](Request::run) has made.
+    #[inline]
+    pub fn done(&self) -> usize {
+        self.done
+    }
+
+    /// What the word of the call at a place was answered.
+    ///
+    /// # Panics
+    ///
+    /// Where that wasn't made, or does no word.
+    #[inline]
+    pub fn reply(&self, at: usize) -> Reply {
+        let row = &self.rows[..self.done][at];
+        assert_eq!(row.call, sys::CF_DO_APPLY, "the call does a word");
+        reply_of_word(row.word, row.reply)
+    }
+
+    /// What the step of the call at a place did.
+    ///
+    /// # Panics
+    ///
+    /// Where that wasn't made, or is no step.
+    #[inline]
+    pub fn step(&self, at: usize) -> Step {
+        let row = &self.rows[..self.done][at];
+        assert_eq!(row.call, sys::CF_DO_NEXT, "the call is a step");
+        let finished = (row.code != 0).then(|| finished_of(row.task.finished));
+        Step { finished, taken: taken_out(&row.task) }
+    }
+}
+
+#[inline]
+fn told_out(told: &sys::cf_told) -> (u16, Outcome) {
+    // A stage is told only once it has an outcome.
+    (told.stage, outcome_out(told.outcome).unwrap_or(Outcome::Value(Value::Nil)))
+}

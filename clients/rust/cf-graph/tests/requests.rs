@@ -1,0 +1,220 @@
+//! What each call of a request answers: lanes, relays, deadlines, what is told, and which code refuses it.
+use cf_graph::*;
+
+const OWN: u8 = 63;
+
+/// A request of no plan with two lanes.
+fn request(room: u16) -> (Request, Told) {
+    let mut nothing = PlanBuilder::new().unwrap().build().unwrap();
+    (Request::new(&mut nothing, RequestSizes { room, lanes: 2, own: OWN }, &[]).unwrap(), Told::default())
+}
+
+fn word(call: Call) -> u64 {
+    Event { who: 0, call }.word().unwrap()
+}
+
+fn source() -> u64 {
+    word(Call::Attach(Form::Source, Of::None, None))
+}
+
+fn apply(source: u16, function: u16) -> u64 {
+    word(Call::Attach(Form::Apply, Of::One(source), Some(function)))
+}
+
+fn int(number: i32) -> Outcome {
+    Outcome::Value(Value::Int(number))
+}
+
+fn fault(cause: Cause, wrapped: bool) -> Outcome {
+    Outcome::Fault { cause, wrapped }
+}
+
+/// So many sources, each of which may be settled by itself.
+fn sources(count: u16) -> (Request, Told) {
+    let (mut request, mut told) = request(count);
+    for number in 0..count {
+        assert_eq!(request.apply(source(), 0, &mut told), Ok(Reply::Attached(Some(number))));
+        assert!(told.is_empty());
+    }
+    (request, told)
+}
+
+#[test]
+fn each_lane_has_its_stages() {
+    let (mut request, mut told) = request(3);
+    request.apply(source(), 0, &mut told).unwrap();
+    request.apply(apply(0, 7), 1, &mut told).unwrap();
+    request.apply(apply(0, 8), 0, &mut told).unwrap();
+    assert_eq!((request.ready(0), request.ready(1)), (Ok(0), Ok(0)));
+    request.apply(word(Call::Complete(0, Value::Int(3))), 0, &mut told).unwrap();
+    assert_eq!(told.iter().collect::<Vec<_>>(), [(0, int(3))]);
+    assert_eq!((request.ready(0), request.ready(1), request.lowest_ready(2)), (Ok(1), Ok(1), Ok(Some(2))));
+    let step = request.next(4, 1, None, &mut told).unwrap();
+    assert_eq!(step, Step { finished: None, taken: Some(Taken { stage: 1, function: 7, args: Args::One(Value::Int(3)) }) });
+    let step = request.next(4, 1, Some((1, Answer::Give(Value::Nil))), &mut told).unwrap();
+    assert_eq!(step, Step { finished: Some(Finished::Won), taken: None });
+    assert_eq!(told.at(0), (1, Outcome::Value(Value::Nil)));
+    assert_eq!(request.stage(2).unwrap(), Stage { state: State::Ready, who: None });
+    assert_eq!(request.stages(), Ok(3));
+}
+
+/// More than there was room for are told all the same, each once and in its order.
+#[test]
+fn many_are_told_at_once() {
+    let (mut request, mut told) = request(100);
+    request.apply(source(), 0, &mut told).unwrap();
+    for function in 1..100 {
+        request.apply(apply(0, function), 0, &mut told).unwrap();
+    }
+    request.apply(word(Call::Fail(0, 9)), 0, &mut told).unwrap();
+    assert_eq!(told.len(), 100);
+    for (at, (stage, outcome)) in told.iter().enumerate() {
+        assert_eq!((usize::from(stage), outcome), (at, fault(Cause::Thrown(9), at > 0)));
+    }
+    request.told(&mut told).unwrap();
+    assert!(told.is_empty());
+}
+
+/// A relay ends as the stage that it follows, by a word of the request's own caller, whether that is settled before or later.
+#[test]
+fn relays_end_as_what_they_follow() {
+    let (mut request, mut told) = sources(6);
+    for (relay, stage) in [(3, 0), (4, 1)] {
+        request.follow(relay, stage, &mut told).unwrap();
+        assert!(told.is_empty());
+    }
+    request.apply(word(Call::Complete(0, Value::Int(5))), 0, &mut told).unwrap();
+    assert_eq!(told.iter().collect::<Vec<_>>(), [(0, int(5)), (3, int(5))]);
+    request.apply(word(Call::Cancel(1)), 0, &mut told).unwrap();
+    let cancelled = fault(Cause::Cancelled, false);
+    assert_eq!(told.iter().collect::<Vec<_>>(), [(1, cancelled), (4, cancelled)]);
+    request.apply(word(Call::FailAs(2, Failure::BadAnswer)), 0, &mut told).unwrap();
+    request.follow(5, 2, &mut told).unwrap();
+    assert_eq!(told.iter().collect::<Vec<_>>(), [(5, fault(Cause::BadAnswer, false))]);
+    let last = *request.words().unwrap().last().unwrap();
+    assert_eq!(Event::of_word(last), Ok(Event { who: OWN, call: Call::FailAs(5, Failure::BadAnswer) }));
+}
+
+/// Deadlines come in the order of their moments, and those of one moment in the order in which they were set.
+#[test]
+fn deadlines_come_in_their_order() {
+    let (mut request, mut told) = sources(4);
+    request.deadline(0, 30, Limit::Timeout).unwrap();
+    request.deadline(1, 10, Limit::Give(Value::Int(8))).unwrap();
+    request.deadline(3, 20, Limit::Timeout).unwrap();
+    request.deadline(2, 20, Limit::Timeout).unwrap();
+    let first = Deadline { stage: 1, moment: 10, limit: Limit::Give(Value::Int(8)) };
+    assert_eq!(request.next_deadline(), Ok(Some(first)));
+    request.apply(word(Call::Complete(1, Value::Nil)), 0, &mut told).unwrap();
+    assert_eq!(request.next_deadline(), Ok(Some(Deadline { stage: 3, moment: 20, limit: Limit::Timeout })));
+    request.pass(19, &mut told).unwrap();
+    assert!(told.is_empty());
+    request.pass(100, &mut told).unwrap();
+    let late = fault(Cause::TimedOut, false);
+    assert_eq!(told.iter().collect::<Vec<_>>(), [(3, late), (2, late), (0, late)]);
+    assert_eq!(request.next_deadline(), Ok(None));
+    assert_eq!(request.pass(99, &mut told), Err(Refused::PAST_MOMENT));
+}
+
+#[test]
+fn a_lane_that_nobody_runs_is_refused() {
+    let (mut request, mut told) = request(4);
+    request.apply(word(Call::Attach(Form::Supply, Of::None, Some(0))), 1, &mut told).unwrap();
+    request.apply(word(Call::Attach(Form::Supply, Of::None, Some(1))), 0, &mut told).unwrap();
+    request.apply(word(Call::Attach(Form::Exceptionally, Of::One(0), Some(2))), 1, &mut told).unwrap();
+    request.refuse(1, 77, &mut told).unwrap();
+    assert_eq!(told.iter().collect::<Vec<_>>(), [(0, fault(Cause::Thrown(77), false)), (2, fault(Cause::Thrown(77), false))]);
+    assert_eq!((request.ready(0), request.ready(1)), (Ok(1), Ok(0)));
+}
+
+#[test]
+fn all_is_cancelled_and_begins_again() {
+    let (mut request, mut told) = sources(3);
+    request.apply(word(Call::Complete(1, Value::Nil)), 0, &mut told).unwrap();
+    request.cancel_all(5, &mut told).unwrap();
+    let cancelled = fault(Cause::Cancelled, false);
+    assert_eq!(told.iter().collect::<Vec<_>>(), [(0, cancelled), (2, cancelled)]);
+    let words = request.words().unwrap();
+    assert_eq!(Event::of_word(words[words.len() - 1]), Ok(Event { who: 5, call: Call::Cancel(2) }));
+    request.restart().unwrap();
+    assert_eq!((request.words(), request.stages()), (Ok(vec![]), Ok(0)));
+    request.apply(source(), 0, &mut told).unwrap();
+    assert!(told.is_empty());
+}
+
+/// Each as it is made alone, up to the first that is refused.
+#[test]
+fn calls_are_made_in_one() {
+    let (mut request, mut told) = request(5);
+    let mut calls = Calls::default();
+    calls.apply(source(), 0);
+    calls.apply(source(), 0);
+    calls.follow(1, 0);
+    calls.apply(apply(1, 4), 1);
+    calls.deadline(0, 6, Limit::Give(Value::Int(2)));
+    calls.pass(6);
+    calls.next(3, 1, None);
+    calls.next(3, 1, Some((2, Answer::Throw(1))));
+    assert_eq!(request.run(&mut calls, &mut told), Ok(()));
+    assert_eq!((calls.done(), calls.reply(1)), (8, Reply::Attached(Some(1))));
+    assert_eq!(calls.step(6), Step { finished: None, taken: Some(Taken { stage: 2, function: 4, args: Args::One(Value::Int(2)) }) });
+    assert_eq!(calls.step(7), Step { finished: Some(Finished::Won), taken: None });
+    assert_eq!(told.iter().collect::<Vec<_>>(), [(0, int(2)), (1, int(2)), (2, fault(Cause::Thrown(1), true))]);
+    calls.clear();
+    calls.apply(source(), 0);
+    calls.refuse(1, 5);
+    calls.cancel_all(1);
+    calls.apply(source(), 2);
+    calls.pass(7);
+    assert_eq!(request.run(&mut calls, &mut told), Err(Refused::NO_LANE));
+    assert_eq!((calls.done(), calls.len()), (3, 5));
+    assert_eq!(told.iter().collect::<Vec<_>>(), [(3, fault(Cause::Cancelled, false))]);
+    calls.clear();
+    assert_eq!((request.run(&mut calls, &mut told), calls.is_empty(), told.is_empty()), (Ok(()), true, true));
+}
+
+/// What is told, follows, is due and is claimed stays.
+#[test]
+fn a_request_grows() {
+    let (mut request, mut told) = request(2);
+    request.apply(source(), 0, &mut told).unwrap();
+    request.apply(source(), 0, &mut told).unwrap();
+    request.follow(1, 0, &mut told).unwrap();
+    request.deadline(0, 9, Limit::Timeout).unwrap();
+    assert_eq!(request.apply(source(), 0, &mut told), Err(Refused::NO_ROOM));
+    request.grow().unwrap();
+    for number in 2..18 {
+        assert_eq!(request.apply(source(), 0, &mut told), Ok(Reply::Attached(Some(number))));
+    }
+    assert_eq!(request.apply(source(), 0, &mut told), Err(Refused::NO_ROOM));
+    request.pass(9, &mut told).unwrap();
+    let late = fault(Cause::TimedOut, false);
+    assert_eq!(told.iter().collect::<Vec<_>>(), [(0, late), (1, late)]);
+    let mut full = sources(4_096).0;
+    assert_eq!(full.grow(), Err(Refused::ROOM));
+}
+
+/// A refused call changes nothing.
+#[test]
+fn what_cannot_be_done_is_refused() {
+    let mut nothing = PlanBuilder::new().unwrap().build().unwrap();
+    let mut open = |room, lanes, own, of: &[u8]| Request::new(&mut nothing, RequestSizes { room, lanes, own }, of).err();
+    assert_eq!((open(1, 0, 1, &[]), open(1, 17, 1, &[])), (Some(Refused::LANES), Some(Refused::LANES)));
+    assert_eq!((open(1, 1, 1, &[0]), open(1, 1, 64, &[])), (Some(Refused::LANES), Some(Refused::NO_WORD)));
+    assert_eq!(open(4_097, 1, 1, &[]), Some(Refused::ROOM));
+    let (mut request, mut told) = sources(1);
+    let words = request.words();
+    assert_eq!(request.apply(source(), 0, &mut told), Err(Refused::NO_ROOM));
+    assert_eq!(request.apply(source(), 2, &mut told), Err(Refused::NO_LANE));
+    assert_eq!(request.apply(u64::MAX, 0, &mut told), Err(Refused::NO_WORD));
+    assert_eq!(request.apply(word(Call::Cancel(1)), 0, &mut told), Err(Refused::NO_STAGE));
+    assert_eq!(request.next(64, 0, None, &mut told), Err(Refused::NO_WORD));
+    assert_eq!(request.next(1, 2, None, &mut told), Err(Refused::NO_LANE));
+    assert_eq!(request.next(1, 0, Some((0, Answer::Throw(1))), &mut told), Err(Refused::NOT_HELD));
+    assert_eq!(request.next(1, 0, Some((1, Answer::Throw(1))), &mut told), Err(Refused::NO_STAGE));
+    assert_eq!((request.follow(0, 1, &mut told), request.follow(1, 0, &mut told)), (Err(Refused::NO_STAGE), Err(Refused::NO_STAGE)));
+    assert_eq!(request.deadline(1, 5, Limit::Timeout), Err(Refused::NO_STAGE));
+    assert_eq!((request.refuse(2, 1, &mut told), request.ready(2)), (Err(Refused::NO_LANE), Err(Refused::NO_LANE)));
+    assert_eq!((request.cancel_all(64, &mut told), request.stage(1)), (Err(Refused::NO_WORD), Err(Refused::NO_STAGE)));
+    assert_eq!(request.words(), words);
+}
