@@ -43,10 +43,10 @@ class NotedView(shared_service.RowView):
 
     count = 0
 
-    def __init__(self, store, opened, session, patience=60, note=None):
+    def __init__(self, store, opened, session, patience, note, host):
         NotedView.count += 1
         head = (opened.name, opened.number, session, NotedView.count)
-        super().__init__(store, opened, session, patience, lambda kind, name, *rest: note(kind, *head, *rest))
+        super().__init__(store, opened, session, patience, lambda kind, name, *rest: note(kind, *head, *rest), host)
 
 
 class Errors(logging.Handler):
