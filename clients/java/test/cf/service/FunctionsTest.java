@@ -80,6 +80,8 @@ final class FunctionsTest {
         List<Runnable> tasks = new ArrayList<>();
         Request calling = new Service(tasks::add).request();
         Stage<Integer> one = calling.supplyAsync(() -> 1), two = calling.supplyAsync(() -> 2), source = calling.promise();
+        calling.promise().complete(null);
+        is(tasks.size(), 2);
         List<Stage<Integer>> behind = new ArrayList<>();
         for (int k = 0; k < 150; k++) {
             behind.add(source.thenApplyAsync(x -> x + 1));
