@@ -71,7 +71,8 @@ public final class Request implements AutoCloseable {
      * - Without one, the thread that made it ready calls its function, as in CompletableFuture. Each call of the machine that
      *   can make such stages ready claims them all for its thread. So between calls none is ready, and no thread calls what
      *   another one has made ready. `call` calls the function without the lock, and finishes the stage: one crossing finishes
-     *   it and claims what that made ready. If somebody settles a claimed stage before its turn, its function isn't called.
+     *   it and claims what that made ready. If somebody settles a claimed stage before its turn, its function isn't called,
+     *   and the finish comes too late.
      * - With one, the executor is given a Task. Its thread claims the stage in `work`, and goes on as above. An executor that
      *   throws has its stage claimed and finished with what it threw (`refused`).
      * A claim may be refused, since somebody has settled the stage meanwhile: then nothing is called. A finish may come too
@@ -1161,19 +1162,16 @@ public final class Request implements AutoCloseable {
         }
     }
 
-    /** Calls a function, unless its stage was settled since it was claimed, and finishes the stage. */
+    /** Calls a function, unless its stage was settled since it was claimed, and finishes the stage: then too late, so that no claim stays open. */
     private void call(Call call, News news) {
-        if (call.stage != null && call.stage.told != null) {
-            news.called(call);
-            return;
-        }
         int number = call.number;
+        boolean isSettled = call.stage != null && call.stage.told != null;
         Form form = call.form;
         Object function = call.function, first = call.first, second = call.second, given = null;
         Throwable thrown = null;
         news.called(call);
         try {
-            given = Carried.call(form, function, first, second);
+            given = isSettled ? null : Carried.call(form, function, first, second);
         } catch (Throwable error) {
             thrown = error;
             if (form == Form.WHEN_COMPLETE && second != null && second != error) {
@@ -1185,7 +1183,7 @@ public final class Request implements AutoCloseable {
             int who = who();
             if (thrown != null) {
                 machine.finish(number, true, code(thrown), who);
-            } else if (!form.composes) {
+            } else if (isSettled || !form.composes) {
                 machine.finish(number, false, number(given), who);
             } else {
                 link = link(number, (CompletionStage<?>) given, who);

@@ -61,7 +61,18 @@ final class FunctionsTest {
         is(called, Arrays.asList("0 one", "1 one", "4 one"));
         is(behind.get(2).join() + " " + behind.get(3).isCancelled() + " " + behind.get(4).join(), "instead true 4");
         String report = calling.history().report();
-        is(report.contains("late") || report.contains("taken"), false);
+        is(report.split("late", -1).length - 1, 2);
+        is(report.split("won", -1).length - 1, 4);
+        is(report.contains("taken"), false);
+        // None of them counts as running afterwards: what this thread attaches then is no function's.
+        Request done = SERVICE.request();
+        Stage<Integer> source = done.promise();
+        List<Stage<Object>> both = new ArrayList<>();
+        both.add(source.thenApply(x -> both.get(1).complete("instead")));
+        both.add(source.thenApply(x -> x));
+        source.complete(1);
+        done.failedFuture(new IllegalStateException());
+        is(done.history().spans().get(0).status(), Span.Status.ERROR);
     }
 
     /** An executor is handed one task for each stage, however many events come between. */
@@ -69,6 +80,8 @@ final class FunctionsTest {
         List<Runnable> tasks = new ArrayList<>();
         Request calling = new Service(tasks::add).request();
         Stage<Integer> one = calling.supplyAsync(() -> 1), two = calling.supplyAsync(() -> 2), source = calling.promise();
+        calling.promise().complete(null);
+        is(tasks.size(), 2);
         List<Stage<Integer>> behind = new ArrayList<>();
         for (int k = 0; k < 150; k++) {
             behind.add(source.thenApplyAsync(x -> x + 1));
