@@ -2,7 +2,7 @@
 """Writes what the library tells of itself, by cf.h.
 
     facts.py HEADER              in C: its version, the names of codes, the sizes of structs and the offsets of their fields
-    facts.py --version HEADER    the version, as 1.6.0
+    facts.py --version HEADER    the version, as 1.7.0
     facts.py --script HEADER     for the linker: what the shared library exports, each call with the version in which it came
 
 The header is the only table: a code is named by its constant, CF_NO_STAGE as NoStage, and the compiler says sizes and offsets.
@@ -24,6 +24,7 @@ LATER: Dict[str, str] = {
     **dict.fromkeys(["cf_request_new", "cf_request_apply", "cf_request_next", "cf_request_follow", "cf_request_deadline", "cf_request_pass",
                      "cf_request_next_deadline", "cf_request_refuse", "cf_request_told", "cf_request_ready"], "1.5"),
     **dict.fromkeys(["cf_request_cancel_all", "cf_request_restart", "cf_request_do"], "1.6"),
+    "cf_request_gather": "1.7",
 }
 TEXT = """#include "cf.h"
 #include <string.h>
