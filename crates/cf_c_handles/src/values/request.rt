@@ -33,8 +33,8 @@ pub struct CfApplied {
     pub told: usize,
 }
 
-/// A gathering of a caller of a request. C says who gathers, and by which form. It is told the number of the root, and how many
-/// stages were to be told.
+/// A gathering of a caller of a request. C says who gathers, and by which form. It is told the number of the root, and
+/// how many stages were to be told.
 #[repr(C)]
 #[derive(Clone, Copy)]
 pub struct CfRequestGathering {
