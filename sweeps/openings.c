@@ -267,7 +267,7 @@ static uint64_t asked_of(cf_handle *request) {
 }
 
 /* A call of a request: what it is, and the stages, the moment or the lane that it names. */
-typedef enum { ATTACH, FOLLOW, DEADLINE, COMPLETE, NEXT, PASS, REFUSE, CANCEL, GROW, DO } request_call;
+typedef enum { ATTACH, GATHER, FOLLOW, DEADLINE, COMPLETE, NEXT, PASS, REFUSE, CANCEL, GROW, DO } request_call;
 typedef struct { request_call call; uint16_t first, second; } request_step;
 
 /* Attaches a source, or completes a stage. */
@@ -285,9 +285,14 @@ static uint32_t apply_to(cf_handle *request, const request_step *step, cf_told *
 
 static uint32_t call_request(cf_handle *request, const request_step *step, cf_task *task, cf_told *told, size_t *n) {
     cf_request_step next = {.who = 2, .lane = (uint8_t)step->first, .told = *n};
+    cf_request_gathering gathering = {.who = 1, .form = CF_ALL_OF, .told = *n};
     cf_request_done done;
     uint32_t code = CF_OK;
     switch (step->call) {
+    case GATHER: /* both stages, and the first once more, which takes two words */
+        code = cf_request_gather(request, &gathering, (uint16_t[]){step->first, step->second, step->first}, 3, told, 2);
+        *n = gathering.told;
+        return code;
     case FOLLOW: return cf_request_follow(request, step->first, step->second, told, 2, n);
     case DEADLINE: return cf_request_deadline(request, step->first, step->second, CF_TIMEOUT, (cf_value){CF_NIL, 0});
     case PASS: return cf_request_pass(request, step->first, told, 2, n);
@@ -348,7 +353,7 @@ static uint32_t request(long numbers[3]) {
     static const request_step steps[] = {
         {ATTACH, 0, 1}, {ATTACH, 0, 0}, {ATTACH, 0, 1}, {FOLLOW, 3, 0}, {FOLLOW, 4, 1}, {DEADLINE, 5, 20}, {DEADLINE, 2, 30},
         {COMPLETE, 0, 0}, {NEXT, 0, 0}, {NEXT, 0, 0}, {FOLLOW, 5, 4}, {PASS, 10, 0}, {NEXT, 1, 0}, {GROW, 0, 0}, {ATTACH, 0, 1}, {REFUSE, 1, 0},
-        {DEADLINE, 6, 12}, {PASS, 30, 0}, {PASS, 30, 0}, {ATTACH, 0, 1}, {DO, 7, 0}, {ATTACH, 0, 1}, {CANCEL, 1, 0},
+        {DEADLINE, 6, 12}, {PASS, 30, 0}, {PASS, 30, 0}, {ATTACH, 0, 1}, {DO, 7, 0}, {ATTACH, 0, 1}, {GATHER, 0, 1}, {CANCEL, 1, 0},
     };
     return request_with(numbers, steps, sizeof steps / sizeof *steps);
 }

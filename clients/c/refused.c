@@ -13,7 +13,7 @@ static const uint16_t NEVER = UINT16_MAX;
 /* What calls write. Each is filled with one byte before, and has to be so afterwards. */
 static struct {
   cf_reply reply; cf_task task; cf_outcome outcome; cf_now now; cf_record record; cf_event event; cf_stage stage; cf_step step;
-  cf_applied applied; cf_request_step turn; cf_told told[2]; cf_deadline deadline; cf_request_done done; cf_request_call call;
+  cf_applied applied; cf_request_gathering gathering; cf_request_step turn; cf_told told[2]; cf_deadline deadline; cf_request_done done; cf_request_call call;
   cf_news news[2]; uint64_t words[2]; uint16_t stages[2]; uint8_t text[TEXT]; uint16_t number; uint8_t small; uint32_t calls; uint64_t word;
   size_t n;
 } out;
@@ -34,6 +34,7 @@ static const cf_request_sizes lanes = {.room = 1, .lanes = 2, .own = OWN};
 static const uint8_t lane_of[] = {0, 1};
 static const cf_given first = {.stage = SOURCE, .value = {CF_INT, 5}};
 static const uint16_t of = SOURCE;
+static const uint16_t many_of[] = {SOURCE, TWICE, NOT_THERE};
 
 /* ---- Each call, by the kind of handle that it is for ---- */
 
@@ -106,6 +107,7 @@ static void ledger_calls(cf_handle *h, uint32_t wanted) {
 
 static void request_calls(cf_handle *h, uint32_t wanted) {
   ROW(cf_request_apply(h, 1, 0, &out.applied, out.told, 2), wanted);
+  ROW(cf_request_gather(h, &out.gathering, &of, 1, out.told, 2), wanted);
   ROW(cf_request_next(h, &out.turn, &out.task, out.told, 2), wanted);
   ROW(cf_request_follow(h, SOURCE, TWICE, out.told, 2, &out.n), wanted);
   ROW(cf_request_deadline(h, SOURCE, 1, CF_TIMEOUT, value), wanted);
@@ -314,6 +316,9 @@ static void by_pointers(void) {
   ROW(cf_request_new(plan, &lanes, lane_of, STAGES, NULL), CF_NULL);
   ROW(cf_request_apply(asked, 1, 0, NULL, out.told, 2), CF_NULL);
   ROW(cf_request_apply(asked, 1, 0, &out.applied, NULL, 2), CF_NULL);
+  ROW(cf_request_gather(asked, &out.gathering, NULL, 1, out.told, 2), CF_NULL);
+  ROW(cf_request_gather(asked, NULL, &of, 1, out.told, 2), CF_NULL);
+  ROW(cf_request_gather(asked, &out.gathering, &of, 1, NULL, 2), CF_NULL);
   ROW(cf_request_next(asked, NULL, &out.task, out.told, 2), CF_NULL);
   ROW(cf_request_next(asked, &out.turn, NULL, out.told, 2), CF_NULL);
   ROW(cf_request_next(asked, &out.turn, &out.task, NULL, 2), CF_NULL);
@@ -444,6 +449,7 @@ static void by_other_numbers(void) {
   cf_task task = {.held = 1, .stage = TWICE};
   cf_step step = {.who = 64};
   cf_request_step turn = {.who = 64};
+  cf_request_gathering gathering = {.who = 64, .form = CF_APPLY};
   cf_request_call calls[] = {{.call = CF_DO_PASS}, {.call = 7}};
   cf_request_done done;
   cf_handle *asked = &held[REQUEST];
@@ -496,6 +502,13 @@ static void by_other_numbers(void) {
   ROW(cf_request_next(asked, &turn, &task, out.told, 2), CF_NO_LANE);
   ROW(cf_request_apply(asked, 0, 0, &out.applied, out.told, 2), CF_NO_WORD);
   ROW(cf_request_apply(asked, 0, 2, &out.applied, out.told, 2), CF_NO_LANE);
+  ROW(cf_request_gather(asked, &gathering, many_of, 3, out.told, 2), CF_NO_SUCH_NUMBER);
+  gathering.form = CF_ANY_OF;
+  ROW(cf_request_gather(asked, &gathering, many_of, 3, out.told, 2), CF_NO_WORD);
+  gathering.who = 0;
+  ROW(cf_request_gather(asked, &gathering, many_of, 3, out.told, 2), CF_NO_STAGE);
+  ROW(cf_request_gather(asked, &gathering, (uint16_t[]){SOURCE, TWICE, SOURCE}, 3, out.told, 2), CF_NO_ROOM);
+  HOLDS(gathering.root == 0 && gathering.told == 0);
   ROW(cf_request_refuse(asked, 2, 1, out.told, 2, &out.n), CF_NO_LANE);
   ROW(cf_request_ready(asked, 2, &out.number), CF_NO_LANE);
   ROW(cf_request_cancel_all(asked, 64, out.told, 2, &out.n), CF_NO_WORD);

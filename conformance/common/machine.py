@@ -13,6 +13,7 @@ Outcome = Tuple[Any, ...]
 Answer = Tuple[Any, ...]
 Reply = Tuple[Any, ...]
 Stage = Tuple[Tuple[Any, ...], Optional[int]]
+GATHERING = ["allOf", "anyOf"]
 MOST_CALLERS, MOST_LANES, MOST_STAGES, MOST_EDGES = 64, 16, 4096, 16384
 LEAST_GROWTH = 16
 
@@ -58,6 +59,16 @@ class Next(NamedTuple):
     taken: Optional[Taken]
 
 
+class Gathered(NamedTuple):
+    """Stages that gather others, from the first one to the root, and what one stage of the form over all of those would have by now."""
+
+    form: str
+    sources: List[int]
+    first: int
+    root: int
+    outcome: Optional[Outcome]
+
+
 def settle_event(who: int, stage: int, outcome: Outcome) -> Event:
     """The event by which a caller settles a stage with this outcome. A fault is raw then."""
     if outcome[0] == "value":
@@ -96,6 +107,7 @@ class Machine:
         self.follows: List[Follow] = []
         self.deadlines: List[Deadline] = []
         self.moment = 0
+        self.gathered: List[Gathered] = []
         self.told = [i for i in range(self.stages()) if self.is_settled(i)]
 
     def close(self) -> None:
@@ -175,7 +187,21 @@ class Machine:
         self.events.append(event)
         self.told += [i for i in range(self.stages())
                          if self.is_settled(i) and (i >= len(before.stages) or model.outcome(before, i) is None)]
+        self.see_gathered(-1 if event[0] in ("attach", "tick") else event[2])
         return tuple(reply)
+
+    def see_gathered(self, named: int) -> None:
+        """Sees that each root has what one stage would have, as long as no event names one of the stages up to it."""
+        kept = [it for it in self.gathered if not it.first <= named <= it.root]
+        self.gathered = [it._replace(outcome=it.outcome or self.gathered_by(it.form, it.sources)) for it in kept]
+        for it in self.gathered:
+            if self.outcome(it.root) != it.outcome:
+                raise AssertionError(f"{it.form} of {it.sources} has {it.outcome}, and its root {self.outcome(it.root)}")
+
+    def gathered_by(self, form: str, sources: List[int]) -> Optional[Outcome]:
+        """What one stage of the form over these has, if it settles only now."""
+        due = model.follows(form, [self.outcome(i) for i in sources])
+        return due[1] if due[0] == "settles" else None
 
     def settle(self, who: int, stage: int, outcome: Outcome) -> None:
         self.do(settle_event(who, stage, outcome))
@@ -219,6 +245,28 @@ class Machine:
             self.lanes.append(lane)
         self.settle_relays(self.own)
         return reply
+
+    def gather(self, who: int, form: str, sources: Sequence[int]) -> int:
+        """Attaches a stage that waits for all of these, or for one of them. The first stage gathers two, and each stage behind it one more.
+        It answers the last one."""
+        if form not in GATHERING:
+            raise Refused("NO_SUCH_NUMBER")
+        self.check_caller(who)
+        self.check_stages(*sources)
+        if self.state.room < max(1, len(sources) - 1):
+            raise Refused("NO_ROOM")
+        first = root = self.attach(who, form, sources[:2])
+        for source in sources[2:]:
+            root = self.attach(who, form, [root, source])
+        self.gathered.append(Gathered(form, list(sources), first, root, self.gathered_by(form, list(sources))))
+        self.see_gathered(-1)
+        return root
+
+    def attach(self, who: int, form: str, sources: Sequence[int]) -> int:
+        """Attaches a stage without a function, and answers its number. No stage but that one settles."""
+        self.do(("attach", who, form, list(sources), None))
+        self.lanes.append(0)
+        return self.stages() - 1
 
     def next(self, who: int, lane: int, held: Optional[Tuple[int, Answer]]) -> Next:
         """Finishes what the caller holds, settles relays, and claims the lowest ready stage of the lane."""

@@ -13,8 +13,8 @@ import random_runs
 
 Request = Any  # a `machine.Machine`, or what has the same methods: a `library.Library`
 KINDS = {"next": 36.0, "apply": 26, "pass_to": 5, "deadline": 6, "follow": 8, "rest": 2, "refuse": 2, "ready": 1, "cancel_all": 0.5,
-         "restart": 0.5, "grow": 1, "do_all": 6}
-OFTEN = ["next", "apply", "pass_to", "deadline", "follow", "rest", "refuse"]  # one of these comes more often by a seed
+         "restart": 0.5, "grow": 1, "do_all": 6, "gather": 4}
+OFTEN = ["next", "apply", "pass_to", "deadline", "follow", "rest", "refuse", "gather"]  # one of these comes more often by a seed
 EVENTS = {"complete": 9, "fail": 2, "failAs": 1.5, "cancel": 1.5, "claim": 2, "finish": 1.5, "tick": 1, "attach": 11, "word": 0.7}
 IN_ONE = {"next": 3, "apply": 5, "follow": 1, "deadline": 1, "pass_to": 0.5, "refuse": 0.1, "cancel_all": 0.05}  # calls of a `do_all`
 FORMS = model.FORMS + ["compose", "compose", "exceptionallyCompose"]  # so that more stages link
@@ -149,6 +149,12 @@ class Draws:
         count = self.rng.randrange(3) if any_number else 0 if form in model.NO_SOURCE else 1 if form in model.ONE_SOURCE else 2
         return form, tuple(self.stage() for _ in range(count)), None if any_number or form == "source" else self.rng.randrange(9)
 
+    def gathered(self, who: int) -> Tuple[int, str, List[int]]:
+        """Who gathers which stages, mostly few, one of which may stand twice."""
+        count = self.rng.choice([0, 1, 2, 2, 3, 3, 4, 5, 9, 17])
+        form = self.rng.choice(FORMS if self.seldom() else machine.GATHERING)
+        return who, form, [self.rng.randrange(self.plain.stages()) if self.rng.random() < 0.1 else self.stage() for _ in range(count)]
+
     def event(self, who: int) -> Union[int, machine.Event]:
         kind = self.one_of(EVENTS)
         if kind == "word":
@@ -184,6 +190,8 @@ class Draws:
         """What a call of this kind is given."""
         if kind == "next":
             return who, self.lane(), self.held(who)
+        if kind == "gather":
+            return self.gathered(who)
         if kind == "apply":
             return self.event(who), self.lane()
         if kind == "follow":

@@ -17,7 +17,7 @@ sys.path.insert(1, str(Path(__file__).resolve().parents[2] / "clients/python"))
 from cf._library import (CAnswer, CArgs, CHandle, COutcome, CReply, CStage, CTask, CValue, GOT, INT, NIL, NO_FUNCTION,  # noqa: E402
                          PENDING, STRUCTURES, THROWN, VALUE)
 
-TELLING = ["apply", "next", "follow", "pass_to", "refuse", "cancel_all", "do_all"]  # calls with a row for told stages
+TELLING = ["apply", "gather", "next", "follow", "pass_to", "refuse", "cancel_all", "do_all"]  # calls with a row for told stages
 LONGEST = 64  # row of told stages
 MARK = 0xA5  # what a row is filled with before a call
 CAUSES = {3: "cancelled", 4: "timeout", 5: "badanswer"}
@@ -39,6 +39,10 @@ class CApplied(c.Structure):
     _fields_ = [("reply", CReply), ("told", c.c_size_t)]
 
 
+class CRequestGathering(c.Structure):
+    _fields_ = [("who", c.c_uint8), ("form", c.c_uint32), ("root", c.c_uint16), ("told", c.c_size_t)]
+
+
 class CRequestStep(c.Structure):
     _fields_ = [("who", c.c_uint8), ("lane", c.c_uint8), ("told", c.c_size_t)]
 
@@ -57,12 +61,11 @@ class CDone(c.Structure):
     _fields_ = [("calls", c.c_size_t), ("told", c.c_size_t)]
 
 
-OWN = {"cf_request_sizes": CSizes, "cf_told": CTold, "cf_applied": CApplied, "cf_request_step": CRequestStep, "cf_deadline": CDeadline,
-       "cf_request_call": CCall, "cf_request_done": CDone}
+OWN = {"cf_request_sizes": CSizes, "cf_told": CTold, "cf_applied": CApplied, "cf_request_gathering": CRequestGathering,
+       "cf_request_step": CRequestStep, "cf_deadline": CDeadline, "cf_request_call": CCall, "cf_request_done": CDone}
 IN_ONE = ["apply", "next", "follow", "deadline", "pass_to", "refuse", "cancel_all"]  # the calls of cf_request_do by their numbers
 H, P, U8, U16, U32, U64, SIZE = c.POINTER(CHandle), c.POINTER, c.c_uint8, c.c_uint16, c.c_uint32, c.c_uint64, c.c_size_t
 TOLD = [P(CTold), SIZE]
-ROWS = [TOLD[0], P(CCall)]  # these may be null if they are for none
 CALLS: Dict[str, List[Any]] = {
     "cf_builder_new": [H, U16, U16],
     "cf_builder_stage": [H, U32, P(U16), SIZE, U32, P(U16)],
@@ -74,6 +77,7 @@ CALLS: Dict[str, List[Any]] = {
     "cf_ledger_words": [H, SIZE, P(U64), SIZE, P(SIZE)],
     "cf_request_new": [H, P(CSizes), P(U8), SIZE, H],
     "cf_request_apply": [H, U64, U8, P(CApplied), *TOLD],
+    "cf_request_gather": [H, P(CRequestGathering), P(U16), SIZE, *TOLD],
     "cf_request_next": [H, P(CRequestStep), P(CTask), *TOLD],
     "cf_request_follow": [H, U16, U16, *TOLD, P(SIZE)],
     "cf_request_deadline": [H, U16, U64, U32, CValue],
@@ -296,6 +300,13 @@ class Library:
         self.checked(C.cf_request_apply(self.request, word, lane, applied, *self.mark(room)), (applied, before))
         return reply_of(histories.event_of(word)[0], applied.reply), self.told(applied.told, room)
 
+    def gather(self, room: int, who: int, form: str, sources: Sequence[int]) -> Tuple[Any, machine.Told]:
+        of = (U16 * len(sources))(*sources) if sources else None
+        step = CRequestGathering(who=who, form=histories.FORMS.index(form))
+        before = bytes(step)
+        self.checked(C.cf_request_gather(self.request, step, of, len(sources), *self.mark(room)), (step, before))
+        return step.root, self.told(step.told, room)
+
     def next(self, room: int, who: int, lane: int, held: Optional[Tuple[int, machine.Answer]]) -> Tuple[Any, machine.Told]:
         step, task = CRequestStep(who=who, lane=lane), CTask()
         if held is not None:
@@ -392,8 +403,8 @@ def check_handles() -> int:
     for name, kinds in [(name, kinds) for name, kinds in CALLS.items() if name.startswith("cf_request_") and name != "cf_request_new"]:
         given = [kind._type_() if is_pointer(kind) else kind() for kind in kinds]
         wanted: List[Tuple[int, Any, str]] = [(0, plan, "WRONG_KIND"), (0, CHandle(), "EMPTY")]
-        # a row for no stages may be null
-        wanted += [(place, None, "NULL") for place, kind in enumerate(kinds) if is_pointer(kind) and kind not in ROWS]
+        # a row of nothing, whose length stands behind it, may be null
+        wanted += [(place, None, "NULL") for place, kind in enumerate(kinds) if is_pointer(kind) and kinds[place + 1:place + 2] != [SIZE]]
         for place, pointer, why in wanted:
             told = NAMES[getattr(C, name)(*given[:place], pointer, *given[place + 1:])]
             if told != why:

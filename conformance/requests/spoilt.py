@@ -23,6 +23,27 @@ class TheLaneIsLost(Machine):
         return reply
 
 
+class TheLastIsntGathered(Machine):
+    def gather(self, who: int, form: str, sources: Sequence[int]) -> int:
+        return super().gather(who, form, sources[:2] if len(sources) == 3 else sources)
+
+
+class OthersAreGatheredFirst(Machine):
+    def gather(self, who: int, form: str, sources: Sequence[int]) -> int:
+        return super().gather(who, form, sources[::-1])
+
+
+class TheRootIsTheFirst(Machine):
+    def gather(self, who: int, form: str, sources: Sequence[int]) -> int:
+        return super().gather(who, form, sources) - max(len(sources) - 2, 0)
+
+
+class OneStageFindsNoRoom(Machine):
+    def gather(self, who: int, form: str, sources: Sequence[int]) -> int:
+        self.check_caller(who)
+        return super().gather(who, form, sources[:self.state.room + 1])
+
+
 class RelaysRestBehindAnEvent(Machine):
     def apply(self, event: Union[int, Event], lane: int) -> Reply:
         follows, self.follows = self.follows, []

@@ -60,9 +60,9 @@
  * answer CF_NO_MEMORY if it is refused: cf_builder_new, cf_builder_stage, cf_builder_limit, cf_build, cf_graph_new,
  * cf_plan_of, cf_desk_open, cf_desk_open_with, cf_desk_notice, cf_close_begin, cf_ledger_new, cf_ledger_of,
  * cf_ledger_apply, cf_ledger_step, cf_ledger_apply_all, cf_ledger_grow, cf_request_new, cf_request_apply,
- * cf_request_next, cf_request_follow, cf_request_deadline, cf_request_pass, cf_request_refuse, cf_request_cancel_all,
- * cf_request_grow, cf_request_do, cf_history_new, cf_history_times, cf_history_say, cf_history_text and
- * cf_run_script. No other call takes any.
+ * cf_request_gather, cf_request_next, cf_request_follow, cf_request_deadline, cf_request_pass, cf_request_refuse,
+ * cf_request_cancel_all, cf_request_grow, cf_request_do, cf_history_new, cf_history_times, cf_history_say,
+ * cf_history_text and cf_run_script. No other call takes any.
  *
  * Codes. Each call answers a cf_code, except cf_free and the last four calls of this header. The code is CF_OK (0)
  * if the call did what it was asked. The comments list the other codes of each call. If several apply, the call
@@ -996,6 +996,29 @@ typedef struct { cf_reply reply; size_t told; } cf_applied;
  *   - CF_NO_WORD, CF_NO_STAGE: as for cf_ledger_apply.
  *   - CF_NO_ROOM: there is no room for the stage that the word attaches. cf_request_grow makes some. */
 uint32_t cf_request_apply(cf_handle *request, uint64_t word, uint8_t lane, cf_applied *applied, cf_told *told, size_t room);
+
+/* What cf_request_gather is asked, and what it has attached.
+ *   - who: the caller, 0 to 63. Your program writes it.
+ *   - form: CF_ALL_OF or CF_ANY_OF. Your program writes it.
+ *   - root: gets the number of the root.
+ *   - told: gets how many stages there were to tell. */
+typedef struct { uint8_t who; uint32_t form; uint16_t root; size_t told; } cf_request_gathering;
+
+/* Attaches a stage that waits for all of these stages, or for one of them, whatever their number. An attached stage has
+ * at most two sources. So the first stage that this call attaches gathers two of them, and each stage behind it one
+ * more: n stages are gathered by n - 1, at least one. The last of these is the root. It settles as one stage of this
+ * form with all of these sources would, unless another call settles one of the stages itself.
+ *   - step: as said above.
+ *   - sources, n: the n stages, in order, any of which may stand twice.
+ *   - told, room: a row, as said above.
+ *
+ * Codes. All stages are attached, or none is and nothing changes:
+ *   - CF_NO_SUCH_NUMBER: the form is another.
+ *   - CF_NO_WORD: step->who is above 63.
+ *   - CF_NO_STAGE: one of the n stages isn't there.
+ *   - CF_NO_ROOM: there isn't room for so many stages.
+ *   - CF_NO_MEMORY. */
+uint32_t cf_request_gather(cf_handle *request, cf_request_gathering *step, const uint16_t *sources, size_t n, cf_told *told, size_t room);
 
 /* What cf_request_next is asked, and how many stages there were to tell.
  *   - who: the caller, 0 to 63. Your program writes it.

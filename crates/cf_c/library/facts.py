@@ -24,6 +24,7 @@ LATER: Dict[str, str] = {
     **dict.fromkeys(["cf_request_new", "cf_request_apply", "cf_request_next", "cf_request_follow", "cf_request_deadline", "cf_request_pass",
                      "cf_request_next_deadline", "cf_request_refuse", "cf_request_told", "cf_request_ready"], "1.5"),
     **dict.fromkeys(["cf_request_cancel_all", "cf_request_restart", "cf_request_do"], "1.6"),
+    "cf_request_gather": "1.7",
     "cf_request_grow": "1.7",
     **dict.fromkeys(["cf_history_new", "cf_history_times", "cf_history_say", "cf_history_text"], "1.7"),
 }

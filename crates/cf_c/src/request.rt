@@ -2,6 +2,7 @@
 ghost use Rattle.cf_c_handles.specs.Building.{kind_of};
 ghost use Rattle.cf_c_handles.specs.Handles.{HandleDoes, HandleOpens, HandleTells, HandleWrites};
 ghost use Rattle.cf_c_handles.specs.RequestCalls.{AppliesIn, CancelsIn, FollowsIn, GoesOnIn, GrowsIn, OfRequest, PassesIn, RefusesIn, RestartsIn, SetsDeadlineIn, TellsIn, TellsNextIn, TellsReadyOf};
+ghost use Rattle.cf_c_handles.specs.RequestGathers.{GathersIn};
 ghost use Rattle.cf_c_handles.specs.RequestRows.{DoesCallsIn};
 ghost use Rattle.cf_c_handles.specs.Requests.{RequestOf};
 
@@ -9,10 +10,12 @@ use crate::handle::{ask, tell};
 use cf_c_handles::code::Code;
 use cf_c_handles::handle::{CfHandle, fill};
 use cf_c_handles::plan::kind_of;
-use cf_c_handles::request::{asking, doing, request_of, row};
+use cf_c_handles::request::{asking, doing, gathering, request_of, row};
 use cf_c_handles::values::CfValue;
 use cf_c_handles::values::call::{CfRequestCall, CfRequestDone};
-use cf_c_handles::values::request::{CfApplied, CfDeadline, CfRequestSizes, CfRequestStep, CfTold};
+use cf_c_handles::values::request::{
+    CfApplied, CfDeadline, CfRequestGathering, CfRequestSizes, CfRequestStep, CfTold,
+};
 use cf_c_handles::values::task::CfTask;
 use cf_request::Deadline;
 use std::alloc::Global;
@@ -51,6 +54,20 @@ pub extern "C" fn cf_request_apply(
     ensures { HandleWrites (AppliesIn word lane) h.old h.new result (applied.old, told.old) (applied.new, told.new) }
 {
     ask!(alloc, h, held => doing::apply(&mut held, word, lane, applied, told))
+}
+
+/// Attaches a stage that gathers these. Then it tells the stages that are settled.
+#[unsafe(no_mangle)]
+pub extern "C" fn cf_request_gather(
+    alloc: Global,
+    h: &mut CfHandle,
+    step: &mut CfRequestGathering,
+    sources: &[u16],
+    told: &mut [CfTold],
+) -> u32
+    ensures { HandleWrites (GathersIn sources.now) h.old h.new result (step.old, told.old) (step.new, told.new) }
+{
+    ask!(alloc, h, held => gathering::gather(&mut held, step, sources, told))
 }
 
 /// Finishes what a task holds with the answer in it. Then claims the next ready stage of the lane, gives it to the task, and tells the

@@ -8,6 +8,7 @@ ghost use Rattle.cf_c_handles.specs.Requests.{AreBelow, AreLanes, RequestOf, Tel
 
 pub mod asking;
 pub mod doing;
+pub mod gathering;
 pub mod row;
 
 use crate::code::Code;

@@ -39,8 +39,8 @@ pub fn a_row_begins_anew()
     ensures { BeginsAnew }
 {}
 
-/// If each of the stages that gather sources has what its two sources give, the root has what one stage of the form over
-/// all of them would have.
+/// If each of the stages that gather sources has what its two sources give, the root has what one stage of the form
+/// over all of them would have.
 pub fn stages_gather_as_one()
     ensures { GathersAsOne }
 {}

@@ -147,10 +147,10 @@ impl Machine {
         Ok(reply)
     }
 
-    /// A caller attaches a stage that gathers these sources, of which there may be any number: it settles as an allOf or an
-    /// anyOf of all of them would. The first stage gathers two of them, and each stage behind it one more. The last of
-    /// these is the root, which is told. Nothing else is done, and a row of calls that apply these words does the same. It
-    /// is refused for the first of: its caller's number, a source that isn't there, the room, memory.
+    /// A caller attaches a stage that gathers these sources, of which there may be any number: it settles as an allOf
+    /// or an anyOf of all of them would. The first stage gathers two of them, and each stage behind it one more. The
+    /// last of these is the root, which is told. Nothing else is done, and a row of calls that apply these words does
+    /// the same. It is refused for the first of: its caller's number, a source that isn't there, the room, memory.
     pub fn gather(&mut self, who: u8, how: Gathering, sources: &[u16]) -> Result<u16, LedgerFault>
         ensures done { IfOk result (λ root. Gathers who how sources.now self.old root self.new) }
         ensures written { OnOk result (self.new.teller.ledger.events ≡ self.old.teller.ledger.events

@@ -33,6 +33,17 @@ pub struct CfApplied {
     pub told: usize,
 }
 
+/// A gathering of a caller of a request. C says who gathers, and by which form. It is told the number of the root, and
+/// how many stages were to be told.
+#[repr(C)]
+#[derive(Clone, Copy)]
+pub struct CfRequestGathering {
+    pub who: u8,
+    pub form: u32,
+    pub root: u16,
+    pub told: usize,
+}
+
 /// A step of a caller of a request. C says who takes it, and in which lane. It is told how many stages were to be told.
 #[repr(C)]
 #[derive(Clone, Copy)]
