@@ -463,14 +463,7 @@ extern "C" {
     pub fn cf_ledger_restart(ledger: *mut cf_handle) -> u32;
     pub fn cf_request_new(plan: *mut cf_handle, sizes: *const cf_request_sizes, lanes: *const u8, n: usize, request: *mut cf_handle) -> u32;
     pub fn cf_request_apply(request: *mut cf_handle, word: u64, lane: u8, applied: *mut cf_applied, told: *mut cf_told, room: usize) -> u32;
-    pub fn cf_request_gather(
-        request: *mut cf_handle,
-        step: *mut cf_request_gathering,
-        sources: *const u16,
-        n: usize,
-        told: *mut cf_told,
-        room: usize,
-    ) -> u32;
+    pub fn cf_request_gather(request: *mut cf_handle, step: *mut cf_request_gathering, sources: *const u16, n: usize, told: *mut cf_told, room: usize) -> u32;
     pub fn cf_request_next(request: *mut cf_handle, step: *mut cf_request_step, task: *mut cf_task, told: *mut cf_told, room: usize) -> u32;
     pub fn cf_request_follow(request: *mut cf_handle, relay: u16, stage: u16, told: *mut cf_told, room: usize, n: *mut usize) -> u32;
     pub fn cf_request_deadline(request: *mut cf_handle, stage: u16, moment: u64, kind: u32, value: cf_value) -> u32;
@@ -482,14 +475,7 @@ extern "C" {
     pub fn cf_request_cancel_all(request: *mut cf_handle, who: u8, told: *mut cf_told, room: usize, n: *mut usize) -> u32;
     pub fn cf_request_grow(request: *mut cf_handle) -> u32;
     pub fn cf_request_restart(request: *mut cf_handle) -> u32;
-    pub fn cf_request_do(
-        request: *mut cf_handle,
-        calls: *mut cf_request_call,
-        n: usize,
-        done: *mut cf_request_done,
-        told: *mut cf_told,
-        room: usize,
-    ) -> u32;
+    pub fn cf_request_do(request: *mut cf_handle, calls: *mut cf_request_call, n: usize, done: *mut cf_request_done, told: *mut cf_told, room: usize) -> u32;
     pub fn cf_history_new(plan: *mut cf_handle, room: u16, words: *const u64, n: usize, history: *mut cf_handle) -> u32;
     pub fn cf_history_times(history: *mut cf_handle, times: *const u64, n: usize) -> u32;
     pub fn cf_history_say(history: *mut cf_handle, what: u32, text: *const u8, n: usize, ends: *const usize, count: usize) -> u32;
