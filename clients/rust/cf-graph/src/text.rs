@@ -47,7 +47,7 @@ pub fn outcome_text(outcome: Option<Outcome>) -> String {
 }
 
 /// The code of a call, and the text that it tells. It is made again where that needs more room.
-pub(crate) fn told(call: impl Fn(*mut u8, usize, *mut usize) -> u32) -> (u32, String) {
+pub(crate) fn told(mut call: impl FnMut(*mut u8, usize, *mut usize) -> u32) -> (u32, String) {
     let mut text = vec![0; 4096];
     loop {
         let mut length = 0;

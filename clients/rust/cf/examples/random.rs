@@ -5,8 +5,9 @@
 //! Each seed makes two requests, of which the one takes stages of the other. Eight threads attach stages of all forms, complete, fail, cancel
 //! and name them, let them time out and have bad answers, while four threads run their functions, which give values, return errors, panic, rest,
 //! wait for stages, or give futures. Three lines for each history, one of them taken in the midst of the race: the account, the script, and the
-//! report with tabs for ends of lines. At the end no stage may be ready or claimed, each has to have the error of the stage from which that came,
-//! and by the program CF_LOOK the first history has to become a page: else the status is 1.
+//! report with tabs for ends of lines. What callers were told has to come again on a ledger, which does the words of the history. At the end no
+//! stage may be ready or claimed, each has to have the error of the stage from which that came, and by the program CF_LOOK the first history has
+//! to become a page: else the status is 1.
 use cf::{Error, HandClock, Pool, Request, Spawn, Stage, SystemClock};
 use cf_graph::{Call, Cause, Event, Ledger, Outcome, PlanBuilder, State};
 use std::sync::Arc;

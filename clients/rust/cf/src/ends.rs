@@ -26,7 +26,7 @@ use std::time::Duration;
 /// request.supply(|| 49).wait().unwrap();
 /// drop(request);
 /// assert!(ends.flush(Duration::from_secs(60)));
-/// assert!(told.recv().unwrap().starts_with("parcel 5: 3 events, 1 stages; "));
+/// assert!(told.recv().unwrap().starts_with("parcel 5: 3 events, 1 stage in "));
 /// ```
 #[derive(Clone)]
 pub struct Ends(Arc<Shared>);

@@ -4,7 +4,9 @@ use crate::inner::SLOTS;
 use crate::record::Record;
 use crate::spawn::RELAY;
 use crate::word::{self, Form};
-use cf_graph::{Answer, Args, Claimed, Finished, Ledger as Words, Outcome, Plan, PlanBuilder, Refused, Reply, Request, RequestSizes, State, Told};
+use cf_graph::{
+    Answer, Args, Claimed, Finished, Ledger as Words, Outcome, Plan, PlanBuilder, Refused, Reply, Request, RequestSizes, State, Tale, Told,
+};
 use std::cell::RefCell;
 use std::sync::{Mutex, MutexGuard, PoisonError};
 
@@ -38,6 +40,14 @@ fn nothing() -> Result<MutexGuard<'static, Option<Plan>>, Refused> {
         *nothing = Some(PlanBuilder::new()?.build()?);
     }
     Ok(nothing)
+}
+
+/// What the words did, of which nothing is said yet.
+pub(crate) fn tale(words: &[u64], stages: u16) -> Result<Tale, Refused> {
+    match nothing()?.as_mut() {
+        Some(plan) => Tale::new(plan, stages, words),
+        None => Err(Refused::NO_MEMORY),
+    }
 }
 
 /// The words done again on a ledger of their own, whose replies and outcomes have to be those of the record.

@@ -82,6 +82,8 @@ mod error;
 mod help;
 mod history;
 mod inner;
+#[cfg(feature = "serde")]
+mod json;
 mod ledger;
 mod name;
 mod record;

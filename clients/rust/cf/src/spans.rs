@@ -1,5 +1,6 @@
 //! A history as OpenTelemetry's spans, which may be added to a file. Names and attributes are those of `cf_look trace --spans`.
-use crate::history::{quoted, History};
+use crate::describe::{escape, is_unseen};
+use crate::history::History;
 use crate::spawn::FIRST_WORKER;
 use crate::word::{self, Form, Parts, ATTACH, CLAIM, FINISH, LINKS, THROWS};
 use cf_graph::{Claimed, Finished, Outcome, Reply};
@@ -172,6 +173,20 @@ fn attribute(key: &str, value: &str) -> String {
     format!("{{\"key\":\"{key}\",\"value\":{{\"stringValue\":{}}}}}", quoted(value))
 }
 
+/// A JSON string, which is one line also for who takes other letters for the end of one.
+fn quoted(text: &str) -> String {
+    let mut quoted = String::from('"');
+    for letter in text.chars() {
+        match letter {
+            '"' => quoted += "\\\"",
+            '\\' => quoted += "\\\\",
+            letter if is_unseen(letter) => escape(&mut quoted, letter),
+            letter => quoted.push(letter),
+        }
+    }
+    quoted + "\""
+}
+
 fn nanoseconds(at: SystemTime) -> u128 {
     at.duration_since(UNIX_EPOCH).unwrap_or_default().as_nanos()
 }
@@ -282,7 +297,7 @@ impl<'a> Reading<'a> {
         match self.ends.get(&stage) {
             None => Status::Unset,
             Some(Outcome::Value(_)) => Status::Ok,
-            Some(fault) => Status::Error(self.history.failure(*fault)),
+            Some(Outcome::Fault { cause, .. }) => Status::Error(self.history.failure(*cause)),
         }
     }
 }

@@ -5,7 +5,6 @@ pub(crate) const FAIL: u64 = 2 << 56;
 pub(crate) const CANCEL: u64 = 3 << 56;
 pub(crate) const CLAIM: u64 = 4 << 56;
 pub(crate) const FINISH: u64 = 5 << 56;
-pub(crate) const TICK: u64 = 6 << 56;
 pub(crate) const ATTACH: u64 = 7 << 56;
 pub(crate) const FAIL_AS: u64 = 8 << 56;
 

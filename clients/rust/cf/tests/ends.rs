@@ -26,7 +26,7 @@ fn a_request_is_over_once_its_last_handle_is_dropped() {
         drop(stage);
         assert!(told.recv_timeout(LONG).unwrap().ends_with("ends: 2\n"));
         drop(Request::new("a promise", Inline).on_end(&ends).promise::<u32>());
-        assert!(told.recv_timeout(LONG).unwrap().starts_with("a promise: 1 events"));
+        assert!(told.recv_timeout(LONG).unwrap().starts_with("a promise: 1 event, 1 stage\n"));
         assert!(ends.flush(LONG) && told.try_recv().is_err());
     });
 }
@@ -37,7 +37,7 @@ fn the_last_ends_are_told() {
     drop(Request::new("a", Inline).on_end(&first).on_end(&second));
     assert!(first.flush(LONG) && second.flush(LONG));
     assert!(old.try_recv().is_err());
-    assert_eq!(new.try_recv().unwrap(), "a: 0 events, 0 stages");
+    assert_eq!(new.try_recv().unwrap(), "a: 0 events, 0 stages; 0 failed; 0 open");
 }
 
 #[test]

@@ -46,7 +46,7 @@ fn a_time_out_is_told_as_one() {
     assert_eq!((timed_out(&price), timed_out(&behind)), ((5, Some(0)), (5, Some(0))));
     assert_eq!(
         told(&failing)[2..],
-        ["clock times out 0 price", "0 price ends: timeout", "1 behind ends: timeout, passed on", "clock times out 0 price, too late",]
+        ["clock times out 0 price", "0 price ends: timed out", "1 behind ends: timed out, passed on", "clock times out 0 price: too late",]
     );
     let history = failing.history();
     assert_eq!(history.words()[2..], [8 << 56 | 1 << 48; 2]);
@@ -59,7 +59,7 @@ fn a_time_out_is_told_as_one() {
     assert!(account.contains(r#""errors":["timed out after 5s",""]"#), "{account}");
     is_done_again(&failing);
     let failing = failing.described(Describe::Nothing);
-    assert_eq!(told(&failing)[3], "0 price ends: timeout");
+    assert_eq!(told(&failing)[3], "0 price ends: timed out");
     assert!(failing.history().account().contains(r#""errors":["-",""]"#));
 }
 
@@ -81,11 +81,11 @@ fn a_bad_answer_is_told_as_one() {
             "caller fails 0 price with a bad answer",
             "0 price ends: a bad answer",
             "1 behind ends: a bad answer, passed on",
-            "caller fails 0 price with a bad answer, too late",
-            "caller times out 0 price, too late",
+            "caller fails 0 price with a bad answer: too late",
+            "caller times out 0 price: too late",
             "caller attaches 2 slow, source",
             "caller times out 2 slow",
-            "2 slow ends: timeout",
+            "2 slow ends: timed out",
         ]
     );
     let script = failing.history().script();
@@ -115,7 +115,7 @@ fn composed(failing: &Request, is_late: bool, ends: impl FnOnce(&Stage<i32>)) ->
 fn relays_end_as_what_they_stand_for() {
     for is_late in [false, true] {
         for (error, ends, raw) in [
-            (Error::TimedOut(seconds(5)), ["relay times out ", " ends: timeout"], "fault timeout raw"),
+            (Error::TimedOut(seconds(5)), ["relay times out ", " ends: timed out"], "fault timeout raw"),
             (Error::BadAnswer, ["relay fails ", " ends: a bad answer"], "fault badanswer raw"),
         ] {
             let text = error.to_string();

@@ -11,7 +11,7 @@ use std::sync::mpsc::channel;
 use std::sync::{Arc, Mutex};
 use std::thread;
 
-/// Ends of lines for somebody, controls, formats, and what this crate itself writes between events.
+/// Ends of lines for somebody, controls, formats, and what stands between the parts of a line.
 const ODD: &str = "a\n    0.000 ms  caller completes 9 b\r\u{85}\u{2028}\u{2029}\u{b}\u{c}\u{1b}[2K\u{202e}\u{200b}\u{e0041}; caller fails 9";
 
 /// A request all of whose texts are this one: its own name and a stage's, errors, a panic, names of relays, and what is said of a value.
@@ -30,8 +30,7 @@ fn with_texts(text: &'static str) -> Request {
 }
 
 fn has_odd(text: &str) -> bool {
-    let is_format = |letter| matches!(letter, '\u{200b}' | '\u{2028}' | '\u{2029}' | '\u{202e}' | '\u{e0041}');
-    text.chars().any(|letter| letter.is_control() || is_format(letter))
+    text.chars().any(|letter| letter.is_control() || matches!(letter, '\u{2028}' | '\u{2029}' | '\u{202e}'))
 }
 
 #[test]
@@ -41,7 +40,9 @@ fn no_text_looks_like_an_event() {
     let (lines, odd_lines) = (plain.to_string(), odd.to_string());
     assert_eq!(lines.split('\n').count(), odd_lines.split('\n').count());
     assert!(odd_lines.ends_with('\n') && odd_lines.split('\n').all(|line| !has_odd(line)), "{odd_lines:?}");
-    let escaped = r"a\n    0.000 ms  caller completes 9 b\r\u0085\u2028\u2029\u000b\u000c\u001b[2K\u202e\u200b\udb40\udc41; caller fails 9";
+    // What isn't seen, and neither ends a line nor turns it, stays.
+    let escaped =
+        r"a\n    0.000 ms  caller completes 9 b\r\u0085\u2028\u2029\u000b\u000c\u001b[2K\u202e".to_owned() + "\u{200b}\u{e0041}; caller fails 9";
     assert!(odd_lines.starts_with(&format!("{escaped}: ")) && odd_lines.contains(&format!("  caller attaches 0 {escaped}, supply\n")), "{odd_lines}");
 
     let (line, odd_line) = (plain.line(), odd.line());
@@ -50,7 +51,7 @@ fn no_text_looks_like_an_event() {
     assert_eq!(line.split(';').count(), odd_line.split(';').count());
     assert!(odd_line.contains(r"0.000 ms  caller completes 9 b\r"), "{odd_line}");
 
-    assert!(!has_odd(&format!("{odd:?}")));
+    assert!(!has_odd(&format!("{odd:?}")) && !format!("{odd:?}").contains('\u{200b}'));
     let account = odd.account();
     assert!(account.ends_with('\n') && !has_odd(account.trim_end()), "{account:?}");
     assert!(!has_odd(&odd.script()) && odd.comes_again());
@@ -64,12 +65,12 @@ fn what_reads_well_stays() {
     assert!(price.fail("no  stock; \\n"));
     let history = recorded.history();
     let told = history.to_string();
-    assert!(told.starts_with("C:\\orders;  17: 2 events, 1 stages\n"), "{told}");
+    assert!(told.starts_with("C:\\orders;  17: 2 events, 1 stage\n"), "{told}");
     assert!(told.contains("caller fails 0 prix en €;  日本 with no  stock; \\n\n"), "{told}");
     let line = history.line();
-    assert!(line.starts_with("C:\\orders\\u003b  17: 2 events, 1 stages; "), "{line}");
-    assert!(line.contains("; 0 prix en €\\u003b  日本 ends: no  stock\\u003b \\n"), "{line}");
-    assert_eq!(line.split("; ").count(), 4);
+    assert!(line.starts_with("C:\\orders\\u003b  17: 2 events, 1 stage in "), "{line}");
+    assert!(line.ends_with(" ms; 1 failed: 0 prix en €\\u003b  日本 by no  stock\\u003b \\n; 0 open"), "{line}");
+    assert_eq!(line.split("; ").count(), 3);
     assert_eq!(history.names(), ["prix en €;  日本"]);
     assert_eq!(format!("{price:?}"), "Stage(0 prix en €;  日本, error: no  stock; \\n)");
     assert_eq!(format!("{:?}", with_texts("a\nb").promise::<i32>().named("c\nd")), "Stage(9 c\\nd, pending)");
@@ -126,11 +127,12 @@ fn all_is_told_if_nothing_is_said() {
         let history = recorded.history();
         let told = ends(&history);
         assert_eq!(told[..2], ["0 token: \"secret token\"", "1 card: a value"]);
-        assert!(told[2].ends_with(": ()") && told[3] == "3 bytes: a value" && told[4] == "4 refused: secret card", "{told:?}");
+        assert!(told[2].ends_with(": nil") && told[3] == "3 bytes: a value" && told[4] == "4 refused: secret card", "{told:?}");
         assert_eq!(told[5], "5 panicked: a function panicked: secret 5");
-        assert!(history.line().contains("finishes 0 token, which gave \"secret token\"; 0 token ends: \"secret token\"; "));
+        assert!(history.line().ends_with(" ms; 3 failed: 4 refused by secret card; 0 open"), "{}", history.line());
+        assert!(history.to_string().contains("finishes 0 token, which gave \"secret token\"\n"));
         let account = history.account();
-        assert_eq!(member(&account, "values"), r#""\"secret token\"","a value","","a value","","","""#);
+        assert_eq!(member(&account, "values"), r#""\u0022secret token\u0022","a value","","a value","","","""#);
         assert_eq!(member(&account, "errors"), r#""","","","","secret card","a function panicked: secret 5","""#);
         assert_eq!(format!("{refused:?}"), "Stage(4 refused, error: secret card)");
     }
@@ -142,10 +144,10 @@ fn types_are_told_alone() {
     let history = recorded.history();
     let told = ends(&history);
     assert_eq!(told[..2], ["0 token: String of 12", "1 card: Card"]);
-    assert!(told[2].ends_with(": ()"), "{told:?}");
+    assert!(told[2].ends_with(": nil"), "{told:?}");
     assert_eq!(told[3..6], ["3 bytes: Vec<u8> of 3", "4 refused: Failed", "5 panicked: Panicked"]);
     let account = history.account();
-    assert_eq!(member(&account, "values"), r#""String of 12","Card","","Vec<u8> of 3","","","""#);
+    assert_eq!(member(&account, "values"), r#""String of 12","Card","","Vec\u003cu8\u003e of 3","","","""#);
     assert_eq!(member(&account, "errors"), r#""","","","","Failed","Panicked","""#);
     assert_eq!(format!("{refused:?}"), "Stage(4 refused, error: Failed)");
     assert!(texts(&history).iter().all(|text| !text.contains("secret")));
@@ -156,7 +158,9 @@ fn nothing_is_told() {
     let (recorded, refused) = secret(Some(Describe::Nothing));
     let history = recorded.history();
     let told = ends(&history);
-    assert!(told.iter().all(|line| line.trim_end_matches(", passed on").ends_with(": -")) && told.len() == 7, "{told:?}");
+    // The value of `()` has no number, and is nil to all.
+    let is_nothing = |line: &str| line.trim_end_matches(", passed on").ends_with(": -");
+    assert!(told.iter().enumerate().all(|(k, line)| is_nothing(line) || k == 2 && line.ends_with(": nil")) && told.len() == 7, "{told:?}");
     assert_eq!(member(&history.account(), "values"), r#""-","-","","-","","","""#);
     assert_eq!(member(&history.account(), "errors"), r#""","","","","-","-","""#);
     assert_eq!(format!("{refused:?}"), "Stage(4 refused, error: -)");
@@ -167,7 +171,6 @@ fn nothing_is_told() {
 fn a_function_says_what_is_told() {
     let describe = Describe::by(|ended| match ended {
         Ok(value) if value.is::<Card>() => "a\ncard".into(),
-        Ok(value) if value.is::<()>() => "unit".into(),
         Ok(_) => "v".repeat(70),
         Err(error) => error.downcast_ref::<Declined>().map_or(String::from("other"), |_| "declined;".into()),
     });
@@ -175,9 +178,9 @@ fn a_function_says_what_is_told() {
     let history = recorded.history();
     let told = ends(&history);
     assert_eq!(told[..2], [format!("0 token: {}", "v".repeat(70)), "1 card: a\\ncard".into()]);
-    assert!(told[2].ends_with(": unit"), "{told:?}");
+    assert!(told[2].ends_with(": nil"), "{told:?}");
     assert_eq!(told[4..6], ["4 refused: declined;", "5 panicked: other"]);
-    assert!(history.line().contains("; 4 refused ends: declined\\u003b; "));
+    assert!(history.line().contains(": 4 refused by declined\\u003b; "), "{}", history.line());
     assert_eq!(member(&history.account(), "errors"), r#""","","","","declined;","other","""#);
     assert_eq!(format!("{refused:?}"), "Stage(4 refused, error: declined;)");
     assert!(texts(&history).iter().all(|text| !text.contains("secret")));
@@ -216,7 +219,7 @@ fn what_cannot_be_told_is_a_question_mark() {
     let history = recorded.history();
     let told: Vec<String> = whole(|| ends(&history)).iter().map(|line| line.split_once(": ").unwrap().1.into()).collect();
     assert_eq!(told, ["?", "?", "a function panicked: something that isn't text"]);
-    assert_eq!(member(&history.account(), "errors"), r#""?","?","a function panicked: something that isn't text""#);
+    assert_eq!(member(&history.account(), "errors"), r#""?","?","a function panicked: something that isn\u0027t text""#);
     assert_eq!((format!("{panics:?}"), fails.wait().is_err()), ("Stage(0 histories.rs:".to_owned() + &line_of(&panics) + ", error: ?)", true));
     match unread.wait() {
         Err(Error::Panicked(panic)) => assert_eq!(panic.take_payload().unwrap().downcast_ref::<u8>(), Some(&17)),
@@ -326,13 +329,13 @@ fn what_is_late_and_what_never_came_is_told() {
         told[4..9],
         [
             "0 price ends: a value",
-            "caller completes 0 price, too late",
-            "caller fails 0 price, too late",
-            "caller cancels 0 price, too late",
+            "caller completes 0 price with a value: too late",
+            "caller fails 0 price with an error: too late",
+            "caller cancels 0 price: too late",
             "caller attaches 3 gate, source",
         ]
     );
-    assert!(told.iter().any(|line| line.ends_with(" finishes 4 slow, too late")), "{told:?}");
+    assert!(told.iter().any(|line| line.ends_with(" finishes 4 slow, which gave a value: too late")), "{told:?}");
     assert_eq!(history.words().len(), 13);
     assert_eq!(history.times().count(), 13);
     assert_eq!(member(&history.account(), "outcomes"), r#""value 0","pending","pending","value 3","fault cancelled raw""#);
@@ -344,6 +347,58 @@ fn what_is_late_and_what_never_came_is_told() {
     assert_eq!(behind.wait().unwrap(), 2);
     assert_eq!(texts(&history), before);
     assert!(recorded.history().to_string().contains("2 behind ends: 2"));
+}
+
+/// Nobody keeps what came too late, and it isn't told as what the stage has.
+#[test]
+fn what_is_late_is_not_told_as_what_won() {
+    let recorded = Request::new("late", Inline);
+    let (price, card) = (recorded.promise::<i32>().named("price"), recorded.promise::<i32>().named("card"));
+    price.complete(49).unwrap();
+    assert!(price.complete(50).is_err() && !price.fail("no price"));
+    assert!(card.fail("declined") && !card.fail("stolen") && card.complete(51).is_err());
+    let none = recorded.promise::<()>().named("none");
+    none.complete(()).unwrap();
+    assert!(none.complete(()).is_err());
+    let history = recorded.history();
+    let told = history.to_string();
+    let late: Vec<&str> = told.lines().filter_map(|line| line.strip_suffix(": too late")).map(|line| &line[14..]).collect();
+    let price = ["caller completes 0 price with a value", "caller fails 0 price with an error"];
+    let card = ["caller fails 1 card with an error", "caller completes 1 card with a value"];
+    assert_eq!(late, [&price[..], &card[..], &["caller completes 2 none with nil"]].concat());
+    assert_eq!(told.matches(" 49\n").count(), 2);
+    // The words themselves stay.
+    assert_eq!(history.words()[2], history.words()[3]);
+    assert!(history.account().contains(&format!("\"{0}\",\"{0}\"", history.words()[2])));
+    assert_eq!(member(&history.account(), "values"), r#""49","","""#);
+}
+
+/// An error is told as it is, but cut in lines. So is the name of a stage in an account.
+#[test]
+fn long_texts_are_cut() {
+    let recorded = Request::new("long", Inline);
+    let stage = recorded.promise::<i32>().named("n".repeat(70));
+    assert!(stage.fail("e".repeat(61)));
+    let history = recorded.history();
+    let (lines, cut) = (history.to_string(), "e".repeat(57) + "...");
+    assert!(lines.ends_with(&format!(" ends: {cut}\n")) && lines.contains(&format!(" 0 {},", "n".repeat(70))), "{lines}");
+    assert!(history.line().ends_with(&format!(" by {cut}; 0 open")), "{}", history.line());
+    assert_eq!(member(&history.account(), "errors"), format!("\"{}\"", "e".repeat(61)));
+    assert_eq!(member(&history.account(), "names"), format!("\"{}\"", "n".repeat(64)));
+}
+
+/// The account says which stages of a request stand in for others of it.
+#[test]
+fn an_account_has_relays() {
+    let recorded = Request::new("relays", Inline);
+    let gate = recorded.promise::<i32>();
+    let by = recorded.clone();
+    let composed = gate.clone().compose(move |_| by.supply(|| 5));
+    assert!(!recorded.history().account().contains("relays\":"));
+    gate.complete(1).unwrap();
+    assert_eq!(composed.wait().unwrap(), 5);
+    let account = recorded.history().account();
+    assert!(account.ends_with("],\"relays\":[[1,3]]}\n"), "{account}");
 }
 
 /// A history is taken and told in the midst of what threads do.
