@@ -1,11 +1,12 @@
-/* The library's requests as native methods of cf.service.Machine, and its plans as those of cf.service.Native.
+/* The library's requests as native methods of cf.service.Machine, and its plans and histories as those of cf.service.Native.
  *
  * A core is a request of the library (docs/REQUEST.md) with a block of memory that Java reads and writes by a direct buffer, so that one
  * crossing does some words and brings back the reply, the stages that were settled, and those whose functions are to be called. Its caller
  * has it alone: that is a request's lock. A core whose request is closed keeps what it has, and starts again for the next one of its plan.
  *
  * What the library is owed (docs/C.md), and where it is met:
- *   - a handle isn't copied: each stands in the one block of its core or plan, which isn't moved, and is 0 until it is filled;
+ *   - a handle isn't copied: each stands in the one block of its core or plan, which isn't moved, and is 0 until it is filled; those of a
+ *     history and its plan stand in the one call that has them;
  *   - one call at a time has a handle: a core's by its request's lock (Machine.java), a plan's by the lock beside it, since threads open
  *     requests of one plan at once. Both locks order what different threads do, and so does the atomic by which Machine's pool hands a core on;
  *   - nothing is freed while it is used, or twice: who calls keeps the core's owner reachable, and Freed.java frees what can't be reached, once;
@@ -559,12 +560,8 @@ CALL(jint, words)(JNIEnv *env, jclass class, jlong at, jlongArray into, jint fro
   return CF_OK;
 }
 
-/* Plans: rows of form, to which 256 is added where an executor calls the stage's function; function or -1; count of sources;
- * sources. The fault's code, negated, or the plan. */
-METHOD(jlong, plan)(JNIEnv *env, jclass class, jintArray rows) {
-  (void)class;
-  struct plan *plan = calloc(1, sizeof *plan);
-  if (!plan) return -CF_NO_MEMORY;
+/* Builds a plan of rows: form, to which 256 is added where an executor calls the stage's function; function or -1; count of sources; sources. */
+static uint32_t build(JNIEnv *env, jintArray rows, struct plan *plan) {
   jsize n = (*env)->GetArrayLength(env, rows);
   jint *row = (*env)->GetIntArrayElements(env, rows, NULL);
   uint32_t code = row ? cf_builder_new(&plan->handle, 0, 0) : CF_NO_MEMORY;
@@ -583,8 +580,16 @@ METHOD(jlong, plan)(JNIEnv *env, jclass class, jintArray rows) {
   }
   if (row) (*env)->ReleaseIntArrayElements(env, rows, row, JNI_ABORT);
   if (code == CF_OK) code = cf_build(&plan->handle);
+  if (code != CF_OK) cf_free(&plan->handle);
+  return code;
+}
+
+/* The plan of these rows, or the fault's code, negated. */
+METHOD(jlong, plan)(JNIEnv *env, jclass class, jintArray rows) {
+  (void)class;
+  struct plan *plan = calloc(1, sizeof *plan);
+  uint32_t code = plan ? build(env, rows, plan) : CF_NO_MEMORY;
   if (code != CF_OK) {
-    cf_free(&plan->handle);
     free(plan);
     return -(jlong)code;
   }
@@ -603,6 +608,75 @@ static void free_plan(struct plan *plan) {
 METHOD(void, forget)(JNIEnv *env, jclass class, jlong plan) {
   (void)env, (void)class;
   free_plan(PLAN(plan));
+}
+
+/* Histories. One is made, told once and freed within one call. */
+
+/* Says all texts, which stand one behind the other: of each CF_SAY_.. in its order how many there are, and how many bytes each has. */
+static uint32_t say_all(cf_handle *history, const uint8_t *text, size_t n, const jint *lengths, size_t count) {
+  size_t *ends = malloc((count + 1) * sizeof *ends), at = 0;
+  uint32_t code = ends ? CF_OK : CF_NO_MEMORY;
+  for (uint32_t what = CF_SAY_NAME; what <= CF_SAY_ERRORS && at < count && code == CF_OK; what++) {
+    size_t texts = (size_t)lengths[at++], bytes = 0;
+    if (texts > count - at) code = CF_TOO_MANY;
+    for (size_t k = 0; k < texts && code == CF_OK; k++) {
+      size_t length = (size_t)lengths[at++];
+      if (length > n - bytes) code = CF_BAD_TEXT;
+      else ends[k] = bytes += length;
+    }
+    if (code == CF_OK) code = cf_history_say(history, what, text, bytes, ends, texts);
+    text += bytes, n -= bytes;
+  }
+  free(ends);
+  return code;
+}
+
+/* The whole text. A buffer of this room is tried first. */
+static uint32_t tell(JNIEnv *env, cf_handle *history, uint32_t kind, size_t room, jobjectArray told) {
+  uint8_t *text = malloc(room);
+  size_t length = 0;
+  uint32_t code = text ? cf_history_text(history, kind, text, room, &length) : CF_NO_MEMORY;
+  if (code == CF_OK && length > room) {
+    uint8_t *more = length > INT32_MAX ? NULL : realloc(text, length);
+    if (more) text = more;
+    code = more ? cf_history_text(history, kind, text, length, &length) : CF_NO_MEMORY;
+  }
+  jbyteArray bytes = code == CF_OK ? (*env)->NewByteArray(env, (jsize)length) : NULL;
+  if (bytes) {
+    (*env)->SetByteArrayRegion(env, bytes, 0, (jsize)length, (const jbyte *)text);
+    (*env)->SetObjectArrayElement(env, told, 0, bytes);
+  }
+  free(text);
+  return code;
+}
+
+/* What words did to the plan of these rows, with so many nanoseconds for each word, or none, and with what is said, as say_all has it. The
+ * one place of `told` gets the text. Where the heap has no room for that, an OutOfMemoryError is thrown. */
+METHOD(jint, tale)(JNIEnv *env, jclass class, jintArray rows, jint room, jlongArray words, jlongArray times, jbyteArray texts, jintArray lengths,
+                   jint kind, jobjectArray told) {
+  (void)class;
+  cf_handle history = {0};
+  if (room > MOST || room < 0) return CF_ROOM;
+  struct plan *plan = calloc(1, sizeof *plan);
+  if (!plan) return CF_NO_MEMORY;
+  jsize n = (*env)->GetArrayLength(env, words), timed = (*env)->GetArrayLength(env, times);
+  jlong *word = (*env)->GetLongArrayElements(env, words, NULL), *time = word ? (*env)->GetLongArrayElements(env, times, NULL) : NULL;
+  jbyte *text = time ? (*env)->GetByteArrayElements(env, texts, NULL) : NULL;
+  jint *length = text ? (*env)->GetIntArrayElements(env, lengths, NULL) : NULL;
+  uint32_t code = length ? build(env, rows, plan) : CF_NO_MEMORY;
+  if (code == CF_OK) code = cf_history_new(&plan->handle, (uint16_t)room, (const uint64_t *)word, (size_t)n, &history);
+  if (code == CF_OK) code = cf_history_times(&history, (const uint64_t *)time, (size_t)timed);
+  if (code == CF_OK)
+    code = say_all(&history, (const uint8_t *)text, (size_t)(*env)->GetArrayLength(env, texts), length, (size_t)(*env)->GetArrayLength(env, lengths));
+  if (length) (*env)->ReleaseIntArrayElements(env, lengths, length, JNI_ABORT);
+  if (text) (*env)->ReleaseByteArrayElements(env, texts, text, JNI_ABORT);
+  if (time) (*env)->ReleaseLongArrayElements(env, times, time, JNI_ABORT);
+  if (word) (*env)->ReleaseLongArrayElements(env, words, word, JNI_ABORT);
+  if (code == CF_OK) code = tell(env, &history, (uint32_t)kind, 4096 + 256 * (size_t)n, told);
+  cf_free(&history);
+  cf_free(&plan->handle);
+  free(plan);
+  return (jint)code;
 }
 
 JNIEXPORT void JNICALL JNI_OnUnload(JavaVM *vm, void *reserved) {

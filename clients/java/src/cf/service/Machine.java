@@ -46,7 +46,7 @@ final class Machine {
     private static final AtomicInteger LIVE = new AtomicInteger();
     private static final int MANY = 8192, BYTES = 8192;
     private static byte[] ballast;
-    /** Whether histories also compare what was told with what is told where the words are done again; for tests. */
+    /** Whether histories have what was told, which tests compare with what is told where the words are done again. */
     static final boolean WITNESSED = Boolean.getBoolean("cf.witness");
 
     static {
@@ -160,6 +160,7 @@ final class Machine {
     /** A plan of the library; it is freed once no request needs it. */
     static final class Plan {
         final long at;
+        final int[] rows;
         final int stages;
         /** How many stages there may be by and by: two edges are set aside for each that is attached. */
         final int most;
@@ -171,6 +172,7 @@ final class Machine {
                 throw refusal((int) -made);
             }
             at = made;
+            this.rows = rows;
             this.stages = stages;
             most = Math.min(MOST_STAGES, stages + (MOST_EDGES - edges) / 2);
             pool = new Pool(stages);
@@ -378,7 +380,7 @@ final class Machine {
         return witness == null ? null : witness.toArray(new int[0][]);
     }
 
-    private static Error refusal(int code) {
+    static Error refusal(int code) {
         return code == Native.NO_MEMORY ? noMemory() : new AssertionError("the library refused with code " + code);
     }
 

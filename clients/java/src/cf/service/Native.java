@@ -38,6 +38,12 @@ final class Native {
 
     static native void forget(long plan);
 
+    /**
+     * What words did to the plan of these rows, as a text of a kind of {@link Tale}, which gets the place of {@code told}. The texts stand one
+     * behind the other, and of each {@link Tale.Said} their number and lengths in bytes. There are times for all words, or none. A code.
+     */
+    static native int tale(int[] rows, int room, long[] words, long[] times, byte[] texts, int[] lengths, int kind, byte[][] told);
+
     static native String version();
 
     private static void loadLibrary() {

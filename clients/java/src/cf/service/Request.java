@@ -358,7 +358,7 @@ public final class Request implements AutoCloseable {
         return name;
     }
 
-    /** All that happened until now. It costs the doing again of all words, some microseconds, once it is read. */
+    /** All that happened until now. Each text of it costs the doing again of all words, some microseconds. */
     public History history() {
         History history;
         synchronized (machine) {

@@ -53,8 +53,8 @@ public final class SpanFile implements Consumer<History> {
                 : "{\"timeUnixNano\":\"" + span.end() + "\",\"name\":\"exception\",\"attributes\":[" + attributes(span.thrown()) + "]}";
         String links = span.sources().stream().map(source -> "{\"traceId\":\"" + trace + "\",\"spanId\":\"" + number(source) + "\"}")
                 .collect(Collectors.joining(","));
-        String message = span.message().isEmpty() ? "" : ",\"message\":" + History.quoted(span.message());
-        return "{\"traceId\":\"" + trace + "\",\"spanId\":\"" + number(span.stage()) + "\"" + parent + ",\"name\":" + History.quoted(span.name())
+        String message = span.message().isEmpty() ? "" : ",\"message\":" + quoted(span.message());
+        return "{\"traceId\":\"" + trace + "\",\"spanId\":\"" + number(span.stage()) + "\"" + parent + ",\"name\":" + quoted(span.name())
                 + ",\"kind\":1,\"startTimeUnixNano\":\"" + span.start() + "\",\"endTimeUnixNano\":\"" + span.end() + "\",\"attributes\":["
                 + attributes(span.attributes()) + "],\"events\":[" + thrown + "],\"links\":[" + links + "],\"status\":{\"code\":"
                 + span.status().ordinal() + message + "}}";
@@ -71,6 +71,22 @@ public final class SpanFile implements Consumer<History> {
 
     private static String attribute(String key, Object value) {
         return "{\"key\":\"" + key + "\",\"value\":{"
-                + (value instanceof Integer ? "\"intValue\":\"" + value + "\"" : "\"stringValue\":" + History.quoted((String) value)) + "}}";
+                + (value instanceof Integer ? "\"intValue\":\"" + value + "\"" : "\"stringValue\":" + quoted((String) value)) + "}}";
+    }
+
+    /** A string of JSON, of one line wherever it is shown. Half of a surrogate pair, which no UTF-8 has, becomes the replacement character. */
+    private static String quoted(String text) {
+        StringBuilder quoted = new StringBuilder("\"");
+        for (int k = 0, c; k < text.length(); k += Character.charCount(c)) {
+            c = text.codePointAt(k);
+            if (c == '"' || c == '\\' || Text.isHidden(c)) {
+                for (char half : Character.toChars(c)) {
+                    quoted.append(String.format("\\u%04x", (int) half));
+                }
+            } else {
+                quoted.appendCodePoint(Character.getType(c) == Character.SURROGATE ? '\ufffd' : c);
+            }
+        }
+        return quoted.append('"').toString();
     }
 }

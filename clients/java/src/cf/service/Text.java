@@ -1,5 +1,8 @@
 package cf.service;
 
+import java.nio.charset.StandardCharsets;
+import java.util.function.IntPredicate;
+
 /** Texts of users, as they are told: none can look like a further line or event, nor turn what stands beside it around. */
 final class Text {
     private Text() {}
@@ -16,17 +19,22 @@ final class Text {
         }
     }
 
+    /** With control and format characters, separators of lines, and halves of surrogate pairs written as JSON does. */
     static String escaped(String text) {
-        return escaped(text, -1);
+        return escaped(text, c -> isHidden(c) || isHalf(c));
     }
 
-    /** With control and format characters, separators of lines, halves of surrogate pairs and this character written as JSON does. */
-    static String escaped(String text, int also) {
+    /** In UTF-8, which has no halves of surrogate pairs: they are written as JSON does. The library escapes all else. */
+    static byte[] utf8(String text) {
+        return escaped(text, Text::isHalf).getBytes(StandardCharsets.UTF_8);
+    }
+
+    private static String escaped(String text, IntPredicate which) {
         StringBuilder escaped = null;
         for (int k = 0, wide; k < text.length(); k += wide) {
             int c = text.codePointAt(k);
             wide = Character.charCount(c);
-            boolean is = c == also || isHidden(c) || Character.getType(c) == Character.SURROGATE;
+            boolean is = which.test(c);
             if (is && escaped == null) {
                 escaped = new StringBuilder(text.length() + 16).append(text, 0, k);
             }
@@ -46,6 +54,10 @@ final class Text {
     static boolean isHidden(int c) {
         int type = Character.getType(c);
         return type == Character.CONTROL || type == Character.FORMAT || type == Character.LINE_SEPARATOR || type == Character.PARAGRAPH_SEPARATOR;
+    }
+
+    private static boolean isHalf(int c) {
+        return Character.getType(c) == Character.SURROGATE;
     }
 
     /** At most so many characters, and no half of a surrogate pair where it is cut. */

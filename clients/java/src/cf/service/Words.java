@@ -50,6 +50,11 @@ final class Words {
         return head(ATTACH, who, first) | (long) sources << 32 | (long) form.ordinal() << 24 | (long) second << 12 | function;
     }
 
+    /** The same event, of another caller. */
+    static long by(int who, long word) {
+        return word & ~(0xffL << 48) | (long) who << 48;
+    }
+
     private static final String[] NAMES = {"", "complete", "fail", "cancel", "claim", "finish", "tick", "attach", "failAs"};
 
     /** Its call's name in scripts. */

@@ -51,6 +51,9 @@ public final class AllTests {
         test("one call", HistoriesTest::oneCall);
         test("histories", HistoriesTest::histories);
         test("pages", HistoriesTest::pages);
+        test("what the library tells", TaleTest::told);
+        test("texts of all kinds", TaleTest::texts);
+        test("tales that are refused", TaleTest::refused);
         test("what is told now", AskingTest::toldNow);
         test("texts of stages", HistoriesTest::texts);
         test("interrupts", AskingTest::interrupts);

@@ -4,6 +4,7 @@ import java.lang.reflect.Proxy;
 import java.nio.file.Files;
 import java.nio.file.Path;
 import java.nio.file.Paths;
+import java.util.Arrays;
 import java.util.Objects;
 import java.util.concurrent.CompletableFuture;
 import java.util.concurrent.CompletionStage;
@@ -89,6 +90,12 @@ final class Checks {
         }
         Request.tell(news);
         return did;
+    }
+
+    /** What each stage holds, as reports have it: "pending", "value 3", "fault cancelled raw". */
+    static String[] ends(History history) {
+        String[] lines = history.report().split("\n");
+        return Arrays.stream(lines).skip(history.events()).map(line -> line.replaceFirst("^stage [0-9]+ ", "")).toArray(String[]::new);
     }
 
     /** MB of memory that the process has. */

@@ -142,9 +142,9 @@ final class MachineTest {
                 + "stage 0 fault badanswer raw\nstage 1 pending\nstage 2 fault timeout raw\n");
         String said = history.toString();
         is(said.contains("main fails 0 source with a bad answer\n") && said.contains("0 source ends: a bad answer\n"), true);
-        is(said.contains("main claims 1 handle and is granted, with a bad answer\n"), true);
+        is(said.contains("main claims 1 handle and calls it with a bad answer\n"), true);
         is(said.contains("main times out 2 source\n") && said.contains("2 source ends: timed out\n"), true);
-        is(said.contains("main fails 2 source with a bad answer, too late\n"), true);
+        is(said.contains("main fails 2 source with a bad answer: too late\n"), true);
         machine.rest(null);
     }
 

@@ -21,10 +21,11 @@ import java.util.function.Function;
 /**
  * Random requests that eight threads race on: attaching stages of all forms, also behind stages of another request, which may
  * time out, and behind other futures, settling, cancelling, timing out, asking and waiting. Half of them are of a flow. A line is
- * written for the request and one for the other: account, script, report. What an account can't tell is checked here: that a
- * stage once seen settled stays so, that all are settled at the end, and that each shows what its history says it holds.
+ * written for the request and one for the other: account, script, report. What an account can't tell is checked here: that it has
+ * what callers were told, that a stage once seen settled stays so, that all are settled at the end, and that each shows what its history
+ * says it holds.
  *
- * <p>{@code RandomRequests FIRST COUNT}
+ * <p>{@code -Dcf.witness=true RandomRequests FIRST COUNT}
  */
 public final class RandomRequests {
     private static final int THREADS = 8, STEPS = 12;
@@ -65,6 +66,7 @@ public final class RandomRequests {
 
     public static void main(String[] args) throws Exception {
         PrintWriter out = new PrintWriter(new BufferedWriter(new OutputStreamWriter(System.out, StandardCharsets.UTF_8)));
+        Checks.is(Machine.WITNESSED, true);
         long first = Long.parseLong(args[0]);
         for (long seed = first; seed < first + Integer.parseInt(args[1]); seed++) {
             try {
@@ -108,7 +110,7 @@ public final class RandomRequests {
         outside.complete("outside");
         foreign.complete("foreign");
         settle();
-        shown(request.history());
+        shown(Checks.ends(request.history()));
         tell(request.history(), out);
         tell(other.history(), out);
         if (seed % 3 == 0) {
@@ -129,12 +131,12 @@ public final class RandomRequests {
         }
     }
 
-    private void shown(History history) {
+    private void shown(String[] ends) {
         for (Stage<Object> stage : new ArrayList<>(made)) {
             if (stage.request() != request) {
                 continue;
             }
-            String end = history.end(stage.number());
+            String end = ends[stage.number()];
             String wanted = stage.isCancelled() ? "fault cancelled raw" : stage.isCompletedExceptionally() ? "fault"
                     : stage.getNow(null) == null ? "value nil" : "value ";
             if (!end.startsWith(wanted) || wanted.equals("value ") && end.equals("value nil")
@@ -156,6 +158,7 @@ public final class RandomRequests {
     }
 
     private static void tell(History history, PrintWriter out) {
+        Replies.compare(history);
         out.println(history.account() + "\t" + history.script() + "\t" + history.report().replace('\n', '|'));
     }
 

@@ -77,9 +77,9 @@ final class TimeoutsTest {
         is(asked.toString().endsWith(": 0 asked: Completed exceptionally: java.util.concurrent.TimeoutException]"), true);
         History history = timed.history();
         String said = history.toString();
-        is(said.contains("the clock times out 0 asked\n") && said.contains("0 asked ends: timed out\n"), true);
-        is(said.contains("1 behind ends: timed out, wrapped\n"), true);
-        is(said.contains("claims 2 handle and is granted, with a timeout\n"), true);
+        is(said.contains("clock times out 0 asked\n") && said.contains("0 asked ends: timed out\n"), true);
+        is(said.contains("1 behind ends: timed out, passed on\n"), true);
+        is(said.contains("claims 2 handle and calls it with timed out\n"), true);
         is(history.line().contains("; 2 failed: 0 asked by timed out; 0 open"), true);
         is(history.script().startsWith("{\"cf\":3,\"room\":4,") && history.script().contains("[\"failAs\",0,\"timeout\"]"), true);
         String report = history.report();
@@ -100,7 +100,7 @@ final class TimeoutsTest {
         is(timeOut(firstTimed) && timeOut(secondTimed), true);
         is(timeOut(done) || timeOut(firstTimed) || firstTimed.complete(1) || firstTimed.cancel(true), false);
         is(firstTimed.exceptionNow() == secondTimed.exceptionNow() && firstTimed.exceptionNow() != why, true);
-        is(otherTimed.history().toString().contains("the clock times out 2 source, too late\n"), true);
+        is(otherTimed.history().toString().contains("clock times out 2 source: too late\n"), true);
         is(otherTimed.history().report().endsWith("\ntrue\ntrue\nfalse\nfalse\nfalse\nfalse\n"
                 + "stage 0 fault timeout raw\nstage 1 fault timeout raw\nstage 2 value 0\n"), true);
         // A flow's stage, and what is behind a minimal one.
@@ -115,7 +115,7 @@ final class TimeoutsTest {
     }
 
     private static String end(Stage<?> timedStage) {
-        return timedStage.request().history().end(timedStage.number());
+        return Checks.ends(timedStage.request().history())[timedStage.number()];
     }
 
     /** A relay of a stage that timed out ends so, too, where nobody is told another exception for it. */
@@ -140,7 +140,7 @@ final class TimeoutsTest {
             for (Stage<?> each : behindTimed) {
                 is(thrown(CompletionException.class, each::join).getCause().getClass(), TimeoutException.class);
                 is(end(each), "fault timeout wrapped");
-                is(each.request().history().toString().contains("a relay times out "), true);
+                is(each.request().history().toString().contains("relay times out "), true);
             }
             Throwable told = ((Faults.Fault) of.told).error;
             is(adopted.handle((x, error) -> wrapped ? error == told : error.getClass() == TimeoutException.class).join(), true);
@@ -180,7 +180,7 @@ final class TimeoutsTest {
             is(each.getClass(), wrapped ? CompletionException.class : TimeoutException.class);
         }
         is(end(passed), "fault timeout wrapped");
-        is(timed.next().history().toString().split("a relay times out ", -1).length - 1, wrapped ? 2 : 6);
+        is(timed.next().history().toString().split("relay times out ", -1).length - 1, wrapped ? 2 : 6);
     }
 
     /** What a function gave stands behind its stage in the request, and is settled later, or by then. */
@@ -198,7 +198,13 @@ final class TimeoutsTest {
             is(each.exceptionNow() == slow.exceptionNow(), true);
             is(end(each), "fault timeout wrapped");
         }
-        is(timed.history().toString().split("a relay times out ", -1).length - 1, 2);
+        History history = timed.history();
+        is(history.toString().split("relay times out ", -1).length - 1, 2);
+        // Its lines alone say whose the words are: they are told as they are.
+        String account = history.account();
+        for (long word : history.words()) {
+            is(account.contains("\"" + word + "\""), true);
+        }
     }
 
     /**
@@ -267,7 +273,7 @@ final class TimeoutsTest {
         }, run -> new Thread(run, "slow").start()).completeOnTimeout("early", 20, TimeUnit.MILLISECONDS);
         is(slow.join(), "early");
         go.countDown();
-        while (!timed.history().toString().contains("slow finishes 0 supply, which gave late, too late")) {
+        while (!timed.history().toString().contains("slow finishes 0 supply, which gave late: too late")) {
             Thread.sleep(1);
         }
         is(slow.join(), "early");

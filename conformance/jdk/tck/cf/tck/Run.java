@@ -1,5 +1,6 @@
 package cf.tck;
 
+import cf.service.Replies;
 import cf.service.Request;
 import java.io.PrintWriter;
 import java.nio.file.Files;
@@ -13,7 +14,7 @@ import junit.framework.TestSuite;
 
 /**
  * Runs an adapted JUnit 3 class: a line for each test that fails, and the sums. The account, the script and the report of each request go
- * to a file, a line each, as conformance/clients/java-service judges them.
+ * to a file, a line each, as conformance/clients/java-service judges them, once they are what a machine answers.
  */
 public final class Run {
     private static int failed, requests, events, stages, furthest;
@@ -38,6 +39,7 @@ public final class Run {
                         stages += history.stages();
                         furthest = Math.max(furthest, history.stages());
                         if (accounts != null && history.events() > 0) {
+                            Replies.compare(history);
                             accounts.println(history.account() + "\t" + history.script() + "\t" + history.report().replace('\n', '|'));
                         }
                         request.close();
