@@ -126,7 +126,12 @@ const CANCEL_2: u64 = 0x0300002000000000;
 const GATHERS: [Step; 11] = [
     Step::Gather(64, Gathering::AllOf, &[7], Err(LedgerFault::NoEvent)),
     Step::Gather(7, Gathering::AllOf, &[0, 1, 7], Err(LedgerFault::NoStage)),
-    Step::Gather(7, Gathering::AllOf, &[0, 1, 2, 3, 0], Err(LedgerFault::NoRoom)),
+    Step::Gather(
+        7,
+        Gathering::AllOf,
+        &[0, 1, 2, 3, 0],
+        Err(LedgerFault::NoRoom),
+    ),
     Step::Len(0),
     Step::Gather(7, Gathering::AllOf, &[0, 1, 2, 1], Ok(9)),
     Step::Gather(7, Gathering::AnyOf, &[], Err(LedgerFault::NoRoom)),
