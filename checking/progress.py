@@ -15,8 +15,9 @@ from typing import IO, Callable, Dict, Iterator, Optional, Set
 
 from checking import costs
 from checking.costs import Cost
-from checking.crates import TOP, own
+from checking.crates import TOP, below, own
 
+FIRST = "cf_core"  # the crates that it stands on are proved first: they stand on one another, and nearly all others stand on them
 OTHER = Cost(proof=100, tests=100)  # of a crate that isn't in the table
 CALLERS = 120  # seconds, for the rows that are left when rt ci ends
 EVERY = 30  # seconds from one line to the next
@@ -141,15 +142,34 @@ class Gate:
         return f"check: {so_far}, edits of {edits} of {len(with_edits)} begun; {share}% after {elapsed / 60:.0f} min, about {more / 60:.0f} min more"
 
 
+def prove_first() -> None:
+    """Runs rt ci until it has proved the crates below FIRST, which it keeps, or has failed to. It isn't told how many checks to do at a time,
+    so it gives idle processors to a proof that is running."""
+    gate, awaited = Gate(), set(below(FIRST, own())[:-1])
+    with subprocess.Popen(["rt", "ci"], cwd=str(TOP), stdout=subprocess.PIPE) as running:
+        try:
+            for line in lines_of(running.stdout):
+                if line is not None:
+                    print(line, flush=True)
+                    gate.take(line)
+                if awaited <= gate.proved or "NOT PROVED" in (line or ""):
+                    break
+        finally:
+            running.terminate()
+            running.stdout.read()  # until it has ended, so that what it still writes has a reader
+
+
 def run_gate(tell: Callable[[str], object]) -> int:
     """Runs rt ci over the checkout, prints what it prints, and answers its status; rt ci ends when this does. `tell` is called with the name
-    of each crate once it is proved, and built if it is a program."""
-    gate, began = Gate(), time.monotonic()
-    told = began
+    of each crate once it is proved, and built if it is a program. If rt kept no proof, an rt ci that is told how many checks to do at a time
+    follows one that isn't, since the latter is quicker for the first crates and slower for the rest."""
     environment = dict(os.environ)
     jobs = at_once(AMPLE)
     if jobs == len(os.sched_getaffinity(0)) and not keeps_proofs():
+        prove_first()
         environment.setdefault("RT_JOBS", str(jobs + 1))  # one more, so that no processor rests while a long proof ends
+    gate, began = Gate(), time.monotonic()
+    told = began
     with subprocess.Popen(["rt", "ci"], cwd=str(TOP), env=environment, stdout=subprocess.PIPE) as running:
         try:
             for line in lines_of(running.stdout):
