@@ -16,7 +16,10 @@
  *   request_claim, request_finish the same words by cf_request_apply, with the reply and what is told
  *   request_next, request_idle    cf_request_next; a stage. One of them that finds nothing
  *   request_deadline              cf_request_deadline, where the deadline before it is to be forgotten
+ *   request_do                    these words in one row by cf_request_do; a word
+ *   request_grow                  cf_request_grow behind them, which does them again in twice the room; a word
  *   request_attach, request_run   over one source: a chain of 16 that is attached, by cf_request_apply, and run, by cf_request_next; a stage
+ *   request_gather                cf_request_gather of 17 of these stages, before they are run; a stage that it attaches
  *   graph_claim, graph_finish     cf_claim and cf_finish_with
  *   apply_claim, apply_finish       the same as words by cf_apply
  *   graph_ready, graph_get        the lowest ready stage asked for before each claim; the outcome of each stage
@@ -161,6 +164,19 @@ COUNTED request_run(cf_handle *request) {
   while (cf_request_next(request, &turn, &task, told, 4) == CF_OK) task.answer = answer(&task.args);
 }
 
+COUNTED request_do(cf_handle *request, cf_request_call *calls) {
+  cf_request_done done;
+  MUST(cf_request_do(request, calls, WORDS - 1, &done, told, 4));
+}
+
+COUNTED request_grow(cf_handle *request) { MUST(cf_request_grow(request)); }
+
+COUNTED request_gather(cf_handle *request, const uint16_t *sources) {
+  cf_request_gathering step = {.who = ME, .form = CF_ALL_OF};
+  MUST(cf_request_gather(request, &step, sources, CHAINED + 1, told, 4));
+  must_be(step.root == 2 * CHAINED, "a gathering's root");
+}
+
 /* A request whose first stage is completed. */
 static cf_handle open_request(cf_handle *plan, uint16_t stages, uint16_t room) {
   static const uint8_t lanes[STAGES];
@@ -172,13 +188,20 @@ static cf_handle open_request(cf_handle *plan, uint16_t stages, uint16_t room) {
 }
 
 static void count_chained(void) {
-  cf_handle plan = plan_of(SOURCES, 1), request = open_request(&plan, 1, CHAINED);
+  cf_handle plan = plan_of(SOURCES, 1), request = open_request(&plan, 1, 2 * CHAINED);
+  uint16_t sources[CHAINED + 1];
+  for (uint16_t i = 0; i <= CHAINED; i++) sources[i] = i;
   for (uint16_t i = 0; i < CHAINED; i++)
     request_attach(&request, word_of((cf_event){.call = CF_CALL_ATTACH, .form = CF_APPLY, .sources = 1, .first = i}));
   request_run(&request);
   must_be(told[0].stage == CHAINED, "the end of a chain");
+  cf_free(&request);
+  request = open_request(&plan, 1, 2 * CHAINED);
+  for (uint16_t i = 0; i < CHAINED; i++)
+    MUST(cf_request_apply(&request, word_of((cf_event){.call = CF_CALL_ATTACH, .form = CF_APPLY, .sources = 1, .first = i}), 0, &applied, told, 4));
+  request_gather(&request, sources);
   cf_free(&request), cf_free(&plan);
-  say("request_attach", CHAINED), say("request_run", CHAINED);
+  say("request_attach", CHAINED), say("request_run", CHAINED), say("request_gather", CHAINED);
 }
 
 static void count_request(cf_handle *plan) {
@@ -199,8 +222,14 @@ static void count_request(cf_handle *plan) {
     MUST(cf_request_apply(&request, words[2 * i], 0, &applied, told, 4));
   }
   cf_free(&request);
+  request = open_request(plan, STAGES, 0);
+  static cf_request_call calls[WORDS - 1];
+  for (int i = 1; i < WORDS; i++) calls[i - 1] = (cf_request_call){.call = CF_DO_APPLY, .word = words[i]};
+  request_do(&request, calls);
+  request_grow(&request);
+  cf_free(&request);
   say("request_claim", APPLIES), say("request_finish", APPLIES), say("request_next", APPLIES), say("request_idle", 1);
-  say("request_deadline", APPLIES);
+  say("request_deadline", APPLIES), say("request_do", WORDS - 1), say("request_grow", WORDS);
   count_chained();
 }
 
