@@ -60,7 +60,7 @@ class _Reading:
             number: (form, of) for number, (form, of, _) in enumerate(history.planned)}
         self.claims: Dict[int, Entry] = {}
         self.finishes: Dict[int, Entry] = {}
-        self.ends: Dict[int, Told] = dict(history._told.get(0, []))
+        self.ends: Dict[int, Told] = dict(history.start())
         self.inner: Set[int] = set()  # stages for which another one waits, or that a function attached
         for entry in history.entries():
             self.ends.update(entry.told)

@@ -2,18 +2,23 @@
 import json
 from typing import Any, Dict, List, Optional, Tuple
 
-from ..service._plain import PlanCore
+from ..plan import Plan
 from ..service.flow import Flow
-from ..service.words import COMPOSE_FORMS, FORMS, FORMS_WITHOUT_FUNCTION
-from ..values import Refused
+from ..service.words import COMPOSE_FORMS, FORMS, FORMS_WITHOUT_FUNCTION, Told
+from ..values import Form, Refused
 from .functions import Functions, said_of
+from .ledgers import StoredLedger
 from .rows import Broken
 
 FORMAT = 3  # of plans in stores, beside those of scripts
 
 
 class SharedPlan:
-    """A plan that was read: what it says of each stage, and the same for the library."""
+    """A plan that was read: what it says of each stage, and the same for the library.
+
+    Attributes:
+        rows: Form, sources, function or None, and name of each stage.
+        start: How far each has come in a new ledger, and what it came to."""
 
     def __init__(self, text: str, name: str) -> None:
         try:
@@ -23,16 +28,20 @@ class SharedPlan:
             self.flow = str(read["flow"])
             self.said: List[Dict[str, Any]] = [said_in(it, number) for number, it in enumerate(read["stages"])]
             forms = [FORMS.index(it["form"]) for it in self.said]
-            rows = [(form, tuple(it.get("of", [])), None if form in FORMS_WITHOUT_FUNCTION else _nobody,
-                     str(it["name"])) for form, it in zip(forms, self.said)]
-            self.core = PlanCore(rows)
+            self.rows: List[Tuple[int, Tuple[int, ...], Any, str]] = [
+                (form, tuple(it.get("of", [])), None if form in FORMS_WITHOUT_FUNCTION else _nobody, str(it["name"]))
+                for form, it in zip(forms, self.said)]
+            self._plan = Plan()
+            for number, (form, of, call, _) in enumerate(self.rows):
+                self._plan.stage(Form(form), *of, function=None if call is None else number)
+            ledger = self.ledger(0)
+            self.start: List[Tuple[int, Told]] = [ledger.stage(number) for number in range(len(self.rows))]
         except (ValueError, KeyError, TypeError, Refused) as error:
             raise Broken(name, 0, f"its plan can't be read: {error!r}") from None
 
-    @property
-    def rows(self) -> List[Tuple[int, Tuple[int, ...], Any, str]]:
-        """Form, sources, function or None, and name of each stage."""
-        return self.core.rows
+    def ledger(self, room: int) -> StoredLedger:
+        """A new ledger of it, with room for so many stages more."""
+        return StoredLedger(self._plan, len(self.rows), room)
 
 
 def said_in(read: Any, number: int) -> Dict[str, Any]:
