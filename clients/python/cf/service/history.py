@@ -129,6 +129,7 @@ class History:
             (form, of, call is not None) for form, of, call, _ in rows]
         self._times = _numbers("q", times)
         self._since = time.time_ns() - time.monotonic_ns()  # when the clock of the times was at 0
+        self._opened: Optional[int] = None  # in nanoseconds since 1970, where the first event doesn't tell it
         self._entries: Optional[List[Entry]] = None
         self._start: Optional[List[Tuple[int, Told]]] = None
 

@@ -84,7 +84,8 @@ class _Reading:
     def spans(self) -> Iterator[Span]:
         if not self.moments:
             return
-        yield Span(_whole(self.history.name), self.moments[0], self.moments[-1], {}, (), *self._last(), None)
+        start = self.moments[0] if self.history._opened is None else min(self.history._opened, self.moments[0])
+        yield Span(_whole(self.history.name), start, self.moments[-1], {}, (), *self._last(), None)
         for stage in sorted(self.claims):
             yield self._span(stage)
 

@@ -45,13 +45,14 @@ class Done(NamedTuple):
 
 
 class RowHistory(History):
-    """A row's history: it has no times, and numbers that sessions had as callers. `sessions` are those of its words,
-    and `named` what some of them are called in the request."""
+    """A row's history: it has no times that it tells, and numbers that sessions had as callers. `sessions` are those
+    of its words, and `named` what some of them are called in the request."""
 
     def __init__(self, name: str, plan: SharedPlan, facts: Any, sessions: Sequence[int],
-                 named: Optional[Mapping[int, str]] = None) -> None:
+                 named: Optional[Mapping[int, str]] = None, opened: Optional[float] = None) -> None:
         super().__init__(name, plan, facts)
         self._sessions, self._named = sessions, named or {}
+        self._opened = None if opened is None else int(opened * 1e9)
 
     def caller(self, who: int) -> str:
         """What a caller is called: all the names that sessions of its number have."""
@@ -91,10 +92,11 @@ class RowView:
         session: The session whose view it is.
         patience: For how many seconds the store may be silent, before `Unknown` is raised.
         note: Told of each answer that this view got; for tests.
-        host: Has the clock and what comes by chance."""
+        host: Has the clock and what comes by chance.
+        is_timed: Whether it remembers when it noticed each word."""
 
     def __init__(self, store: Store, opened: Opened, session: int, patience: float = 60,
-                 note: Optional[Callable[..., None]] = None, host: Host = HOST) -> None:
+                 note: Optional[Callable[..., None]] = None, host: Host = HOST, is_timed: bool = False) -> None:
         self.store: Store = store
         self.name: str = opened.name
         self.session: int = session
@@ -117,6 +119,7 @@ class RowView:
         self.ready: Set[int] = {number for number, kind in enumerate(self.kinds) if kind == IS_READY}
         self.words: "array[int]" = array("Q")
         self._sessions = array("Q")
+        self._times: "Optional[array[int]]" = array("q") if is_timed else None
         self.who: int = -1
         self.lost = self.unknown = 0
         self._numbers: Dict[int, int] = {}
@@ -265,6 +268,8 @@ class RowView:
             raise Broken(self.name, self.place, f"the word {word} can't be done: {refused}") from None
         reply, place = tuple(self._ledger.reply), self.place
         self.words.append(word)
+        if self._times is not None:
+            self._times.append(int(self._host.monotonic() * 1e9))
         session = token >> COUNT_BITS
         self._sessions.append(session)
         self._numbers.setdefault(who, session)
@@ -378,6 +383,13 @@ class RowView:
                                           lambda given: said_in(json.loads(given.decode()), stage))
         return self._said[stage]
 
+    def carried(self, stage: int) -> Dict[str, Any]:
+        """What of the context of the place where a stage was attached goes along with its function."""
+        if stage < len(self.plan.said):
+            return self.plan.carried
+        found: Dict[str, Any] = self.said(stage).get("context", {})
+        return found
+
     def look_up(self, stages: Iterable[int]) -> None:
         """Reads what is said of these stages, as far as it isn't known, in one call. What can't be read is left to
         `said`, which tells so. `Unknown` at once where the store is silent."""
@@ -444,6 +456,7 @@ class RowView:
                 return unread(error)
         with lock:
             words, sessions, many = self.words[:], self._sessions[:], len(self.forms)
+            times = array("q", [0] * len(words)) if self._times is None else self._times[:]
         found = self._payloads([place for place, word in enumerate(words, 1) if _names(word)])
         values_: List[Any] = [None] * (len(words) + 1)
         errors: List[BaseException] = [RuntimeError("no payload")] * (len(words) + 1)
@@ -453,9 +466,9 @@ class RowView:
             (errors if is_error else values_)[place] = told_by(lambda: self._reading(place, given, reader))
         self.sure(lambda: self.look_up(range(many)))
         names = [str(told_by(lambda: self.said(number)["name"])) for number in range(many)]
-        facts = (words, array("q", [0] * len(words)), names, values_, errors)
+        facts = (words, times, names, values_, errors)
         named: Dict[int, str] = self.sure(lambda: self.store.session_names(self.name, self.opened.number))
-        return RowHistory(self.name, self.plan, facts, sessions, named)
+        return RowHistory(self.name, self.plan, facts, sessions, named, self.opened.opened)
 
     def open_claims(self) -> Dict[int, int]:
         """The stages whose function runs somewhere: claimed and not settled, with the session that has it."""

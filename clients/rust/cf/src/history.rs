@@ -10,7 +10,7 @@ use crate::name::Made;
 use crate::record::{Item, Record};
 use crate::spawn::{CALLER, CLOCK, FIRST_WORKER, RELAY};
 use crate::value::Val;
-use crate::word::{self, COMPLETE, FAIL, FINISH, SOME, THROWS};
+use crate::word::{self, ATTACH, COMPLETE, FAIL, FINISH, SOME, THROWS};
 use cf_graph::{Cause, Finished, Outcome, Refused, Reply, Said, Telling};
 use std::ffi::OsStr;
 use std::fmt;
@@ -304,14 +304,15 @@ impl History {
 
     fn try_told(&self, telling: Telling) -> Result<String, Refused> {
         let is_for_people = matches!(telling, Telling::Lines | Telling::Line);
-        let mut tale = tale(&if is_for_people { self.words_apart() } else { self.words.clone() }, self.names.len() as u16)?;
+        let words = if is_for_people { self.words_apart() } else { self.words.clone() };
+        let mut tale = tale(&words, self.names.len() as u16)?;
         if matches!(telling, Telling::Script | Telling::Report) {
             return tale.text(telling);
         }
         tale.times(&self.times().map(|at| at.as_nanos() as u64).collect::<Vec<_>>())?;
         tale.say(Said::Name, [&self.name])?;
         tale.say(Said::Stages, &self.names)?;
-        tale.say(Said::Callers, self.callers())?;
+        tale.say(Said::Callers, callers(&words))?;
         let (shown, lost) = (if is_for_people { shortly } else { wholly }, |text: &str| is_for_people.then(|| text.to_owned()));
         tale.say(Said::Values, texts(&self.values, |value| Describe::All.tell(Ok(value))).chain(lost(A_VALUE)))?;
         tale.say(Said::Errors, texts(&self.errors, shown).chain(lost(AN_ERROR)))?;
@@ -319,7 +320,7 @@ impl History {
     }
 
     /// The words, of which those that came too late name no value and no error of a stage, since nobody keeps theirs: the number in them is the one
-    /// behind those of all stages.
+    /// behind those of all stages. What settles a relay of this request is a relay's, though the machine does it as the clock.
     fn words_apart(&self) -> Vec<u64> {
         let lost = self.names.len() as u64;
         let replies = self.record.items().filter_map(|item| match item {
@@ -335,13 +336,24 @@ impl History {
                 _ => word,
             }
         };
-        self.words.iter().zip(replies).map(apart).collect()
+        let mut is_relay = vec![false; self.names.len()];
+        self.relays.iter().for_each(|(relay, _)| is_relay[usize::from(*relay)] = true);
+        let by_relay = |word| {
+            let parts = word::parts(word);
+            let is_relays = parts.who == CLOCK && parts.kind != ATTACH && is_relay[usize::from(parts.stage)];
+            if is_relays {
+                word::by(RELAY, word)
+            } else {
+                word
+            }
+        };
+        self.words.iter().zip(replies).map(apart).map(by_relay).collect()
     }
+}
 
-    /// What the callers are called, up to the last that did something.
-    fn callers(&self) -> Vec<String> {
-        self.words.iter().map(|word| word::parts(*word).who).max().map_or(Vec::new(), |last| (0..=last).map(caller).collect())
-    }
+/// What the callers are called, up to the last that did something.
+fn callers(words: &[u64]) -> Vec<String> {
+    words.iter().map(|word| word::parts(*word).who).max().map_or(Vec::new(), |last| (0..=last).map(caller).collect())
 }
 
 impl fmt::Display for History {

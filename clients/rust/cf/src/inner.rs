@@ -10,7 +10,7 @@ use crate::error::{Error, Refusal};
 use crate::ledger::{Hangs, Ledger};
 use crate::name::Made;
 use crate::slot::{Held, Slot};
-use crate::spawn::RELAY;
+use crate::spawn::{CLOCK, RELAY};
 use crate::task::Task;
 use crate::value::{Call, Gave, Given, Val};
 use crate::wakers::Wakers;
@@ -24,6 +24,7 @@ use std::collections::BTreeMap;
 use std::mem::{replace, take};
 use std::sync::{Arc, Weak};
 use std::task::Waker;
+use std::time::Duration;
 
 /// How many stages a request's first memory is for, at most; it grows like any row.
 pub(crate) const SLOTS: u16 = 64;
@@ -50,6 +51,53 @@ pub(crate) struct Inner {
     extras: BTreeMap<u16, Extra>,
     /// Relays that are of no use any more, and are to be cancelled before the lock is free.
     letting: Vec<u16>,
+    pub(crate) awaited: Awaited,
+}
+
+/// The alarm that the clock is to ring at the first of the machine's deadlines.
+pub(crate) struct Awaited {
+    /// The number of the last alarm for which the clock was asked.
+    number: u64,
+    /// Its moment, or [`NEVER`] where it isn't wanted any more.
+    moment: u64,
+    /// How many stages that aren't settled have deadlines.
+    stages: u16,
+    /// What stops its timer, once dropped.
+    #[cfg(feature = "tokio")]
+    pub(crate) timer: Option<Box<dyn Any + Send>>,
+}
+
+const NEVER: u64 = u64::MAX;
+
+impl Awaited {
+    fn nothing() -> Awaited {
+        Awaited {
+            number: 0,
+            moment: NEVER,
+            stages: 0,
+            #[cfg(feature = "tokio")]
+            timer: None,
+        }
+    }
+
+    /// Whether it is this alarm.
+    pub(crate) fn is_for(&self, number: u64) -> bool {
+        self.number == number && self.moment != NEVER
+    }
+
+    /// The alarm isn't wanted any more. Its moment.
+    fn stop(&mut self, _after: &mut After) -> u64 {
+        #[cfg(feature = "tokio")]
+        _after.dropped.extend(self.timer.take().map(Held::Timer));
+        replace(&mut self.moment, NEVER)
+    }
+}
+
+/// A deadline of a stage, and what the stage gets then: a value, or that its time ran out after this while.
+struct Limit {
+    moment: u64,
+    wait: Duration,
+    gives: Option<Val>,
 }
 
 #[derive(Default)]
@@ -61,11 +109,7 @@ pub(crate) struct Extra {
     pub(crate) of: Option<(Weak<Core>, u16)>,
     /// Relays that are of no use once it is settled.
     lets_go: Vec<u16>,
-    /// Values that it gets by alarms, and their numbers.
-    values: Vec<(u16, Val)>,
-    /// What stops timers, once dropped.
-    #[cfg(feature = "tokio")]
-    timers: Vec<Box<dyn Any + Send>>,
+    limits: Vec<Limit>,
 }
 
 /// What a request holds that may have other requests.
@@ -91,6 +135,8 @@ pub(crate) struct After {
     /// A stage of another request, and the relay that is settled and stands for it.
     pub(crate) ends: Vec<(Weak<Core>, u16, u16)>,
     pub(crate) jobs: usize,
+    /// The alarm for which the clock is to be asked, and after which while it is to be rung.
+    pub(crate) alarm: Option<(u64, Duration)>,
 }
 
 /// A relay of another request, and what it is to be settled with.
@@ -121,7 +167,7 @@ impl After {
     #[inline]
     pub(crate) fn is_empty(&self) -> bool {
         let ends = self.tasks.is_empty() && self.feeds.is_empty() && self.links.is_empty() && self.ends.is_empty();
-        self.jobs == 0 && self.wakers.is_empty() && self.dropped.is_empty() && ends
+        self.jobs == 0 && self.wakers.is_empty() && self.dropped.is_empty() && ends && self.alarm.is_none()
     }
 }
 
@@ -140,6 +186,7 @@ impl Inner {
             is_more: false,
             extras: BTreeMap::new(),
             letting: Vec::new(),
+            awaited: Awaited::nothing(),
         })
     }
 
@@ -215,6 +262,28 @@ impl Inner {
         }
     }
 
+    /// Attaches a row of stages, of which the last is given. Each is attached by an event, which settles no other one.
+    pub(crate) fn gather(&mut self, who: u8, form: cf_graph::Form, of: &[u16], made: Made, after: &mut After) -> Result<u16, Refusal> {
+        let first = self.ledger.stages;
+        let root = self.ledger.gather(who, form, of, &mut after.told)?;
+        let (mut hangs, mut shown) = (Hangs::new(), 0);
+        for stage in first..=root {
+            self.slots.push(Slot::new(made, None));
+            self.ledger.gathered(stage);
+            if shown < after.told.len() && after.told.at(shown).0 == stage {
+                self.settled(stage, after.told.at(shown).1, &mut hangs, after);
+                shown += 1;
+            }
+        }
+        Ok(root)
+    }
+
+    /// Cancels all that isn't settled: each stage by an event of its own, but for those that end as one that is cancelled.
+    pub(crate) fn cancel_all(&mut self, who: u8, after: &mut After) {
+        self.ledger.cancel_all(who, &mut after.told);
+        self.show_by(after, |_, _, outcome, _| outcome == Outcome::Fault { cause: Cause::Cancelled, wrapped: false });
+    }
+
     pub(crate) fn settle(&mut self, who: u8, stage: u16, with: Result<Val, Error>, after: &mut After) -> Result<(), Result<Val, Error>> {
         let number = u64::from(stage);
         let (kind, tail, holds) = match with {
@@ -260,15 +329,21 @@ impl Inner {
         }
     }
 
-    /// Shows which stages the last call settled. A relay that follows is settled by the machine alone, by an event of its own, and is the lowest
-    /// stage that this settles.
+    /// Shows which stages the last call settled.
     #[inline]
     fn show(&mut self, after: &mut After) {
+        self.show_by(after, |_, _, _, _| false);
+    }
+
+    /// Shows which stages the last call settled. It has done an event more for each relay that follows, and for those stages of which this holds:
+    /// each is the lowest one that its event settles.
+    #[inline]
+    fn show_by(&mut self, after: &mut After, has_event: impl Fn(&mut Inner, u16, Outcome, &mut After) -> bool) {
         let mut hangs = Hangs::new();
         for at in 0..after.told.len() {
             let (stage, outcome) = after.told.at(at);
-            if self.ledger.followed(stage).is_some() {
-                self.ledger.relayed();
+            if self.ledger.followed(stage).is_some() || has_event(self, stage, outcome, after) {
+                self.ledger.settled();
             }
             self.settled(stage, outcome, &mut hangs, after);
         }
@@ -315,9 +390,13 @@ impl Inner {
     fn settled_extra(&mut self, stage: u16, after: &mut After) {
         let extra = self.extras.remove(&stage).unwrap_or_default();
         after.tasks.extend(extra.task);
-        after.dropped.extend(extra.values.into_iter().map(|(_, value)| Held::Value(value)));
-        #[cfg(feature = "tokio")]
-        after.dropped.extend(extra.timers.into_iter().map(Held::Timer));
+        if !extra.limits.is_empty() {
+            after.dropped.extend(extra.limits.into_iter().filter_map(|limit| limit.gives).map(Held::Value));
+            self.awaited.stages -= 1;
+            if self.awaited.stages == 0 {
+                self.awaited.stop(after);
+            }
+        }
         self.letting.extend(extra.lets_go);
         after.ends.extend(extra.of.map(|(of, number)| (of, number, stage)));
         for (to, relay) in extra.feeds {
@@ -343,29 +422,80 @@ impl Inner {
         }
     }
 
-    /// Keeps a value that an alarm is to give. Its number.
-    pub(crate) fn keep_for(&mut self, stage: u16, value: Val) -> u16 {
-        let values = &mut self.extra(stage).values;
-        let number = values.last().map_or(0, |last| last.0 + 1);
-        values.push((number, value));
-        number
-    }
+    // Deadlines.
 
-    /// The value that an alarm is to give, unless the stage is settled.
-    pub(crate) fn kept_for(&mut self, stage: u16, number: u16) -> Option<Result<Val, Error>> {
-        let values = &mut self.extras.get_mut(&stage)?.values;
-        let at = values.iter().position(|value| value.0 == number)?;
-        Some(Ok(values.remove(at).1))
-    }
-
-    /// Keeps what stops a timer, or gives it back where the stage is settled.
-    #[cfg(feature = "tokio")]
-    pub(crate) fn keep_timer(&mut self, stage: u16, timer: Box<dyn Any + Send>) -> Option<Box<dyn Any + Send>> {
+    /// Sets a deadline of a stage. A value that it is to get then is given back where the stage is settled.
+    pub(crate) fn limit(&mut self, stage: u16, wait: Duration, gives: Option<Val>, after: &mut After) -> Option<Val> {
         if self.slot(stage).is_settled() {
-            return Some(timer);
+            return gives;
         }
-        self.extra(stage).timers.push(timer);
+        let moment = u64::try_from(wait.as_nanos()).map_or(NEVER, |wait| self.ledger.now.saturating_add(wait));
+        self.ledger.deadline(stage, moment, gives.is_some());
+        let limits = &mut self.extra(stage).limits;
+        let is_first = limits.is_empty();
+        limits.push(Limit { moment, wait, gives });
+        self.awaited.stages += u16::from(is_first);
+        self.await_alarm(moment, after);
         None
+    }
+
+    /// Has the clock asked for an alarm at a moment, unless it is to ring one before.
+    fn await_alarm(&mut self, moment: u64, after: &mut After) {
+        if moment < self.awaited.moment {
+            self.awaited.stop(after);
+            self.awaited.number += 1;
+            self.awaited.moment = moment;
+            let wait = Duration::from_nanos(moment.saturating_sub(self.ledger.now));
+            after.alarm = Some((self.awaited.number, wait));
+        }
+    }
+
+    /// An alarm is rung: time passes up to its moment. Then the next one is asked for.
+    pub(crate) fn rung(&mut self, alarm: u64, after: &mut After) {
+        if !self.awaited.is_for(alarm) {
+            return;
+        }
+        let moment = self.awaited.stop(after);
+        self.ledger.pass(moment, &mut after.told);
+        self.show_by(after, Inner::came_due);
+        if let Some(next) = self.ledger.next_deadline() {
+            self.await_alarm(next, after);
+        }
+    }
+
+    /// Whether a stage was settled by a deadline of its own, and not by what another stage has. Then what it got by that is held.
+    fn came_due(&mut self, stage: u16, outcome: Outcome, after: &mut After) -> bool {
+        let gives = match outcome {
+            Outcome::Value(Value::Int(number)) if number == i32::from(stage) => true,
+            Outcome::Fault { cause: Cause::TimedOut, wrapped: false } => false,
+            _ => return false,
+        };
+        let limits = self.extras.get_mut(&stage).map(|extra| &mut extra.limits);
+        let of_its_kind = limits.into_iter().flatten().filter(|limit| limit.gives.is_some() == gives);
+        // The first of those that were set for one moment.
+        let held = of_its_kind.min_by_key(|limit| limit.moment).map(|limit| match limit.gives.take() {
+            Some(value) => Held::Value(value),
+            None => Held::Error(Box::new(Error::TimedOut(limit.wait))),
+        });
+        let came_due = held.is_some();
+        if let Some(held) = held {
+            self.hold(stage, held, after);
+        }
+        came_due
+    }
+
+    /// An alarm is never rung, so the stages fail that have deadlines.
+    pub(crate) fn never_rung(&mut self, alarm: u64, after: &mut After) {
+        if !self.awaited.is_for(alarm) {
+            return;
+        }
+        self.awaited.stop(after);
+        let limited: Vec<u16> = self.extras.iter().filter(|(_, extra)| !extra.limits.is_empty()).map(|(stage, _)| *stage).collect();
+        for stage in limited {
+            if !self.slot(stage).is_settled() {
+                let _ = self.settle(CLOCK, stage, Err(Refusal::NoClock.into()), after);
+            }
+        }
     }
 
     // Working.

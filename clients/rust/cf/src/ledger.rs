@@ -2,10 +2,11 @@
 use crate::error::Refusal;
 use crate::inner::SLOTS;
 use crate::record::Record;
-use crate::spawn::RELAY;
+use crate::spawn::CLOCK;
 use crate::word::{self, Form};
 use cf_graph::{
-    Answer, Args, Claimed, Finished, Ledger as Words, Outcome, Plan, PlanBuilder, Refused, Reply, Request, RequestSizes, State, Tale, Told,
+    Answer, Args, Claimed, Finished, Ledger as Words, Limit, Outcome, Plan, PlanBuilder, Refused, Reply, Request, RequestSizes, State, Tale, Told,
+    Value,
 };
 use std::cell::RefCell;
 use std::sync::{Mutex, MutexGuard, PoisonError};
@@ -27,6 +28,8 @@ pub(crate) struct Ledger {
     pub(crate) record: Record,
     /// The moment of all that is done, in nanoseconds since the request began.
     pub(crate) now: u64,
+    /// The last moment up to which time has passed for deadlines.
+    passed: u64,
 }
 
 /// Of each stage whether it is a source, and the stages that it hangs on: its sources, and the one to which a finish linked it.
@@ -78,7 +81,7 @@ impl Ledger {
     pub(crate) fn new(room: u16) -> Result<Ledger, Refusal> {
         let room = room.clamp(1, MOST_STAGES);
         let (room, machine) = kept(room).map_or_else(|| opened(room).map(|machine| (room, machine)), Ok).map_err(|_| Refusal::NoLedger)?;
-        Ok(Ledger { machine: Some(machine), room, stages: 0, relays: Vec::new(), record: Record::of_stages(room.min(SLOTS)), now: 0 })
+        Ok(Ledger { machine: Some(machine), room, stages: 0, relays: Vec::new(), record: Record::of_stages(room.min(SLOTS)), now: 0, passed: 0 })
     }
 
     #[inline]
@@ -123,8 +126,31 @@ impl Ledger {
         self.relays.iter().find(|it| it.0 == relay).map(|it| it.1)
     }
 
-    /// Writes down that the machine has settled a relay.
-    pub(crate) fn relayed(&mut self) {
+    /// Sets a deadline of a stage, at which that gets the value of its own number, or times out.
+    pub(crate) fn deadline(&mut self, stage: u16, moment: u64, gives: bool) {
+        let limit = if gives { Limit::Give(Value::Int(i32::from(stage))) } else { Limit::Timeout };
+        self.machine().deadline(stage, moment, limit).expect("memory for a deadline");
+    }
+
+    /// Lets time pass up to a moment. A clock may have told of a later one by now.
+    pub(crate) fn pass(&mut self, moment: u64, told: &mut Told) {
+        let passed = self.passed.max(moment);
+        self.passed = passed;
+        self.machine().pass(passed, told).expect("memory for what is due");
+    }
+
+    /// The moment of the deadline that comes next.
+    pub(crate) fn next_deadline(&mut self) -> Option<u64> {
+        self.machine().next_deadline().expect("the machine is there").map(|next| next.moment)
+    }
+
+    /// Cancels all stages that are open.
+    pub(crate) fn cancel_all(&mut self, who: u8, told: &mut Told) {
+        self.machine().cancel_all(who, told).expect("memory for words");
+    }
+
+    /// Writes down an event by which a call settled a stage, beside the one that it was asked for.
+    pub(crate) fn settled(&mut self) {
         self.record.event(self.now, Reply::Flag(true));
     }
 
@@ -164,6 +190,26 @@ impl Ledger {
         self.record.event(now, applied.expect("memory for a word"));
         self.stages = number + 1;
         Ok(number)
+    }
+
+    /// Attaches stages that wait for all of these or for one of them, and gives the number of the last.
+    pub(crate) fn gather(&mut self, who: u8, form: cf_graph::Form, of: &[u16], told: &mut Told) -> Result<u16, Refusal> {
+        if of.len() > usize::from(self.left()) + 1 || self.left() == 0 {
+            return Err(Refusal::Full);
+        }
+        let root = loop {
+            match self.machine().gather(who, form, of, told) {
+                Err(Refused::NO_ROOM) => self.machine().grow().map_err(|_| Refusal::NoLedger)?,
+                gathered => break gathered.expect("memory for words"),
+            }
+        };
+        self.stages = root + 1;
+        Ok(root)
+    }
+
+    /// Writes down that a stage was attached with others.
+    pub(crate) fn gathered(&mut self, stage: u16) {
+        self.record.event(self.now, Reply::Attached(Some(stage)));
     }
 
     /// How many stages can be attached yet.
@@ -222,10 +268,10 @@ fn kept(room: u16) -> Option<(u16, Request)> {
     KEPT.try_with(taken).ok().flatten()
 }
 
-/// A machine of no stages, which settles relays by their caller.
+/// A machine of no stages, which settles what it settles by itself as the clock.
 fn opened(room: u16) -> Result<Request, Refused> {
     match nothing()?.as_mut() {
-        Some(plan) => Request::new(plan, RequestSizes { room, lanes: LANE + 1, own: RELAY }, &[]),
+        Some(plan) => Request::new(plan, RequestSizes { room, lanes: LANE + 1, own: CLOCK }, &[]),
         None => Err(Refused::NO_MEMORY),
     }
 }
