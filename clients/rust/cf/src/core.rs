@@ -232,9 +232,15 @@ impl Core {
         drop(back);
     }
 
-    /// Cancels all that isn't settled.
+    /// Cancels all that isn't settled, from the last stage to the first.
     pub(crate) fn cancel_all(self: &Arc<Core>, who: u8) {
-        self.change(|inner, after| inner.cancel_all(who, after));
+        self.change(|inner, after| {
+            for stage in (0..inner.ledger.stages).rev() {
+                if !inner.slot(stage).is_settled() {
+                    let _ = inner.settle(who, stage, Err(Error::Cancelled), after);
+                }
+            }
+        });
     }
 
     // Waiting.

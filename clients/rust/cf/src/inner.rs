@@ -303,12 +303,6 @@ impl Inner {
         Ok(root)
     }
 
-    /// Cancels all that isn't settled: each stage by an event of its own, but for those that end as one that is cancelled.
-    pub(crate) fn cancel_all(&mut self, who: u8, after: &mut After) {
-        self.ledger.cancel_all(who, &mut after.told);
-        self.show_by(after, |_, _, outcome, _| outcome == Outcome::Fault { cause: Cause::Cancelled, wrapped: false });
-    }
-
     pub(crate) fn settle(&mut self, who: u8, stage: u16, with: Result<Val, Error>, after: &mut After) -> Result<(), Result<Val, Error>> {
         let number = u64::from(stage);
         let (kind, tail, holds) = match with {

@@ -151,11 +151,6 @@ impl Ledger {
         self.machine().next_deadline().expect("the machine is there").map(|next| next.moment)
     }
 
-    /// Cancels all stages that are open.
-    pub(crate) fn cancel_all(&mut self, who: u8, told: &mut Told) {
-        self.machine().cancel_all(who, told).expect("memory for words");
-    }
-
     /// Writes down an event by which a call settled a stage, beside the one that it was asked for.
     pub(crate) fn settled(&mut self) {
         self.record.event(Reply::Flag(true));

@@ -253,7 +253,7 @@ impl Request {
         all
     }
 
-    /// Cancels all that isn't settled. No function of this request is called for that.
+    /// Cancels all that isn't settled, the last stage first.
     ///
     /// ```
     /// let basket = cf::Request::new("basket 3", cf::Inline);
