@@ -130,6 +130,10 @@ def rows_of_java(tools: Tools, made: Path) -> List[Row]:
         Row("Java's service", needs, [*built, [*java, "-Dcf.look=" + tools["cf_look"], "cf.service.AllTests"]]),
         Row("Java's first program", needs, [[*java, "First"]], ("clients/java", "First")),
         Row("Java's spans", needs, [[*java, "Traced"]], ("clients/java", "Traced")),
+        Row("Java's order that charges twice", needs, [[*java, "Twice"]], ("docs/TESTING.md", "Twice")),
+        Row("Java's orders that charge once", needs, [[*java, "Once"]], ("docs/TESTING.md", "Once")),
+        Row("random orders of Java's service beside explore", [*needs, "python3", "cf_look"],
+            [[tools["python3"], "conformance/clients/java-orders", "short", jar, "0", "100", tools["cf_look"]]]),
         Row("random requests of Java's service", [*needs, "python3", "cf", "cf_look"],
             [[tools["python3"], "conformance/clients/java-service", jar, "0", "1000", tools["cf"], tools["cf_look"]]]),
     ]

@@ -1,5 +1,5 @@
-"""What callers of Python's services were told, in the words of reports: of histories' entries, whose replies and outcomes are numbers. The
-library tells histories of their words alone, so this is what its telling is compared with. `cf` has to be importable."""
+"""What the events of a Python service's history were answered, in the words of reports: of its entries, whose replies and outcomes are
+numbers. `cf` has to be importable."""
 from cf.events import Attach, Claim, Finish, Tick
 from cf.service.words import (ANSWER, ARGS, BAD_ANSWER, CANCELLED, FIRST, FIRST_SOME, FORMS, GOT, NUMBER, OUTCOME, SECOND, SECOND_SOME, THROWN,
                               TIMED_OUT, VALUE, Told)
@@ -47,8 +47,8 @@ def reply_text(event, reply):
 
 
 def report_of(history):
-    """What `cf run` has to print of a history's script: the replies as they came, and what stages were told to hold in the end."""
-    last = dict(history._told.get(0, []))
+    """What `cf run` has to print of a history's script: the replies, and what stages hold in the end."""
+    last = dict(history.start())
     for entry in history.entries():
         last.update(entry.told)
     lines = [reply_text(entry.event, entry.reply) for entry in history.entries()]

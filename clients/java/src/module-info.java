@@ -4,4 +4,5 @@ module cf.service {
     requires static jdk.jfr;
 
     exports cf.service;
+    exports cf.service.testing;
 }

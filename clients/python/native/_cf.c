@@ -1,11 +1,11 @@
 /* The parts of cf.service where its time goes: what `cf/service/_plain.py` has in Python, with the same names and
  * the same answers.
  *
- * A request is a ledger of the library, and beside each of its events the time and the reply, beside each of its
- * stages the name, the future and what was told of it. `apply` does one event and writes down what came of it.
- * Nothing of Python's runs meanwhile: no object is made and none is freed, so nothing is collected either, no signal
- * is handled, and the interpreter's lock isn't let go. That makes it one step for all threads, without a lock of its
- * own. Whatever may run anything is done behind it, by `tell`.
+ * A request is a machine of the library (docs/REQUEST.md), and beside each of its words the time, beside each of its
+ * stages the name, the future and what was told of it. A call of the machine and the writing down of what came of it
+ * are one step (`apply`, `note`). Nothing of Python's runs meanwhile: no object is made and none is freed, so nothing
+ * is collected either, no signal is handled, and the interpreter's lock isn't let go. That makes it one step for all
+ * threads, without a lock of its own. Whatever may run anything is done behind it, by `tell`.
  *
  * Each interpreter that imports this has a `State` of its own, with its own types. Objects hold the module, and so
  * outlive no State.
@@ -13,13 +13,13 @@
  * How it meets what C owes the library (docs/C.md):
  *   - a handle is used by one thread at a time, which has the interpreter's lock: no call of the library runs
  *     Python, and none lets it go;
- *   - a handle stands within one object, is never copied, and is freed once, where that object is freed; an object
- *     that wasn't opened, whose opening failed or that is opened twice has an empty handle, on which each call
- *     answers CF_EMPTY, or its first one;
- *   - pointers are to the object's own memory and to the State's `changed`, which has room for as many news as a
- *     request may have stages;
- *   - rows are as many as the ledger has stages or room for: each number from Python is checked before it gets into
- *     a word, so no word is of another kind than is meant, and what the ledger attaches has its row before;
+ *   - a handle stands in memory of its own, is never copied, and is freed once: where its request is freed, or, if
+ *     that leaves it to the next request of its plan, with the plan or the State. It is one request's, or in one pool.
+ *     A request that wasn't opened, or whose opening failed, has none, and each call answers CF_NULL;
+ *   - pointers are to the object's own memory and to the State's `told`, which has room for as many stages as a
+ *     request may have;
+ *   - rows are as many as the machine has stages or more: each number from Python is checked before it gets into
+ *     a word, so no word is of another kind than is meant, and what the machine attaches has its row before;
  *   - calls are made in a child of `fork` all the same: nobody forks within a call, so the handles are whole there,
  *     and so is the memory, by glibc's and musl's own care for a child. */
 #define PY_SSIZE_T_CLEAN
@@ -30,8 +30,12 @@
 #include "cf.h"
 
 enum { MOST = 4096, CALLERS = 64, NONE = 0xFFFF, THIS_THREAD = -1 };
+/* In whose name a machine itself settles stages: RELAY of words.py. */
+enum { OWN = 2 };
 /* Calls of Python's beyond its limit for what has to be told, and how often that is tried. */
 enum { DEEPER = 200, TRIES = 100 };
+/* How many machines of a plan are kept for its next requests, and of how many stages at most. */
+enum { KEPT = 32, MOST_KEPT = 256 };
 enum { COMPLETE = 1, FAIL = 2, CANCEL = 3, CLAIM = 4, FINISH = 5, ATTACH = 7, FAIL_AS = 8 };  /* the kinds of words */
 enum { GIVING = 1, RAISING = 2, LINKING = 3 };  /* how `_end` finishes a stage: GIVES, THROWS and LINKS of words.py */
 #define KIND(kind) ((uint64_t)(kind) << 56)
@@ -43,59 +47,58 @@ enum { GIVING = 1, RAISING = 2, LINKING = 3 };  /* how `_end` finishes a stage: 
 #define BAD_ANSWER (1ULL << 32)
 
 static _Thread_local int caller;   /* which caller this thread is */
+static const uint8_t lanes[MOST];  /* each stage is of the only lane */
+
+/* Machines of requests that are over, which start again for the next ones of their plan. */
+typedef struct { uint32_t many; cf_handle *machines[KEPT]; } Pool;
 
 /* What one interpreter has of this. */
 typedef struct {
   PyObject *module;          /* whose state it is, borrowed */
   cf_handle nothing;         /* a plan without stages */
-  cf_news *changed;          /* what the last event changed: MOST of them */
+  Pool pool;                 /* of its machines */
+  cf_told *told;             /* what the last call told: MOST of them */
   uint32_t forks;            /* how many forks lie between the first process and this one */
-  PyTypeObject *request_core, *stage_core, *plan_core;
+  PyTypeObject *request_core, *stage_core;
   PyTypeObject *stage_type;  /* the class of futures, below `stage_core`, once `use` told it */
   PyObject *full, *bad_answer, *cancelled_error, *future_error, *condition_class;
   PyObject *pending, *running, *finished, *cancelled_state;
   PyObject *put_name, *refusal_name, *show_name, *log_name, *wait_name, *qualname_name, *func_name, *relay_name;
 } State;
 
-/* An event, when it was done in nanoseconds, and what it was answered. */
-typedef struct { int64_t at; cf_reply reply; } Event;
-
-/* What stands beside a stage. `told` is pending until the stage is settled, by the event before `place`. `error` is
- * one more than the number of the exception of a stage that timed out or has a bad answer, which its outcome doesn't
- * tell; 0 where nobody gave one. `stage` is its future, which is held until all was told of it, and may be missing
- * of a planned one. `of` says of an attached one how many sources it has, and these. */
+/* What stands beside a stage. `told` is pending until the stage is settled. `error` is one more than the number of the
+ * exception of a stage that timed out or has a bad answer, which its outcome doesn't tell; 0 where nobody gave one.
+ * `from` is the stage from which it may have that, if it is linked or follows; else it is one of its sources. `of` says
+ * of an attached one how many sources it has, and these. `stage` is its future, which is held until all was told of it,
+ * and may be missing of a planned one. */
 typedef struct {
   cf_outcome told;
-  uint32_t place, error;
-  uint16_t of[3];
-  uint16_t next_settled, next_ready;
+  uint32_t error;
+  uint16_t of[3], from;
+  uint16_t next_settled;
   uint8_t form;
   bool running;
   PyObject *stage, *name;
 } Row;
 
+/* The works are given the request once for each function that becomes ready. That is a turn: who has it runs whichever
+ * function is the lowest ready one then. There are as many turns as ready functions, or more, and one for which none is
+ * left does nothing. */
 typedef struct {
   PyObject_HEAD
   State *state;
-  cf_handle plan;
-  uint16_t stages;
-  uint8_t *forms;
-  uint16_t **of;            /* of each stage how many sources it has, and these */
-  PyObject *calls, *names;  /* tuples */
-  PyObject *rows;           /* what it was made of */
-  cf_stage *start;          /* each stage as a new ledger has it */
-} Plan;
-
-typedef struct {
-  PyObject_HEAD
-  State *state;
-  cf_handle ledger;
-  uint32_t room, stages, events, event_room;
+  cf_handle *machine;
+  Pool *pool;               /* the State's, or that of the capsule */
+  PyObject *capsule;
+  uint32_t room, most, stages, events, event_room; /* `room` and `event_room` are of rows and times */
+  uint32_t turns, forks;  /* forks as in a stage */
+  bool counts;  /* whether words are counted, as the machine may have done some by itself or by others' calls */
   Row *rows;
-  Event *done;
+  int64_t *times;  /* of each word, in nanoseconds */
   PyObject *works, *title, *keeps, *values, *errors, *weak;
-  PyTypeObject *stage_type;  /* the class of its futures, if that isn't the one in use */
-  Plan *plan;
+  PyTypeObject *stage_type;  /* the class of its futures, if that isn't the one in use: then turns are its class's */
+  PyObject *plan, *planned;  /* a PlanCore, and its rows, whose numbers were looked at */
+  uint32_t many_planned;
 } Request;
 
 typedef struct {
@@ -108,11 +111,19 @@ typedef struct {
   PyObject *call, *args, *kwargs, *callbacks, *condition, *waiters, *error;
 } Stage;
 
-/* The stages that an event settled and made ready, as lists through their rows. `error` is the one that the stage
- * `own` times out with by the next event, or has a bad answer with, as in its row. Those behind it take that of their
- * first source that has one. */
-typedef struct { uint16_t settled, last_settled, ready, last_ready, own; uint32_t error; } News;
-static const News NO_NEWS = {NONE, NONE, NONE, NONE, NONE, 0};
+/* The stages that calls settled, as a list through their rows, and whether functions may have become ready. `error` is
+ * the one that the stage `own` times out with by the next call, or has a bad answer with, as in its row. Those behind
+ * it take that of their first source that has one. */
+typedef struct { uint16_t settled, last_settled, own; bool is_ready; uint32_t error; } News;
+static const News NO_NEWS = {NONE, NONE, NONE, false, 0};
+
+static void empty(Pool *pool) {
+  while (pool->many) {
+    cf_handle *machine = pool->machines[--pool->many];
+    cf_free(machine);
+    PyMem_Free(machine);
+  }
+}
 
 static PyObject *refused(uint32_t code) {
   if (code == CF_NO_MEMORY) return PyErr_NoMemory();
@@ -126,90 +137,74 @@ static int64_t now(void) {
   return time.tv_sec * 1000000000LL + time.tv_nsec;
 }
 
-/* ---- One event ---- */
+/* ---- One call of the machine ---- */
 
-/* Memory for two events more. At first for those of a request whose stages are each attached, claimed and finished. */
-static int room_for_events(Request *self) {
-  if (self->events + 2 <= self->event_room) return 0;
-  uint32_t first = !self->room ? 2 : self->room < 64 ? 3 * self->room + 1 : 192;
-  uint32_t room = self->event_room ? 2 * self->event_room : first;
-  Event *done = PyMem_Realloc(self->done, room * sizeof *done);
-  if (!done) return -1;
-  self->done = done;
-  self->event_room = room;
-  return 0;
-}
-
-/* How many sources a stage has, and these. */
-static const uint16_t *sources_of(Request *self, uint16_t i) {
-  return self->plan && i < self->plan->stages ? self->plan->of[i] : self->rows[i].of;
+/* Writes down when these words were done. Where there is no memory, the next call does it. At first there is some for a
+ * request whose stages are each attached, claimed and finished. */
+static void stamp(Request *self, size_t words) {
+  if (self->counts) cf_ledger_words(self->machine, self->events, NULL, 0, &words);
+  uint32_t least = self->events + (uint32_t)words;
+  if (least > self->event_room) {
+    uint32_t room = self->event_room ? 2 * self->event_room : self->room < 64 ? 3 * self->room + 1 : 192;
+    if (room < least) room = least;
+    int64_t *times = PyMem_Realloc(self->times, room * sizeof *times);
+    if (!times) { self->counts = true; return; }
+    self->times = times;
+    self->event_room = room;
+  }
+  for (int64_t at = words ? now() : 0; self->events < least;) self->times[self->events++] = at;
 }
 
 /* What the row of the first source says of an exception whose outcome is of this kind; 0 where none is. */
 static uint32_t error_of_sources(Request *self, uint16_t i, uint32_t kind) {
-  const uint16_t *of = sources_of(self, i);
-  for (uint32_t k = 1; k <= of[0]; k++)
-    if (self->rows[of[k]].told.kind == kind) return self->rows[of[k]].error;
+  const Row *from = self->rows[i].from == NONE ? NULL : &self->rows[self->rows[i].from];
+  if (from) return from->told.kind == kind ? from->error : 0;
+  PyObject *planned = i < self->many_planned ? PyTuple_GET_ITEM(PyTuple_GET_ITEM(self->planned, i), 1) : NULL;
+  Py_ssize_t many = planned ? PyTuple_GET_SIZE(planned) : self->rows[i].of[0];
+  for (Py_ssize_t k = 0; k < many; k++) {
+    const Row *source = &self->rows[planned ? PyLong_AsLong(PyTuple_GET_ITEM(planned, k)) : self->rows[i].of[k + 1]];
+    if (source->told.kind == kind) return source->error;
+  }
   return 0;
 }
 
-/* Writes down the stages that the last event changed. */
-static void note(Request *self, size_t n, News *news) {
-  const cf_news *changed = self->state->changed;
+/* Writes down a call that did so many words, and told so many stages. */
+static void note(Request *self, size_t words, size_t n, News *news) {
+  stamp(self, words);
   for (size_t k = 0; k < n; k++) {
-    uint16_t i = changed[k].stage;
-    Row *row = &self->rows[i];
-    if (changed[k].now.kind == CF_IS_SETTLED) {
-      row->told = changed[k].now.outcome;
-      row->place = self->events;
-      bool is_failed_as = row->told.kind == CF_TIMED_OUT || row->told.kind == CF_BAD_ANSWER;
-      bool is_own = i == news->own && news->error;
-      uint32_t behind = is_failed_as && !is_own ? error_of_sources(self, i, row->told.kind) : 0;
-      if (is_failed_as) row->error = behind ? behind : news->error;
-      row->next_settled = NONE;
-      if (news->last_settled == NONE) news->settled = i; else self->rows[news->last_settled].next_settled = i;
-      news->last_settled = i;
-    } else if (changed[k].now.kind == CF_IS_READY) {
-      row->next_ready = NONE;
-      if (news->last_ready == NONE) news->ready = i; else self->rows[news->last_ready].next_ready = i;
-      news->last_ready = i;
-    } else if (changed[k].now.kind == CF_IS_CLAIMED) row->running = true;
+    const cf_told *told = &self->state->told[k];
+    Row *row = &self->rows[told->stage];
+    row->told = told->outcome;
+    if (row->told.kind == CF_TIMED_OUT || row->told.kind == CF_BAD_ANSWER)
+      row->error = told->stage == news->own && news->error ? news->error :
+                   error_of_sources(self, told->stage, row->told.kind);
+    row->next_settled = NONE;
+    if (news->last_settled == NONE) news->settled = told->stage;
+    else self->rows[news->last_settled].next_settled = told->stage;
+    news->last_settled = told->stage;
   }
   news->error = 0;
+  news->is_ready |= n > 0;
 }
 
-/* Does the event of a word, and adds what it settled and made ready to the news. The code of the library. */
+/* Does a word, and adds what it settled to the news. The code of the library. */
 static uint32_t apply(Request *self, uint64_t word, cf_reply *reply, News *news) {
-  if (room_for_events(self)) return CF_NO_MEMORY;
-  Event *event = &self->done[self->events];
-  size_t n = 0;
-  uint32_t code = cf_ledger_apply(&self->ledger, word, &event->reply, self->state->changed, MOST, &n);
+  cf_applied applied;
+  uint32_t code = cf_request_apply(self->machine, word, 0, &applied, self->state->told, MOST);
   if (code) return code;
-  event->at = now();
-  self->events++;
-  note(self, n, news);
-  *reply = event->reply;
+  note(self, 1, applied.told, news);
+  *reply = applied.reply;
   return CF_OK;
 }
 
-/* One step of the only one who runs this request's stages: finishes what the task holds, and claims the lowest ready
- * stage, if there is one. Two events of one moment. */
-static uint32_t step(Request *self, int who, cf_task *task, News *news) {
-  if (room_for_events(self)) return CF_NO_MEMORY;
-  bool held = task->held;
-  size_t n = 0;
-  cf_step step = {.who = (uint8_t)who};
-  uint32_t code = cf_ledger_step(&self->ledger, &step, task, self->state->changed, MOST, &n);
+/* Finishes what the task holds, if it does, and claims the lowest ready stage, if there is one. */
+static uint32_t next(Request *self, int who, cf_task *task, News *news) {
+  cf_request_step step = {(uint8_t)who, 0, 0};
+  uint32_t held = task->held;
+  uint32_t code = cf_request_next(self->machine, &step, task, self->state->told, MOST);
   if (code && code != CF_NOTHING) return code;
-  int64_t at = now();
-  if (held) {
-    self->done[self->events++] = (Event){.at = at, .reply = {.answer = task->finished}};
-    note(self, n, news);
-  }
-  if (task->held) {
-    self->done[self->events++] = (Event){.at = at, .reply = {.answer = CF_GRANTED, .args = task->args}};
-    self->rows[task->stage].running = true;
-  }
+  if (held || task->held) note(self, held + task->held, step.told, news);
+  if (task->held) self->rows[task->stage].running = true;
   return CF_OK;
 }
 
@@ -299,8 +294,7 @@ static Stage *new_stage(Request *request, uint16_t number) {
 
 /* The function of a planned stage, borrowed, or NULL. */
 static PyObject *planned(Request *self, uint16_t i) {
-  Plan *plan = self->plan;
-  PyObject *call = plan && plan->calls && i < plan->stages ? PyTuple_GET_ITEM(plan->calls, i) : NULL;
+  PyObject *call = i < self->many_planned ? PyTuple_GET_ITEM(PyTuple_GET_ITEM(self->planned, i), 2) : NULL;
   return call == Py_None ? NULL : call;
 }
 
@@ -400,52 +394,74 @@ static void let_go(Stage *stage, Kept *first) {
   Py_CLEAR(stage->call); Py_CLEAR(stage->args); Py_CLEAR(stage->kwargs);
 }
 
-/* Puts a ready stage before those who run it, and says whether one will. An interrupt that comes meanwhile is raised
- * once the stage is put: one that is put twice runs once, and one that isn't put never does. */
-static int put_stage(Request *self, Stage *stage, Kept *interrupt) {
-  PyObject *is_taken = ask(self->works, self->state->put_name, (PyObject *)stage, interrupt);
+/* Gives somebody a turn, and says whether it is taken. An interrupt that comes meanwhile is raised once it is: a turn
+ * too many does nothing, and one too few leaves a function behind. */
+static int put(Request *self, Kept *interrupt) {
+  PyObject *is_taken = ask(self->works, self->state->put_name, (PyObject *)self, interrupt);
   int taken = is_taken ? PyObject_IsTrue(is_taken) : -1;
   Py_XDECREF(is_taken);
   return taken;
 }
 
-/* Lets a stage fail that nobody will run. What comes of that is added to the news. */
-static int refuse(Request *self, uint16_t i, News *news, Kept *first) {
-  PyObject *error = ask(self->works, self->state->refusal_name, NULL, first);
-  uint32_t number, code;
-  cf_reply reply;
-  if (!error || kept(&self->errors, error, &number)) { Py_XDECREF(error); return -1; }
-  Py_DECREF(error);
-  if ((code = apply(self, KIND(FAIL) | WHO(caller) | OF(i) | number, &reply, news))) { refused(code); return -1; }
-  return 0;
+static uint32_t ready(Request *self) {
+  uint16_t many = 0;
+  cf_request_ready(self->machine, 0, &many);
+  return many;
 }
 
-/* Hands a ready stage to whoever runs it. Where nobody will, it fails. */
-static int hand(Request *self, uint16_t i, News *news) {
-  Stage *stage = self->works ? stage_at(self, i) : NULL;
-  if (!stage) return PyErr_Occurred() ? -1 : 0;  /* (a request that is collected has nobody) */
-  Kept first = {0};
-  int taken = put_stage(self, stage, &first);
-  Py_DECREF(stage);
-  if (taken < 0 || (!taken && refuse(self, i, news, &first))) keep(&first);
-  return raise_kept(&first);
+/* What the request's class does in Python: NULL and an error, or what that gave. */
+static PyObject *by_class(Request *self, const char *method, PyObject *given) {
+  return given ? PyObject_CallMethod((PyObject *)self, method, "O", given) :
+                 PyObject_CallMethod((PyObject *)self, method, NULL);
 }
 
-/* Tells what came of events: first those who wait, then the threads, then the callbacks. Where `following` is given,
- * the first ready stage is left to the caller. */
-static int tell(Request *self, News news, uint16_t *following) {
-  if (news.settled == NONE && news.ready == NONE) return 0;
+/* Gives a turn for each function that is ready and has none. If nobody takes it, those that are ready fail. */
+static void hand_on(Request *self, Kept *first) {
+  uint32_t many = ready(self), turns = many > self->turns ? many - self->turns : 0;
+  if (!self->works) return;  /* (a request that is collected has nobody) */
+  self->turns += turns;
+  int taken = 1;
+  for (; turns && (taken = put(self, first)) > 0; turns--) { }
+  if (taken < 0) {  /* the next call gives these turns */
+    keep(first);
+    self->turns -= self->turns < turns ? self->turns : turns;
+  } else if (!taken) {
+    PyObject *error = ask(self->works, self->state->refusal_name, NULL, first);
+    PyObject *none = error ? by_class(self, "_fail_ready", error) : NULL;
+    if (!none) keep(first);
+    Py_XDECREF(error); Py_XDECREF(none);
+  }
+}
+
+/* Where it has a class of futures of its own, it hands functions on by itself. What was raised is given. */
+static void hand_on_by_class(Request *self, Kept *first) {
+  PyObject *raised = by_class(self, "_hand_on", NULL);
+  if (raised && raised != Py_None) PyErr_SetObject((PyObject *)Py_TYPE(raised), raised);
+  if (raised != Py_None) keep(first);
+  Py_XDECREF(raised);
+}
+
+/* Takes over what others' calls of the machine have left to be told. */
+static void take_told(Request *self, News *news) {
+  size_t n = 0;
+  cf_request_told(self->machine, self->state->told, MOST, &n);
+  note(self, 0, n, news);
+}
+
+/* Tells what came of calls: first those who wait, then the threads, then the callbacks. */
+static int tell(Request *self, News news) {
+  if (news.settled == NONE && !news.is_ready) return 0;
   Kept first = {0};
-  uint16_t shown = NONE, handed = NONE, next;
+  uint16_t shown = NONE, next;
   Py_INCREF(self);
-  for (;;) {
+  for (bool is_ready = news.is_ready;; ) {
     if ((next = shown == NONE ? news.settled : self->rows[shown].next_settled) != NONE) {
       shown = next;
       if (self->rows[next].stage) show((Stage *)self->rows[next].stage, &first);
-    } else if ((next = handed == NONE ? news.ready : self->rows[handed].next_ready) != NONE) {
-      handed = next;
-      if (following && *following == NONE) *following = next;
-      else if (hand(self, next, &news)) keep(&first);
+    } else if (is_ready) {
+      is_ready = false;
+      (self->stage_type ? hand_on_by_class : hand_on)(self, &first);
+      if (self->counts) take_told(self, &news);  /* of what nobody took a turn for */
     } else break;
   }
   for (uint16_t i = news.settled; i != NONE; i = self->rows[i].next_settled) {
@@ -455,6 +471,29 @@ static int tell(Request *self, News news, uint16_t *following) {
   }
   Py_DECREF(self);
   return raise_kept(&first);
+}
+
+/* Whether a function is ready that has no turn, which is the caller's then; or -1 and an error. */
+static int take_turn(Request *self) {
+  if (self->stage_type) {
+    PyObject *is_left = by_class(self, "_take_turn", NULL);
+    int left = is_left ? PyObject_IsTrue(is_left) : -1;
+    Py_XDECREF(is_left);
+    return left;
+  }
+  bool is_left = ready(self) > self->turns;
+  self->turns += is_left;
+  return is_left;
+}
+
+/* In a child of `fork`, where no thread of the parent's is: what these were to run is the parent's. */
+static int leave_to_parent(Request *self) {
+  if (self->forks == self->state->forks) return 0;
+  self->forks = self->state->forks;
+  if (!self->works || !ready(self)) return 0;
+  PyObject *none = by_class(self, "_leave_to_parent", NULL);
+  Py_XDECREF(none);
+  return none ? 0 : -1;
 }
 
 /* ---- Requests ---- */
@@ -473,7 +512,75 @@ static PyObject *Request_new(PyTypeObject *type, PyObject *Py_UNUSED(args), PyOb
   if (!self) return NULL;
   Py_INCREF(state->module);
   self->state = state;
+  self->forks = state->forks;
   return (PyObject *)self;
+}
+
+/* A number from 0 on, below the bound, which gets into a word; else -1 and an error. */
+static long number_below(PyObject *number, long bound, const char *what) {
+  long given = PyLong_AsLong(number);
+  if (given == -1 && PyErr_Occurred()) return -1;
+  if (given >= 0 && given < bound) return given;
+  PyErr_Format(PyExc_ValueError, "no %s has the number %ld", what, given);
+  return -1;
+}
+
+/* What a plan's row says of a stage: its form, the numbers of its sources, its function or None, and its name. */
+static int plan_row(PyObject *given, uint16_t i, Row *row) {
+  PyObject *of = PyTuple_Check(given) && PyTuple_GET_SIZE(given) == 4 ? PyTuple_GET_ITEM(given, 1) : NULL;
+  PyObject *name = of ? PyTuple_GET_ITEM(given, 3) : NULL;
+  if (!of || !PyTuple_Check(of) || !PyUnicode_Check(name)) {
+    PyErr_SetString(PyExc_TypeError, "a row is a tuple of a form, sources, a function and a name");
+    return -1;
+  }
+  long form = number_below(PyTuple_GET_ITEM(given, 0), CF_EXCEPTIONALLY_COMPOSE + 1, "form");
+  if (form < 0) return -1;
+  for (Py_ssize_t k = 0; k < PyTuple_GET_SIZE(of); k++) {
+    if (!PyLong_Check(PyTuple_GET_ITEM(of, k))) { PyErr_SetString(PyExc_TypeError, "a source is an int"); return -1; }
+    if (number_below(PyTuple_GET_ITEM(of, k), i, "lower stage") < 0) return -1;
+  }
+  *row = (Row){.from = NONE, .form = (uint8_t)form, .name = name};
+  return 0;
+}
+
+static void empty_capsule(PyObject *capsule) {
+  Pool *pool = PyCapsule_GetPointer(capsule, NULL);
+  empty(pool);
+  PyMem_Free(pool);
+}
+
+/* The machines that a plan keeps, in a capsule that it has. */
+static PyObject *capsule_of(PyObject *plan) {
+  PyObject *capsule = PyObject_GetAttrString(plan, "kept");
+  if (!capsule || PyCapsule_IsValid(capsule, NULL)) return capsule;
+  Py_DECREF(capsule);
+  Pool *pool = PyMem_Calloc(1, sizeof *pool);
+  if (!pool) return PyErr_NoMemory();
+  if (!(capsule = PyCapsule_New(pool, NULL, empty_capsule))) { PyMem_Free(pool); return NULL; }
+  if (PyObject_SetAttrString(plan, "kept", capsule)) Py_CLEAR(capsule);
+  return capsule;
+}
+
+/* A machine of a plan of so many stages, with room for others. */
+static uint32_t open_machine(Request *self, cf_handle *of, uint16_t room, size_t stages) {
+  if (self->pool->many) {
+    self->machine = self->pool->machines[--self->pool->many];
+    return CF_OK;
+  }
+  cf_request_sizes sizes = {room, 1, OWN};
+  cf_handle *made = PyMem_Calloc(1, sizeof *made);
+  uint32_t code = made ? cf_request_new(of, &sizes, lanes, stages, made) : CF_NO_MEMORY;
+  if (code) PyMem_Free(made); else self->machine = made;
+  return code;
+}
+
+static void close_machine(Request *self) {
+  Pool *pool = self->pool;
+  bool is_kept = self->machine && pool->many < KEPT && self->stages <= MOST_KEPT && self->events <= 4 * MOST_KEPT &&
+                 !cf_request_restart(self->machine);
+  if (is_kept) pool->machines[pool->many++] = self->machine;
+  else if (self->machine) { cf_free(self->machine); PyMem_Free(self->machine); }
+  self->machine = NULL;
 }
 
 static int Request_init(Request *self, PyObject *args, PyObject *kwargs) {
@@ -489,26 +596,46 @@ static int Request_init(Request *self, PyObject *args, PyObject *kwargs) {
     Py_INCREF(stage_class);
     Py_XSETREF(self->stage_type, (PyTypeObject *)stage_class);
   }
+  cf_handle *of = &self->state->nothing;
+  long stages = 0, most = MOST;
   if (plan != Py_None) {
-    if (!PyObject_TypeCheck(plan, self->state->plan_core)) { PyErr_SetString(PyExc_TypeError, "no plan"); return -1; }
+    PyObject *at = PyObject_GetAttrString(plan, "at"), *many = at ? PyObject_GetAttrString(plan, "most") : NULL;
+    PyObject *rows = many ? PyObject_GetAttrString(plan, "rows") : NULL;
+    bool is_plan = at && many && rows && PyTuple_Check(rows);
+    if (is_plan) {
+      of = PyLong_AsVoidPtr(at);
+      most = PyLong_AsLong(many);
+      stages = PyTuple_GET_SIZE(rows);
+    }
+    Py_XDECREF(at); Py_XDECREF(many);
+    if (!is_plan || PyErr_Occurred() || !of || stages > most || most > MOST) {
+      Py_XDECREF(rows);
+      PyErr_SetString(PyExc_TypeError, "no plan");
+      return -1;
+    }
     Py_INCREF(plan);
-    self->plan = (Plan *)plan;
+    Py_XSETREF(self->plan, plan);
+    Py_XSETREF(self->planned, rows);
+    Py_XSETREF(self->capsule, capsule_of(plan));
+    if (!self->capsule) return -1;
   }
-  uint32_t stages = self->plan ? self->plan->stages : 0;
-  if (room > MOST - stages) room = MOST - stages;
-  if (!self->plan && !room) room = 1;
-  self->room = stages + room;
-  self->rows = PyMem_Calloc(self->room ? self->room : 1, sizeof *self->rows);
-  if (!self->rows) { PyErr_NoMemory(); return -1; }
-  uint32_t code = cf_ledger_new(self->plan ? &self->plan->plan : &self->state->nothing, (uint16_t)room, &self->ledger);
-  if (code) { refused(code); return -1; }
-  for (uint32_t i = 0; i < stages; i++) {
-    self->rows[i].name = PyTuple_GET_ITEM(self->plan->names, i);
-    Py_INCREF(self->rows[i].name);
-    self->rows[i].form = self->plan->forms[i];
-    if (self->plan->start[i].kind == CF_IS_SETTLED) self->rows[i].told = self->plan->start[i].outcome;
-  }
-  self->stages = stages;
+  self->pool = self->capsule ? PyCapsule_GetPointer(self->capsule, NULL) : &self->state->pool;
+  if (plan == Py_None && !room) room = 1;
+  if (room > most - stages) room = (unsigned int)(most - stages);
+  Row *made = PyMem_Calloc(stages + room ? stages + room : 1, sizeof *made);
+  if (!made) { PyErr_NoMemory(); return -1; }
+  for (uint16_t i = 0; i < stages; i++)
+    if (plan_row(PyTuple_GET_ITEM(self->planned, i), i, &made[i])) { PyMem_Free(made); return -1; }
+  size_t n = 0;
+  uint32_t code = open_machine(self, of, (uint16_t)room, (size_t)stages);
+  if (!code && stages) code = cf_request_told(self->machine, self->state->told, MOST, &n);
+  if (code) { PyMem_Free(made); refused(code); return -1; }
+  for (size_t k = 0; k < n; k++) made[self->state->told[k].stage].told = self->state->told[k].outcome;
+  for (long i = 0; i < stages; i++) Py_INCREF(made[i].name);
+  self->rows = made;
+  self->room = (uint32_t)stages + room;
+  self->most = (uint32_t)most;
+  self->stages = self->many_planned = (uint32_t)stages;
   Py_INCREF(works); self->works = works;
   Py_INCREF(title); self->title = title;
   Py_INCREF(keeps); self->keeps = keeps;
@@ -520,14 +647,14 @@ static int Request_traverse(Request *self, visitproc visit, void *arg) {
   Py_VISIT(self->state->module);
   for (uint32_t i = 0; i < self->stages; i++) Py_VISIT(self->rows[i].stage);
   Py_VISIT(self->works); Py_VISIT(self->keeps); Py_VISIT(self->values); Py_VISIT(self->errors); Py_VISIT(self->plan);
-  Py_VISIT(self->stage_type);
+  Py_VISIT(self->planned); Py_VISIT(self->stage_type);
   return 0;
 }
 
 static int Request_clear(Request *self) {
   for (uint32_t i = 0; i < self->stages; i++) Py_CLEAR(self->rows[i].stage);
   Py_CLEAR(self->works); Py_CLEAR(self->keeps); Py_CLEAR(self->plan);
-  /* The lists stay until the end: what a stage tells is read from them. */
+  /* The plan's rows and the lists stay until the end: what a stage tells is read from them. */
   return 0;
 }
 
@@ -539,40 +666,55 @@ static void Request_dealloc(Request *self) {
   Request_clear(self);
   for (uint32_t i = 0; i < self->stages; i++) Py_CLEAR(self->rows[i].name);
   Py_CLEAR(self->values); Py_CLEAR(self->errors); Py_CLEAR(self->title); Py_CLEAR(self->stage_type);
-  cf_free(&self->ledger);
-  PyMem_Free(self->rows); PyMem_Free(self->done);
+  Py_CLEAR(self->planned);
+  close_machine(self);
+  Py_CLEAR(self->capsule);
+  PyMem_Free(self->rows); PyMem_Free(self->times);
   type->tp_free((PyObject *)self);
   Py_DECREF(state->module);
   Py_DECREF(type);
 }
 
-/* Makes room for `least` stages more, and some. */
-static int grow(Request *self, uint32_t least) {
-  uint32_t more = 3 * self->room + least, code = CF_ROOM;
-  if (more > MOST - self->stages) more = MOST - self->stages;
-  Row *rows = PyMem_Realloc(self->rows, (self->room + more ? self->room + more : 1) * sizeof *rows);
-  if (!rows) { PyErr_NoMemory(); return -1; }
-  self->rows = rows;
-  for (; more && self->room + more >= self->stages + least && code == CF_ROOM; more /= 2)
-    if (!(code = cf_ledger_grow(&self->ledger, (uint16_t)more))) { self->room += more; return 0; }
-  if (code == CF_ROOM) PyErr_SetString(self->state->full, "a request has at most 4,096 stages"); else refused(code);
-  return -1;
+static PyObject *full(Request *self) {
+  PyErr_SetString(self->state->full, "a request has at most 4,096 stages");
+  return NULL;
 }
 
-/* A number from 0 on, below the bound, which gets into a word; else -1 and an error. */
-static long number_below(PyObject *number, long bound, const char *what) {
-  long given = PyLong_AsLong(number);
-  if (given == -1 && PyErr_Occurred()) return -1;
-  if (given >= 0 && given < bound) return given;
-  PyErr_Format(PyExc_ValueError, "no %s has the number %ld", what, given);
-  return -1;
+/* Rows for so many stages more; those of a request that isn't opened are refused. */
+static int rows_for(Request *self, uint32_t more) {
+  if (!self->rows) { PyErr_SetString(PyExc_RuntimeError, "the request isn't opened"); return -1; }
+  if (self->stages + more > self->most) { full(self); return -1; }
+  if (self->stages + more <= self->room) return 0;
+  uint32_t room = 2 * self->room > self->stages + more ? 2 * self->room : self->stages + more;
+  Row *rows = PyMem_Realloc(self->rows, room * sizeof *rows);
+  if (!rows) { PyErr_NoMemory(); return -1; }
+  self->rows = rows;
+  self->room = room;
+  return 0;
 }
+
+/* Makes room for more stages, if that is what a code says is missing: whether the call is made again. */
+static bool grows(Request *self, uint32_t *code) {
+  return *code == CF_NO_ROOM && !(*code = cf_request_grow(self->machine));
+}
+
+static PyObject *refused_stage(Request *self, uint32_t code) { return code == CF_ROOM ? full(self) : refused(code); }
 
 /* The number of a caller, or -1 and an error. */
 static int caller_in(PyObject *who) { return (int)number_below(who, CALLERS, "caller"); }
 
 static bool is_own(Request *self, PyObject *stage) {
   return PyObject_TypeCheck(stage, self->state->stage_core) && ((Stage *)stage)->request == self;
+}
+
+/* Attaches the stage of a row by a word. */
+static uint32_t add(Request *self, uint64_t word, Row row, News *news) {
+  uint32_t code;
+  cf_reply reply;
+  self->rows[self->stages] = row;
+  do code = apply(self, word, &reply, news); while (grows(self, &code));
+  if (!code) self->stages++;
+  return code;
 }
 
 /* _attach(form, first, second, call, args, kwargs, name): a stage more, to at most two sources of this request.
@@ -583,9 +725,8 @@ static PyObject *Request_attach(Request *self, PyObject *const *args, Py_ssize_t
   if (form < 0) return NULL;
   if ((args[4] != Py_None && !PyTuple_Check(args[4])) || (args[5] != Py_None && !PyDict_Check(args[5])))
     return PyErr_Format(PyExc_TypeError, "arguments are a tuple and a dict");
-  if (!self->rows) return PyErr_Format(PyExc_RuntimeError, "the request isn't opened");
-  PyObject *call = args[3] == Py_None ? NULL : args[3], *name = args[6];
-  uint32_t sources = (args[1] != Py_None) + (args[2] != Py_None), code;
+  PyObject *call = args[3] == Py_None ? NULL : args[3], *name = args[6], *relay = self->state->relay_name;
+  uint32_t sources = (args[1] != Py_None) + (args[2] != Py_None), code = CF_OK;
   if ((args[1] != Py_None && !is_own(self, args[1])) || (args[2] != Py_None && !is_own(self, args[2])))
     return PyErr_Format(PyExc_TypeError, "no stage of this request");
   Stage *stage = new_stage(self, 0);
@@ -595,35 +736,73 @@ static PyObject *Request_attach(Request *self, PyObject *const *args, Py_ssize_t
   if (call) { Py_INCREF(call); stage->call = call; }
   if (args[4] != Py_None) { Py_INCREF(args[4]); stage->args = args[4]; }
   if (args[5] != Py_None) { Py_INCREF(args[5]); stage->kwargs = args[5]; }
+  bool composes = form == CF_COMPOSE || form == CF_EXCEPTIONALLY_COMPOSE;
+  if (leave_to_parent(self)) goto failed;
   /* From here on in one step. */
-  uint32_t least = 1 + (form == CF_COMPOSE || form == CF_EXCEPTIONALLY_COMPOSE);
-  if (self->stages + least > self->room && grow(self, least)) goto failed;
+  if (rows_for(self, 1 + composes)) goto failed;
   News news = NO_NEWS;
-  cf_reply reply;
-  if (least == 2) {
-    PyObject *relay = self->state->relay_name;
+  if (composes && !(code = add(self, KIND(ATTACH) | WHO(caller), (Row){.from = NONE, .form = CF_SOURCE, .name = relay},
+                               &news)))
     Py_INCREF(relay);
-    self->rows[self->stages] = (Row){.next_settled = NONE, .next_ready = NONE, .form = CF_SOURCE, .name = relay};
-    if ((code = apply(self, KIND(ATTACH) | WHO(caller), &reply, &news))) {
-      Py_DECREF(relay); refused(code);
-      goto failed;
-    }
-    self->stages++;
-  }
-  uint16_t number = (uint16_t)self->stages;
   uint16_t first = sources > 0 ? ((Stage *)args[1])->number : 0, second = sources > 1 ? ((Stage *)args[2])->number : 0;
-  self->rows[number] = (Row){.next_settled = NONE, .next_ready = NONE, .form = (uint8_t)form,
-                             .of = {(uint16_t)sources, first, second}, .stage = (PyObject *)stage, .name = name};
-  stage->number = number;
+  uint16_t number = stage->number = (uint16_t)self->stages;
   uint64_t word = KIND(ATTACH) | WHO(caller) | OF(first) | (uint64_t)sources << 32 | (uint64_t)form << 24 |
                   (uint64_t)second << 12 | (call ? number : 0);
-  if ((code = apply(self, word, &reply, &news))) { refused(code); goto failed; }
-  self->stages++;
+  if (!code)
+    code = add(self, word, (Row){.from = NONE, .form = (uint8_t)form, .of = {(uint16_t)sources, first, second},
+                                 .stage = (PyObject *)stage, .name = name}, &news);
+  if (code) { refused_stage(self, code); goto failed; }
   Py_INCREF(stage);  /* (one for the row, and one for the caller) */
-  if (tell(self, news, NULL)) { Py_DECREF(stage); return NULL; }
+  news.is_ready |= call && (!sources || self->rows[first].told.kind || (sources > 1 && self->rows[second].told.kind));
+  if (tell(self, news)) { Py_DECREF(stage); return NULL; }
   return (PyObject *)stage;
 failed:
   Py_DECREF(name);
+  Py_DECREF(stage);
+  return NULL;
+}
+
+/* _gather(form, of, name): the last of the stages that wait for all of these, or for one of them. */
+static PyObject *Request_gather(Request *self, PyObject *const *args, Py_ssize_t n) {
+  if (n != 3 || !PyList_Check(args[1])) return PyErr_Format(PyExc_TypeError, "_gather takes 3");
+  long form = number_below(args[0], CF_ANY_OF + 1, "form");
+  if (form < 0 || leave_to_parent(self)) return NULL;
+  Stage *stage = new_stage(self, 0);
+  if (!stage) return NULL;
+  PyObject *name = args[2];
+  size_t sources = (size_t)PyList_GET_SIZE(args[1]);
+  uint32_t many = sources > 1 ? (uint32_t)sources - 1 : 1, code = CF_OK;
+  uint16_t *of = PyMem_Calloc(sources + 1, sizeof *of);
+  if (!of) { PyErr_NoMemory(); goto failed; }
+  for (size_t k = 0; k < sources; k++) {
+    PyObject *source = PyList_GET_ITEM(args[1], k);
+    if (!is_own(self, source)) { PyErr_SetString(PyExc_TypeError, "no stage of this request"); goto failed; }
+    of[k] = ((Stage *)source)->number;
+  }
+  /* From here on in one step. */
+  if (sources > MOST) { full(self); goto failed; }
+  if (rows_for(self, many)) goto failed;
+  cf_request_gathering step = {.who = (uint8_t)caller, .form = (uint32_t)form};
+  do code = cf_request_gather(self->machine, &step, of, sources, self->state->told, MOST); while (grows(self, &code));
+  if (code) { refused_stage(self, code); goto failed; }
+  uint16_t at = (uint16_t)self->stages;
+  for (uint32_t k = 0; k < many; k++) {
+    uint16_t had = sources < 2 ? (uint16_t)sources : 2, first = k ? (uint16_t)(at + k - 1) : of[0];
+    self->rows[at + k] = (Row){.from = NONE, .form = (uint8_t)form, .of = {had, first, sources > 1 ? of[k + 1] : 0},
+                               .name = name};
+    Py_INCREF(name);
+  }
+  self->stages += many;
+  stage->number = step.root;
+  self->rows[step.root].stage = (PyObject *)stage;
+  Py_INCREF(stage);  /* (one for the row, and one for the caller) */
+  PyMem_Free(of);
+  News news = NO_NEWS;
+  note(self, many, step.told, &news);
+  if (tell(self, news)) { Py_DECREF(stage); return NULL; }
+  return (PyObject *)stage;
+failed:
+  PyMem_Free(of);
   Py_DECREF(stage);
   return NULL;
 }
@@ -651,7 +830,7 @@ static PyObject *Request_change(Request *self, PyObject *const *args, Py_ssize_t
   if (stage_in(self, args[2], &stage)) return NULL;
   long kind = number_below(args[0], FAIL_AS + 1, "change");
   if (kind > CANCEL && kind < FAIL_AS) return PyErr_Format(PyExc_ValueError, "no change has the number %ld", kind);
-  if (kind < 0) return NULL;
+  if (kind < 0 || leave_to_parent(self)) return NULL;
   int who = PyLong_AsLong(args[1]) == THIS_THREAD && !PyErr_Occurred() ? caller : caller_in(args[1]);
   if (who < 0) return NULL;
   uint64_t low = 0;
@@ -671,8 +850,24 @@ static PyObject *Request_change(Request *self, PyObject *const *args, Py_ssize_t
   if (kind == CANCEL && args[3] == Py_True && runs) Py_RETURN_FALSE;
   cf_reply reply;
   if ((code = apply(self, KIND(kind) | WHO(who) | OF(stage) | low, &reply, &news))) return refused(code);
-  if (tell(self, news, NULL)) return NULL;
+  if (tell(self, news)) return NULL;
   return PyBool_FromLong(reply.answer);
+}
+
+/* _takes_from(stage, other): lets a stage have another one's exception, by which it will end. */
+static PyObject *Request_takes_from(Request *self, PyObject *const *args, Py_ssize_t n) {
+  uint16_t stage, other;
+  if (n != 2) return PyErr_Format(PyExc_TypeError, "_takes_from takes 2");
+  if (number_in(self, args[0], &stage) || number_in(self, args[1], &other)) return NULL;
+  self->rows[stage].from = other;
+  self->counts = true;
+  Py_RETURN_NONE;
+}
+
+/* _code(error): the number of an exception. */
+static PyObject *Request_code(Request *self, PyObject *error) {
+  uint32_t number;
+  return kept(&self->errors, error, &number) ? NULL : PyLong_FromUnsignedLong(number);
 }
 
 /* What a granted claim lets be called: with the stage's own arguments, or with as many as stand here. */
@@ -708,14 +903,21 @@ static int to_call(Request *self, uint16_t i, const cf_args *args, Called *it) {
   return 1;
 }
 
-/* Claims a stage: 1 where its function is to be called, 0 where nobody is to. */
-static int begin(Request *self, uint16_t i, int who, Called *it) {
+/* Claims this stage, or the lowest that is ready, by a turn: 1 where its function is to be called, 0 where none is. */
+static int begin(Request *self, Stage *wanted, int who, uint16_t *i, Called *it) {
   News news = NO_NEWS;
   cf_reply reply;
+  cf_task task = {0};
   memset(it, 0, sizeof *it);
-  uint32_t code = apply(self, KIND(CLAIM) | WHO(who) | OF(i), &reply, &news);
+  if (leave_to_parent(self)) return -1;
+  self->turns -= self->turns > 0;
+  *i = wanted ? wanted->number : NONE;
+  uint32_t code = wanted ? apply(self, KIND(CLAIM) | WHO(who) | OF(*i), &reply, &news) : next(self, who, &task, &news);
   if (code) { refused(code); return -1; }
-  return reply.answer != CF_GRANTED ? tell(self, news, NULL) : to_call(self, i, &reply.args, it);
+  if (wanted ? reply.answer != CF_GRANTED : !task.held) return 0;
+  if (!wanted) *i = task.stage;
+  self->rows[*i].running = true;
+  return to_call(self, *i, wanted ? &reply.args : &task.args, it);
 }
 
 static PyObject *call(Called *it, uint8_t form) {
@@ -729,25 +931,29 @@ static PyObject *call(Called *it, uint8_t form) {
   return PyObject_Vectorcall(it->call, it->given + is_told_fault_alone, (size_t)(it->many - is_told_fault_alone), NULL);
 }
 
-/* Finishes a stage, and tells what came of it. */
-static int end(Request *self, uint16_t i, int who, uint64_t low, uint16_t *following) {
+/* Finishes a stage, and tells what came of it. `turn` says whether a further turn is the caller's. */
+static int end(Request *self, uint16_t i, int who, uint64_t low, int *turn) {
   News news = NO_NEWS;
-  if (low >= LINKS) news.error = self->rows[low & 0xFFFF].error;  /* what it links to may have ended */
-  news.own = i;
   cf_reply reply;
+  Kept first = {0};
+  if (leave_to_parent(self)) return -1;
+  if (low >= LINKS) self->rows[i].from = (uint16_t)low;
   uint32_t code = apply(self, KIND(FINISH) | WHO(who) | OF(i) | low, &reply, &news);
   if (code) { refused(code); return -1; }
-  return tell(self, news, following);
+  if (news.is_ready && (*turn = take_turn(self)) < 0) { keep(&first); *turn = 0; }
+  news.is_ready &= *turn || self->stage_type;  /* none is left to others where none was for the caller */
+  if (tell(self, news)) keep(&first);
+  return raise_kept(&first);
 }
 
-static int end_giving(Request *self, uint16_t i, int who, PyObject *given, uint16_t *following) {
+static int end_giving(Request *self, uint16_t i, int who, PyObject *given, int *turn) {
   uint64_t low;
-  return value_in(self, given, &low) ? -1 : end(self, i, who, low, following);
+  return value_in(self, given, &low) ? -1 : end(self, i, who, low, turn);
 }
 
-static int end_raising(Request *self, uint16_t i, int who, PyObject *error, uint16_t *following) {
+static int end_raising(Request *self, uint16_t i, int who, PyObject *error, int *turn) {
   uint32_t number;
-  return kept(&self->errors, error, &number) ? -1 : end(self, i, who, THROWS | number, following);
+  return kept(&self->errors, error, &number) ? -1 : end(self, i, who, THROWS | number, turn);
 }
 
 /* The exception that is raised. */
@@ -761,28 +967,27 @@ static PyObject *caught(void) {
 }
 
 /* Finishes a composing stage with the future that its function gave, by the request's `_link`. */
-static int end_linking(Request *self, uint16_t i, int who, PyObject *given, uint16_t *following) {
+static int end_linking(Request *self, uint16_t i, int who, PyObject *given, int *turn) {
   Stage *stage = stage_at(self, i);
-  PyObject *next = stage ? PyObject_CallMethod((PyObject *)self, "_link", "OiO", stage, who, given) : NULL;
+  PyObject *goes_on = stage ? PyObject_CallMethod((PyObject *)self, "_link", "OiO", stage, who, given) : NULL;
   Py_XDECREF(stage);
-  if (!next) return -1;
-  if (next != Py_None) *following = ((Stage *)next)->number;
-  Py_DECREF(next);
+  if (!goes_on) return -1;
+  *turn = PyObject_IsTrue(goes_on);
+  Py_DECREF(goes_on);
   return 0;
 }
 
-/* _run(stage, who): claims a stage, calls its function and finishes it, and goes on with a stage that became ready
- * by that. */
-static PyObject *Request_run(Request *self, PyObject *const *args, Py_ssize_t n) {
-  if (n != 2 || !is_own(self, args[0])) return PyErr_Format(PyExc_TypeError, "_run takes 2");
-  int who = caller_in(args[1]);
+/* _run(who): uses a turn: claims a stage, calls its function and finishes it, and goes on where another function became
+ * ready by that. */
+static PyObject *Request_run(Request *self, PyObject *number) {
+  int who = caller_in(number);
   if (who < 0) return NULL;
   Kept first = {0};
-  uint16_t i = ((Stage *)args[0])->number, following;
-  for (; i != NONE; i = following) {
+  for (int turn = 1; turn;) {
     Called it;
-    following = NONE;
-    int is_granted = begin(self, i, who, &it);
+    uint16_t i;
+    turn = 0;
+    int is_granted = begin(self, NULL, who, &i, &it);
     if (is_granted < 0) keep(&first);
     if (is_granted <= 0) break;
     uint8_t form = self->rows[i].form;
@@ -791,11 +996,11 @@ static PyObject *Request_run(Request *self, PyObject *const *args, Py_ssize_t n)
     int failed;
     if (given) {
       bool composes = form == CF_COMPOSE || form == CF_EXCEPTIONALLY_COMPOSE;
-      failed = (composes ? end_linking : end_giving)(self, i, who, given, &following);
+      failed = (composes ? end_linking : end_giving)(self, i, who, given, &turn);
       Py_DECREF(given);
     } else {
       PyObject *error = caught();
-      failed = end_raising(self, i, who, error, &following);
+      failed = end_raising(self, i, who, error, &turn);
       Py_DECREF(error);
     }
     if (failed) keep(&first);
@@ -807,7 +1012,8 @@ static PyObject *Request_run(Request *self, PyObject *const *args, Py_ssize_t n)
 /* Hands what the function of a stage gave or raised to the task that holds the stage, or finishes a composing stage
  * by itself. */
 static int answer(Request *self, int who, PyObject *given, cf_task *task) {
-  uint16_t i = task->stage, following = NONE;
+  uint16_t i = task->stage;
+  int turn = 0;
   uint8_t form = self->rows[i].form;
   uint32_t number = 0;
   uint64_t low;
@@ -820,7 +1026,7 @@ static int answer(Request *self, int who, PyObject *given, cf_task *task) {
   }
   if (form == CF_COMPOSE || form == CF_EXCEPTIONALLY_COMPOSE) {
     task->held = 0;
-    return end_linking(self, i, who, given, &following);
+    return end_linking(self, i, who, given, &turn);
   }
   if (value_in(self, given, &low)) return -1;
   task->answer = (cf_answer){.kind = CF_GIVE, .value = {.kind = low != 0, .number = (int32_t)(uint32_t)low}};
@@ -836,11 +1042,12 @@ static PyObject *Request_work(Request *self, PyObject *number) {
   for (;;) {
     News news = NO_NEWS;
     Called it;
-    uint32_t code = step(self, who, &task, &news);
+    uint32_t code = next(self, who, &task, &news);
     if (code) { refused(code); keep(&first); break; }
     bool is_held = task.held;
     int failed = is_held ? to_call(self, task.stage, &task.args, &it) < 0 : 0;
-    if (tell(self, news, NULL)) keep(&first);
+    news.is_ready = false;
+    if (tell(self, news)) keep(&first);
     if (!is_held) break;
     PyObject *given = failed ? NULL : call(&it, self->rows[task.stage].form);
     if (!failed) called_clear(&it);
@@ -851,68 +1058,60 @@ static PyObject *Request_work(Request *self, PyObject *number) {
   Py_RETURN_NONE;
 }
 
-/* _begin(stage, who): claims a stage. Its function with positional and other arguments, or None where nobody is to
- * call it. */
+/* _begin(who, stage=None): claims this stage, or the lowest that is ready. The stage, and its function with positional
+ * and other arguments; None where nobody is to call one. */
 static PyObject *Request_begin(Request *self, PyObject *const *args, Py_ssize_t n) {
-  if (n != 2 || !is_own(self, args[0])) return PyErr_Format(PyExc_TypeError, "_begin takes 2");
-  int who = caller_in(args[1]);
+  PyObject *wanted = n == 2 && args[1] != Py_None ? args[1] : NULL;
+  if (n < 1 || n > 2 || (wanted && !is_own(self, wanted))) return PyErr_Format(PyExc_TypeError, "_begin takes 1 or 2");
+  int who = caller_in(args[0]);
   if (who < 0) return NULL;
   Called it;
-  uint16_t i = ((Stage *)args[0])->number;
-  int is_granted = begin(self, i, who, &it);
+  uint16_t i;
+  int is_granted = begin(self, (Stage *)wanted, who, &i, &it);
   if (is_granted < 0) return NULL;
   if (!is_granted) Py_RETURN_NONE;
   bool is_alone = self->rows[i].form == CF_EXCEPTIONALLY || self->rows[i].form == CF_EXCEPTIONALLY_COMPOSE;
+  Stage *stage = stage_at(self, i);
   PyObject *given = it.args ? (Py_INCREF(it.args), it.args) : PyTuple_New(it.many - is_alone);
   PyObject *told = NULL;
   if (given && !it.args)
     for (int k = is_alone; k < it.many; k++) { PyTuple_SET_ITEM(given, k - is_alone, it.given[k]); it.given[k] = NULL; }
   PyObject *kwargs = it.kwargs ? (Py_INCREF(it.kwargs), it.kwargs) : PyDict_New();
-  if (given && kwargs) told = PyTuple_Pack(3, it.call, given, kwargs);
-  Py_XDECREF(given); Py_XDECREF(kwargs);
+  if (stage && given && kwargs) told = PyTuple_Pack(4, stage, it.call, given, kwargs);
+  Py_XDECREF(stage); Py_XDECREF(given); Py_XDECREF(kwargs);
   called_clear(&it);
   return told;
 }
 
-/* _end(stage, who, kind, given): finishes a stage with a value, an exception or a lower stage, as the kind says. A
- * stage that became ready by that and isn't handed to a thread, or None. */
+/* _end(stage, who, kind, given): finishes a stage with a value, an exception or a lower stage, as the kind says, and
+ * says whether a turn is left to the caller. */
 static PyObject *Request_end(Request *self, PyObject *const *args, Py_ssize_t n) {
   if (n != 4 || !is_own(self, args[0])) return PyErr_Format(PyExc_TypeError, "_end takes 4");
   int who = caller_in(args[1]);
   long kind = who < 0 ? -1 : number_below(args[2], LINKING + 1, "way to end");
   if (kind < 0) return NULL;
-  uint16_t i = ((Stage *)args[0])->number, following = NONE;
-  int failed;
+  uint16_t i = ((Stage *)args[0])->number;
+  int turn = 0, failed;
   if (kind == LINKING) {
     if (!is_own(self, args[3])) return PyErr_Format(PyExc_TypeError, "no stage of this request");
-    failed = end(self, i, who, LINKS | ((Stage *)args[3])->number, &following);
-  } else failed = (kind == GIVING ? end_giving : end_raising)(self, i, who, args[3], &following);
-  if (failed) {
-    if (following != NONE) {  /* nobody else will */
-      Kept first = {0};
-      News news = NO_NEWS;
-      keep(&first);
-      self->rows[following].next_ready = NONE;
-      news.ready = news.last_ready = following;
-      if (tell(self, news, NULL)) keep(&first);
-      raise_kept(&first);
-    }
-    return NULL;
+    failed = end(self, i, who, LINKS | ((Stage *)args[3])->number, &turn);
+  } else failed = (kind == GIVING ? end_giving : end_raising)(self, i, who, args[3], &turn);
+  if (!failed) return PyBool_FromLong(turn);
+  if (turn) {  /* nobody else will */
+    Kept first = {0};
+    keep(&first);
+    if (put(self, &first) < 0) keep(&first);
+    raise_kept(&first);
   }
-  if (following == NONE) Py_RETURN_NONE;
-  return (PyObject *)stage_at(self, following);
+  return NULL;
 }
 
-/* _open(): hands on what is ready in a plan from the start. */
-static PyObject *Request_open(Request *self, PyObject *Py_UNUSED(none)) {
+/* _take_told(): tells what others' calls of the machine have left to be told, and hands on what is ready. */
+static PyObject *Request_take_told(Request *self, PyObject *Py_UNUSED(none)) {
   News news = NO_NEWS;
-  for (uint16_t i = 0; self->plan && i < self->plan->stages; i++) {
-    if (self->plan->start[i].kind != CF_IS_READY) continue;
-    self->rows[i].next_ready = NONE;
-    if (news.ready == NONE) news.ready = i; else self->rows[news.last_ready].next_ready = i;
-    news.last_ready = i;
-  }
-  if (tell(self, news, NULL)) return NULL;
+  take_told(self, &news);
+  news.is_ready = true;
+  if (tell(self, news)) return NULL;
   Py_RETURN_NONE;
 }
 
@@ -953,63 +1152,85 @@ static PyObject *copied(PyObject *list) {
   return list ? PyList_GetSlice(list, 0, PyList_GET_SIZE(list)) : PyList_New(0);
 }
 
-/* _facts(): words, times, replies as numbers of 32 bits; (place, stage, kind, wrapped, code, some, number) of each
- * settled stage; names, values, errors. */
+/* _facts(): the words, the time of each in nanoseconds, and names, values and errors. */
 static PyObject *Request_facts(Request *self, PyObject *Py_UNUSED(none)) {
   /* All objects are made first: what is collected meanwhile may call the request. */
+  stamp(self, 0);
   for (;;) {
     uint32_t events = self->events, stages = self->stages;
     PyObject *words = PyBytes_FromStringAndSize(NULL, events * 8), *times = PyBytes_FromStringAndSize(NULL, events * 8);
-    PyObject *replies = PyBytes_FromStringAndSize(NULL, (Py_ssize_t)(events * sizeof(cf_reply)));
-    PyObject *told = PyBytes_FromStringAndSize(NULL, stages * 28), *names = PyList_New(stages);
-    PyObject *values = copied(self->values), *errors = copied(self->errors), *facts = NULL;
-    bool is_made = words && times && replies && told && names && values && errors;
-    bool is_same = events == self->events;
+    PyObject *names = PyList_New(stages), *values = copied(self->values), *errors = copied(self->errors), *facts = NULL;
+    bool is_made = words && times && names && values && errors, is_same = events == self->events;
     if (is_made && is_same) {
       size_t count;
-      cf_ledger_words(&self->ledger, 0, (uint64_t *)PyBytes_AS_STRING(words), events, &count);
-      for (uint32_t k = 0; k < events; k++) {
-        memcpy(PyBytes_AS_STRING(times) + 8 * k, &self->done[k].at, 8);
-        memcpy(PyBytes_AS_STRING(replies) + sizeof(cf_reply) * k, &self->done[k].reply, sizeof(cf_reply));
-      }
-      uint32_t *row = (uint32_t *)PyBytes_AS_STRING(told);
-      for (uint32_t i = 0; i < stages; i++, row += 7) {
-        row[0] = self->rows[i].place;
-        row[1] = i;
-        memcpy(row + 2, &self->rows[i].told, 20);
+      cf_ledger_words(self->machine, 0, (uint64_t *)PyBytes_AS_STRING(words), events, &count);
+      if (events) memcpy(PyBytes_AS_STRING(times), self->times, events * 8);
+      for (uint32_t i = 0; i < stages; i++) {
         Py_INCREF(self->rows[i].name);
         PyList_SET_ITEM(names, i, self->rows[i].name);
       }
-      facts = PyTuple_Pack(7, words, times, replies, told, names, values, errors);
+      facts = PyTuple_Pack(5, words, times, names, values, errors);
     }
-    Py_XDECREF(words); Py_XDECREF(times); Py_XDECREF(replies); Py_XDECREF(told); Py_XDECREF(names);
-    Py_XDECREF(values); Py_XDECREF(errors);
+    Py_XDECREF(words); Py_XDECREF(times); Py_XDECREF(names); Py_XDECREF(values); Py_XDECREF(errors);
     if (!is_made || is_same) return facts;
   }
 }
 
+/* _take_turn(): whether a function is ready that has no turn, which is the caller's then. */
+static PyObject *Request_take_turn(Request *self, PyObject *Py_UNUSED(none)) {
+  bool is_left = ready(self) > self->turns;
+  self->turns += is_left;
+  return PyBool_FromLong(is_left);
+}
+
+/* _hand_on(): gives a turn for each function that is ready and has none. What was raised meanwhile. */
+static PyObject *Request_hand_on(Request *self, PyObject *Py_UNUSED(none)) {
+  Kept first = {0};
+  hand_on(self, &first);
+  if (!raise_kept(&first)) Py_RETURN_NONE;
+  return caught();
+}
+
+/* _take_back(): takes all turns back. */
+static PyObject *Request_take_back(Request *self, PyObject *Py_UNUSED(none)) {
+  self->turns = 0;
+  self->counts = true;
+  Py_RETURN_NONE;
+}
+
+static PyObject *Request_at(Request *self, void *Py_UNUSED(which)) { return PyLong_FromVoidPtr(self->machine); }
+
 #define FAST(function) (PyCFunction)(void (*)(void))function
 static PyMethodDef request_methods[] = {
   {"_attach", FAST(Request_attach), METH_FASTCALL, "Attaches a stage."},
+  {"_gather", FAST(Request_gather), METH_FASTCALL, "Attaches stages that wait for all of some, or for one."},
   {"_change", FAST(Request_change), METH_FASTCALL, "Completes, fails or cancels a stage."},
-  {"_run", FAST(Request_run), METH_FASTCALL, "Runs a stage, and those that follow."},
+  {"_takes_from", FAST(Request_takes_from), METH_FASTCALL, "Lets a stage have another one's exception."},
+  {"_code", (PyCFunction)Request_code, METH_O, "The number of an exception."},
+  {"_run", (PyCFunction)Request_run, METH_O, "Uses a turn."},
   {"_work", (PyCFunction)Request_work, METH_O, "Runs all that is ready."},
   {"_begin", FAST(Request_begin), METH_FASTCALL, "Claims a stage."},
   {"_end", FAST(Request_end), METH_FASTCALL, "Finishes a stage."},
-  {"_open", (PyCFunction)Request_open, METH_NOARGS, "Hands on what is ready from the start."},
+  {"_take_told", (PyCFunction)Request_take_told, METH_NOARGS, "Tells what is left to be told."},
   {"_stage", (PyCFunction)Request_stage, METH_O, "The future of a planned stage."},
   {"_set_running", (PyCFunction)Request_set_running, METH_O, "Marks a stage as running."},
   {"_name_of", (PyCFunction)Request_name, METH_O, "The name of a stage."},
   {"_rename", FAST(Request_rename), METH_FASTCALL, "Gives a stage a name."},
   {"_facts", (PyCFunction)Request_facts, METH_NOARGS, "All that is written down."},
+  {"_take_turn", (PyCFunction)Request_take_turn, METH_NOARGS, "Takes a turn that nobody has."},
+  {"_hand_on", (PyCFunction)Request_hand_on, METH_NOARGS, "Gives turns for what is ready."},
+  {"_take_back", (PyCFunction)Request_take_back, METH_NOARGS, "Takes all turns back."},
   {NULL}};
 static PyMemberDef request_members[] = {
   {"_works", T_OBJECT, offsetof(Request, works), READONLY, NULL},
   {"_title", T_OBJECT, offsetof(Request, title), READONLY, NULL},
   {"_plan", T_OBJECT, offsetof(Request, plan), READONLY, NULL},
   {"_stages", T_UINT, offsetof(Request, stages), READONLY, NULL},
+  {"_events", T_UINT, offsetof(Request, events), READONLY, NULL},
+  {"_most", T_UINT, offsetof(Request, most), READONLY, NULL},
   {"__weaklistoffset__", T_PYSSIZET, offsetof(Request, weak), READONLY, NULL},
   {NULL}};
+static PyGetSetDef request_getters[] = {{"_at", (getter)Request_at, NULL, NULL, NULL}, {NULL}};
 #ifdef Py_TPFLAGS_IMMUTABLETYPE
 enum { FIXED = Py_TPFLAGS_IMMUTABLETYPE, NOT_CALLED = Py_TPFLAGS_DISALLOW_INSTANTIATION };
 #else
@@ -1018,7 +1239,7 @@ enum { FIXED = 0, NOT_CALLED = 0 };
 static PyType_Slot request_slots[] = {
   {Py_tp_new, Request_new}, {Py_tp_init, Request_init}, {Py_tp_traverse, Request_traverse},
   {Py_tp_clear, Request_clear}, {Py_tp_dealloc, Request_dealloc}, {Py_tp_methods, request_methods},
-  {Py_tp_members, request_members}, {0, NULL}};
+  {Py_tp_members, request_members}, {Py_tp_getset, request_getters}, {0, NULL}};
 static PyType_Spec request_spec = {
   .name = "cf._cf.RequestCore", .basicsize = sizeof(Request), .slots = request_slots,
   .flags = Py_TPFLAGS_DEFAULT | Py_TPFLAGS_BASETYPE | Py_TPFLAGS_HAVE_GC | FIXED};
@@ -1216,110 +1437,6 @@ static PyType_Spec stage_spec = {
   .name = "cf._cf.StageCore", .basicsize = sizeof(Stage), .slots = stage_slots,
   .flags = Py_TPFLAGS_DEFAULT | Py_TPFLAGS_BASETYPE | Py_TPFLAGS_HAVE_GC | FIXED | NOT_CALLED};
 
-/* ---- Plans ---- */
-
-static void Plan_dealloc(Plan *self);
-
-static PyObject *Plan_new(PyTypeObject *type, PyObject *Py_UNUSED(args), PyObject *Py_UNUSED(kwargs)) {
-  State *state = state_of(type, (destructor)Plan_dealloc);
-  Plan *self = state ? (Plan *)type->tp_alloc(type, 0) : NULL;
-  if (!self) return NULL;
-  Py_INCREF(state->module);
-  self->state = state;
-  return (PyObject *)self;
-}
-
-/* Adds the stage of a row to a plan that is built, and answers the code of the library, or CF_NULL and an error. */
-static uint32_t plan_stage(Plan *self, PyObject *row, Py_ssize_t k) {
-  unsigned int form;
-  PyObject *of, *function, *name;
-  if (!PyTuple_Check(row)) { PyErr_SetString(PyExc_TypeError, "a row is a tuple"); return CF_NULL; }
-  if (!PyArg_ParseTuple(row, "IO!OU", &form, &PyTuple_Type, &of, &function, &name)) return CF_NULL;
-  Py_INCREF(function); PyTuple_SET_ITEM(self->calls, k, function);
-  Py_INCREF(name); PyTuple_SET_ITEM(self->names, k, name);
-  Py_ssize_t many = PyTuple_GET_SIZE(of);
-  uint16_t *sources = self->of[k] = PyMem_Calloc(many + 1, sizeof *sources), stage;
-  if (!sources) return CF_NO_MEMORY;
-  uint32_t code = CF_OK;
-  sources[0] = (uint16_t)many;
-  for (Py_ssize_t s = 0; !code && s < many; s++) {
-    long source = number_below(PyTuple_GET_ITEM(of, s), k, "lower stage");
-    if (source < 0) code = CF_NULL; else sources[s + 1] = (uint16_t)source;
-  }
-  self->forms[k] = (uint8_t)form;
-  uint32_t number = function == Py_None ? CF_NO_FUNCTION : (uint32_t)k;
-  if (!code) code = cf_builder_stage(&self->plan, form, sources + 1, many, number, &stage);
-  return code;
-}
-
-/* PlanCore(rows): of each stage the form, the numbers of its sources, its function or None, and its name. */
-static int Plan_init(Plan *self, PyObject *args, PyObject *kwargs) {
-  PyObject *rows;
-  if (!PyArg_ParseTuple(args, "O!", &PyList_Type, &rows)) return -1;
-  if (self->rows) { PyErr_SetString(PyExc_TypeError, "a plan is made once"); return -1; }
-  /* (numbers may run what changes the list) */
-  if (!(rows = PyList_GetSlice(rows, 0, PyList_GET_SIZE(rows)))) return -1;
-  self->rows = rows;
-  Py_ssize_t n = PyList_GET_SIZE(rows);
-  if (n > MOST) { PyErr_SetString(self->state->full, "a request has at most 4,096 stages"); return -1; }
-  uint32_t code = cf_builder_new(&self->plan, 0, 0);
-  self->calls = PyTuple_New(n);
-  self->names = PyTuple_New(n);
-  self->forms = PyMem_Calloc(n + 1, 1);
-  self->of = PyMem_Calloc(n + 1, sizeof *self->of);
-  self->start = PyMem_Calloc(n + 1, sizeof *self->start);
-  if (!self->calls || !self->names || !self->forms || !self->of || !self->start) { PyErr_NoMemory(); return -1; }
-  for (Py_ssize_t k = 0; !code && k < n; k++) code = plan_stage(self, PyList_GET_ITEM(rows, k), k);
-  if (code == CF_NULL) return -1;
-  if (code == CF_TOO_MANY_EDGES) {
-    PyErr_SetString(self->state->full, "a flow has at most 16,384 mentions of sources");
-    return -1;
-  }
-  cf_handle ledger = {0};
-  if (!code) code = cf_build(&self->plan);
-  if (!code) code = cf_ledger_new(&self->plan, 0, &ledger);
-  for (Py_ssize_t k = 0; !code && k < n; k++) code = cf_ledger_stage(&ledger, (uint16_t)k, &self->start[k]);
-  cf_free(&ledger);
-  if (code) { refused(code); return -1; }
-  self->stages = (uint16_t)n;
-  return 0;
-}
-
-static PyMemberDef plan_members[] = {{"rows", T_OBJECT, offsetof(Plan, rows), READONLY, NULL}, {NULL}};
-
-static int Plan_traverse(Plan *self, visitproc visit, void *arg) {
-  Py_VISIT(Py_TYPE(self));
-  Py_VISIT(self->state->module);
-  Py_VISIT(self->calls); Py_VISIT(self->rows);
-  return 0;
-}
-
-static int Plan_clear(Plan *self) {
-  Py_CLEAR(self->calls); Py_CLEAR(self->rows);
-  return 0;
-}
-
-static void Plan_dealloc(Plan *self) {
-  PyTypeObject *type = Py_TYPE(self);
-  State *state = self->state;
-  PyObject_GC_UnTrack(self);
-  Plan_clear(self);
-  Py_CLEAR(self->names);
-  cf_free(&self->plan);
-  for (uint16_t **of = self->of; of && *of; of++) PyMem_Free(*of);
-  PyMem_Free(self->of); PyMem_Free(self->forms); PyMem_Free(self->start);
-  type->tp_free((PyObject *)self);
-  Py_DECREF(state->module);
-  Py_DECREF(type);
-}
-
-static PyType_Slot plan_slots[] = {
-  {Py_tp_new, Plan_new}, {Py_tp_init, Plan_init}, {Py_tp_members, plan_members}, {Py_tp_traverse, Plan_traverse},
-  {Py_tp_clear, Plan_clear}, {Py_tp_dealloc, Plan_dealloc}, {0, NULL}};
-static PyType_Spec plan_spec = {
-  .name = "cf._cf.PlanCore", .basicsize = sizeof(Plan), .slots = plan_slots,
-  .flags = Py_TPFLAGS_DEFAULT | Py_TPFLAGS_HAVE_GC | FIXED};
-
 /* ---- The module ---- */
 
 /* use(Stage, RequestFull, BadAnswer): the classes that are written in Python. */
@@ -1379,17 +1496,15 @@ static int fill(PyObject *module) {
     PyErr_Format(PyExc_ImportError, "the library has version %s", cf_version());
     return -1;
   }
-  if (sizeof(cf_reply) != 48 || sizeof(cf_outcome) != 20 || cf_layout("cf_reply") != 48 ||
-      cf_layout("cf_news") != sizeof(cf_news)) {
+  if (cf_layout("cf_applied") != sizeof(cf_applied) || cf_layout("cf_told") != sizeof(cf_told)) {
     PyErr_SetString(PyExc_ImportError, "the structures of the library are others");
     return -1;
   }
-  it->changed = PyMem_RawMalloc(MOST * sizeof *it->changed);
-  if (!it->changed || cf_builder_new(&it->nothing, 0, 0) || cf_build(&it->nothing)) { PyErr_NoMemory(); return -1; }
+  it->told = PyMem_RawMalloc(MOST * sizeof *it->told);
+  if (!it->told || cf_builder_new(&it->nothing, 0, 0) || cf_build(&it->nothing)) { PyErr_NoMemory(); return -1; }
   if (!(it->request_core = type_of(module, &request_spec, "RequestCore"))) return -1;
   if (!(it->stage_core = type_of(module, &stage_spec, "StageCore"))) return -1;
   it->stage_core->tp_new = NULL;  /* a request makes its stages (Python 3.9 has no flag for it) */
-  if (!(it->plan_core = type_of(module, &plan_spec, "PlanCore"))) return -1;
   Py_INCREF(PyExc_RuntimeError); it->full = PyExc_RuntimeError;  /* until `use` tells another */
   Py_INCREF(PyExc_RuntimeError); it->bad_answer = PyExc_RuntimeError;
   it->cancelled_error = of_module("concurrent.futures", "CancelledError");
@@ -1412,7 +1527,7 @@ static int fill(PyObject *module) {
 
 static int module_traverse(PyObject *module, visitproc visit, void *arg) {
   State *it = PyModule_GetState(module);
-  Py_VISIT(it->request_core); Py_VISIT(it->stage_core); Py_VISIT(it->plan_core); Py_VISIT(it->stage_type);
+  Py_VISIT(it->request_core); Py_VISIT(it->stage_core); Py_VISIT(it->stage_type);
   Py_VISIT(it->full); Py_VISIT(it->bad_answer); Py_VISIT(it->cancelled_error); Py_VISIT(it->future_error);
   Py_VISIT(it->condition_class);
   return 0;
@@ -1429,15 +1544,16 @@ static int module_clear(PyObject *module) {
 static void module_free(void *module) {
   State *it = PyModule_GetState((PyObject *)module);
   module_clear((PyObject *)module);
-  Py_CLEAR(it->request_core); Py_CLEAR(it->stage_core); Py_CLEAR(it->plan_core);
+  Py_CLEAR(it->request_core); Py_CLEAR(it->stage_core);
   Py_CLEAR(it->full); Py_CLEAR(it->bad_answer); Py_CLEAR(it->cancelled_error); Py_CLEAR(it->future_error);
   Py_CLEAR(it->condition_class);
   Py_CLEAR(it->pending); Py_CLEAR(it->running); Py_CLEAR(it->finished); Py_CLEAR(it->cancelled_state);
   Py_CLEAR(it->put_name); Py_CLEAR(it->refusal_name); Py_CLEAR(it->show_name); Py_CLEAR(it->log_name);
   Py_CLEAR(it->wait_name);
   Py_CLEAR(it->qualname_name); Py_CLEAR(it->func_name); Py_CLEAR(it->relay_name);
+  empty(&it->pool);
   cf_free(&it->nothing);
-  PyMem_RawFree(it->changed);
+  PyMem_RawFree(it->told);
 }
 
 static PyModuleDef_Slot module_slots[] = {
@@ -1447,7 +1563,7 @@ static PyModuleDef_Slot module_slots[] = {
 #endif
   {0, NULL}};
 static PyModuleDef module = {
-  PyModuleDef_HEAD_INIT, .m_name = "_cf", .m_doc = "Requests and stages over the proved ledger.",
+  PyModuleDef_HEAD_INIT, .m_name = "_cf", .m_doc = "Requests and stages over the proved machine of a request.",
   .m_size = sizeof(State), .m_methods = module_methods, .m_slots = module_slots, .m_traverse = module_traverse,
   .m_clear = module_clear, .m_free = module_free};
 

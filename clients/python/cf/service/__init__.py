@@ -1,4 +1,4 @@
-"""Futures that services use: any objects, exceptions, threads, `await` and timeouts, over the proved ledger.
+"""Futures that services use: any objects, exceptions, threads, `await` and timeouts, over a proved machine.
 
 Each request has one history of all that happened to it, which is proved to be one order, and can be judged (`cf_look
 check`), done again (`cf run`) and drawn (`cf_look dot`).

@@ -1,9 +1,9 @@
-"""Requests and stages in Python, over the ledger's calls by ctypes. `native/_cf.c` has the same with the same names.
+"""Requests and stages in Python, over the library's requests by ctypes. `native/_cf.c` has the same, by the same names.
 
-A request has one lock. Each change is a word that the ledger does under it, and what the ledger tells of it, its stages
-show under the same lock: nobody reads what lies behind what he was told. Callbacks and threads are told once the lock
-is free. The only locks that are taken under it are those of stages' conditions, and under these no request's lock is
-ever taken.
+A request is a machine of the library (docs/REQUEST.md) with one lock. Each change is a word that the machine does under
+it, and what the machine tells of it, its stages show under the same lock: nobody reads what lies behind what he was
+told. Callbacks and threads are told once the lock is free. The only locks that are taken under it are those of stages'
+conditions, and under these no request's lock is ever taken.
 
 A fork waits until no request is being changed, so that the child has whole ones, with locks that its own threads give
 back.
@@ -11,8 +11,7 @@ back.
 What no lock can help is what comes up between two bytecodes: a signal's handler that raises in the main thread, or a
 `__del__` that calls the very request in which it was collected, as within concurrent.futures. The C module has neither.
 
-The library is called by `PyDLL`, which keeps the interpreter's lock: to let it go and take it again costs more than a
-call does.
+All that a request's calls are given and tell stands in one block of memory, which is read as numbers.
 """
 import ctypes as c
 import os
@@ -20,36 +19,51 @@ import threading
 import weakref
 from array import array
 from concurrent.futures import CancelledError, Future
-from concurrent.futures._base import CANCELLED_AND_NOTIFIED, FINISHED, PENDING as PENDING_STATE, RUNNING
+from concurrent.futures._base import CANCELLED_AND_NOTIFIED, FINISHED, RUNNING
 from time import monotonic_ns
-from typing import TYPE_CHECKING, Any, Callable, Dict, List, NamedTuple, Optional, Sequence, Tuple, Type
+from typing import TYPE_CHECKING, Any, Callable, Dict, List, Optional, Sequence, Tuple, Type
 
-from .._library import CALLS, CNews, CReply, CStage, library, path
-from ..plan import Plan
-from ..values import Code, Form, check
+from .._library import CApplied, CGathering, CHandle, CRequestSizes, CRequestStep, CStage, CTask, CTold
+from ..values import Code, Form, Refused, check
+from ._machine import Calls, PlanCore, bound
 from .words import (ANSWER, ARGS, ATTACH, CANCEL, CANCELLED, CLAIM, COMPLETE, COMPOSE_FORMS, FAIL, FAIL_AS, FAILURES,
-                    FINISH, FIRST, FIRST_SOME, GIVES, GOT, IS_CLAIMED, IS_READY, IS_SETTLED, LINKS, MOST_STAGES,
-                    NOT_YET, ONE, OUTCOME, PENDING, REPLY_NUMBERS, SECOND, SECOND_SOME, THIS_THREAD, THROWN, THROWS,
+                    FINISH, GIVES, GOT, LINKS, PENDING, RELAY, THIS_THREAD, THROWN, THROWS,
                     TIMED_OUT, VALUE, RequestFull, Told, name_of)
 
 if TYPE_CHECKING:
     from .request import Works
     from .stage import Stage
 
-_loaded = c.PyDLL(path)
+_new, _apply, _next = bound("cf_request_new"), bound("cf_request_apply"), bound("cf_request_next")
+_gather, _more, _ready = bound("cf_request_gather"), bound("cf_request_told"), bound("cf_request_ready")
+_grow, _count_words, _stage = bound("cf_request_grow"), bound("cf_ledger_words"), bound("cf_ledger_stage")
+_free = bound("cf_free")
+_free.restype = None  # type: ignore[attr-defined]
+_nothing = PlanCore([])
+
+ROWS = 16  # how many stages a call tells at once
 
 
-def _bound(name: str) -> Callable[..., int]:
-    call: Any = getattr(_loaded, name)
-    call.argtypes, call.restype = CALLS[name], c.c_uint32
-    return call  # type: ignore[no-any-return]
+class _Block(c.Structure):
+    """A request's handle, and what its calls are given and tell."""
+
+    _fields_ = [("handle", CHandle), ("sizes", CRequestSizes), ("applied", CApplied), ("gathering", CGathering),
+                ("step", CRequestStep), ("task", CTask), ("stage", CStage), ("count", c.c_size_t),
+                ("ready", c.c_uint16), ("told", CTold * ROWS)]
 
 
-_new, _apply, _grow = _bound("cf_ledger_new"), _bound("cf_ledger_apply"), _bound("cf_ledger_grow")
-_ready = _bound("cf_ledger_ready")
-_words, _stage = _bound("cf_ledger_words"), _bound("cf_ledger_stage")
-_ReplyNumbers = c.c_uint32 * REPLY_NUMBERS
-_nothing = Plan().build()
+def _place(field: str, within: Any = None) -> int:
+    """Where a number of 32 bits stands in a block."""
+    return int(getattr(_Block, field).offset + (0 if within is None else within.offset)) // 4
+
+
+_SIZES, _REPLY, _APPLIED_TOLD = _place("sizes"), _place("applied"), _place("applied", CApplied.told)
+_GATHERING, _GATHERED_TOLD = _place("gathering"), _place("gathering", CGathering.told)
+_STEP, _TASK, _TASK_STAGE, _TASK_ARGS = (_place("step"), _place("task"), _place("task", CTask.stage),
+                                         _place("task", CTask.args))
+_OUTCOME, _TOLD, _TOLD_NUMBERS = _place("stage", CStage.outcome), _place("told"), c.sizeof(CTold) // 4
+_COUNT, _READY = _place("count"), _place("ready")
+_REPLY_ARGS = _REPLY + ARGS
 
 _TOLD_FAULT_ALONE = (Form.EXCEPTIONALLY, Form.EXCEPTIONALLY_COMPOSE)
 
@@ -119,6 +133,8 @@ class _Forks:
         self.count += 1
         for request in self._left:
             request._lock = _Parents()
+        for request in self._held:
+            request._leave_to_parent()
         self._let_go()
 
     def _let_go(self) -> None:
@@ -134,23 +150,16 @@ if hasattr(os, "register_at_fork"):
 
 
 class _Row:
-    """What stands beside a stage. Its future is held until it is settled, and may be missing of a planned one.
-    `error` is the number of the exception of a stage that timed out or has a bad answer, which its outcome doesn't
-    tell; None where nobody gave one."""
+    """What stands beside a stage. Its future is held until it is settled, and may be missing of a planned one. `kind`
+    is that of its outcome. `error` is the number of the exception of a stage that timed out or has a bad answer, which
+    its outcome doesn't tell; None where nobody gave one. `of` are the stages that it may have that from."""
 
-    __slots__ = ("form", "of", "name", "stage", "told", "error", "place", "running")
+    __slots__ = ("form", "of", "name", "stage", "kind", "error", "running")
 
     def __init__(self, form: int, of: Sequence[int], name: str, stage: "Optional[Stage[Any]]" = None) -> None:
         self.form, self.of, self.name, self.stage = form, of, name, stage
-        self.told, self.place, self.running = NOT_YET, 0, False
+        self.kind, self.running = PENDING, False
         self.error: Optional[int] = None
-
-
-class _News(NamedTuple):
-    """The stages that were settled, and the numbers of those that are ready."""
-
-    settled: "List[Stage[Any]]"
-    ready: List[int]
 
 
 if TYPE_CHECKING:
@@ -168,7 +177,7 @@ else:
 
 
 class StageCore(_Future):
-    """A future whose state the request's ledger decides."""
+    """A future whose state the request's machine decides."""
 
     request: "RequestCore"
     number: int
@@ -192,7 +201,7 @@ class StageCore(_Future):
     @property
     def _ended(self) -> int:
         """The kind of its outcome."""
-        return self.request._rows[self.number].told.kind
+        return self.request._rows[self.number].kind
 
     @property
     def _condition(self) -> threading.Condition:
@@ -212,7 +221,7 @@ class StageCore(_Future):
             return self._guard[1]
 
     def _publish(self, told: Told) -> None:
-        """Shows what the ledger has told. The request's lock is held, or nobody else has the stage."""
+        """Shows what the machine has told. The request's lock is held, or nobody else has the stage."""
         with self._condition:
             if told.kind == VALUE:
                 self._result, self._state, note = self.request._value(told.some, told.number), FINISHED, "add_result"
@@ -241,71 +250,64 @@ class StageCore(_Future):
         return first
 
 
-class PlanCore:
-    """The plan of a flow. Of each stage the form, the numbers of its sources, its function or None, and its name."""
+class _Machine:
+    """A request of the library, and what its calls are given and tell; one thread at a time has it."""
 
-    __slots__ = ("plan", "rows", "start")
-
-    def __init__(self, rows: List[Tuple[int, Tuple[int, ...], Optional[Callable[..., Any]], str]]) -> None:
-        if len(rows) > MOST_STAGES:
-            raise RequestFull("a request has at most 4,096 stages")
-        self.plan, self.rows = Plan(), rows
-        self.start: List[Tuple[int, Told]] = []
-        for number, (form, of, call, _) in enumerate(rows):
-            self.plan.stage(Form(form), *of, function=None if call is None else number)
-        ledger = _Ledger(self, 0)
-        self.start += [ledger.stage(number) for number in range(len(rows))]
-
-
-class _Ledger:
-    """The ledger of a request; one thread at a time has it."""
-
-    __slots__ = ("handle", "at", "reply", "to_reply", "news", "changed", "to_changed")
+    __slots__ = ("_memory", "numbers", "at", "applied", "told", "count")
 
     def __init__(self, plan: Optional[PlanCore], room: int) -> None:
-        from .._library import CHandle
+        self._memory = bytearray(c.sizeof(_Block))
+        self.numbers = memoryview(self._memory).cast("I")
+        self.at = at = c.addressof(c.c_char.from_buffer(self._memory))
+        self.applied, self.told, self.count = at + 4 * _REPLY, at + 4 * _TOLD, at + 4 * _COUNT
+        self.numbers[_SIZES] = room | 1 << 16 | RELAY << 24
+        of = plan or _nothing
+        check(_new(of.at, at + 4 * _SIZES, bytes(len(of.rows) + 1), len(of.rows), at))
 
-        self.handle, reply = CHandle(), CReply()
-        self.at, self.to_reply = c.byref(self.handle), c.byref(reply)
-        self.reply = _ReplyNumbers.from_buffer(reply)
-        self.changed = c.c_size_t()
-        self.to_changed = c.byref(self.changed)
-        self.make_room((0 if plan is None else len(plan.rows)) + room)
-        check(_new(_nothing._at if plan is None else plan.plan.build()._at, room, self.at))
+    def more(self) -> int:
+        """Has further stages told, and says how many there are."""
+        check(_more(self.at, self.told, ROWS, self.count))
+        return self.numbers[_COUNT]
 
-    def make_room(self, stages: int) -> None:
-        self.news = (CNews * max(stages, 1))()
+    def grow(self) -> None:
+        """Makes room for more stages."""
+        code = _grow(self.at)
+        if code == Code.ROOM:
+            raise RequestFull("a request has at most 4,096 stages")
+        check(code)
 
-    def apply(self, word: int) -> None:
-        code = _apply(self.at, word, self.to_reply, self.news, len(self.news), self.to_changed)
-        if code:
-            check(code)
+    def ready(self) -> int:
+        """How many functions are ready."""
+        check(_ready(self.at, 0, self.at + 4 * _READY))
+        return self.numbers[_READY] & 0xFFFF
 
-    def words(self, count: int) -> "array[int]":
-        told = (c.c_uint64 * count)()
-        check(_words(self.at, 0, told, count, c.byref(c.c_size_t())))
-        return array("Q", told)
+    def words_from(self, place: int) -> int:
+        """How many words there are from a place on."""
+        check(_count_words(self.at, place, self.told, 0, self.count))
+        return self.numbers[_COUNT]
 
-    def stage(self, number: int) -> Tuple[int, Told]:
-        told = CStage()
-        check(_stage(self.at, number, c.byref(told)))
-        return told.kind, _told(told)
+    def outcome(self, stage: int) -> Told:
+        """What a stage came to."""
+        check(_stage(self.at, stage, self.at + 4 * (_OUTCOME - 3)))
+        return Told(*self.numbers[_OUTCOME:_OUTCOME + 5])
 
     def __del__(self) -> None:
-        if library is not None and hasattr(self, "handle"):
-            library.cf_free(self.at)
+        if _free is not None and hasattr(self, "at"):
+            _free(self.at)
 
 
-def _told(stage: Any) -> Told:
-    outcome = stage.outcome
-    return Told(outcome.kind, outcome.wrapped, outcome.code, outcome.value.kind, outcome.value.number)
+_Begun = Tuple["Stage[Any]", Callable[..., Any], Tuple[Any, ...], Dict[str, Any]]
 
 
-class RequestCore:
-    """A ledger, and the objects that it knows by numbers."""
+class RequestCore(Calls):
+    """A machine, and the objects that it knows by numbers.
 
-    __slots__ = ("_works", "_title", "_keeps", "_plan", "_lock", "_ledger", "_rows", "_room", "_values", "_errors",
-                 "_times", "_replies", "_stage_class", "__weakref__")
+    The works are given the request once for each function that becomes ready. That is a turn: who has it runs whichever
+    function is the lowest ready one then. There are as many turns as ready functions, or more. One for which no
+    function is left does nothing."""
+
+    __slots__ = ("_works", "_title", "_keeps", "_plan", "_lock", "_machine", "_rows", "_most", "_values", "_errors",
+                 "_times", "_counts", "_turns", "_stage_class", "__weakref__")
 
     def __init__(self, works: "Works", title: str, room: int, keeps: object = None, plan: Optional[PlanCore] = None,
                  stage_class: "Optional[Type[Stage[Any]]]" = None) -> None:
@@ -313,51 +315,80 @@ class RequestCore:
         self._stage_class: "Type[Stage[Any]]" = stage_class or _classes["stage"]
         self._lock: "threading.Lock | _Parents" = threading.Lock()
         self._rows: List[_Row] = [] if plan is None else [_Row(form, of, name) for form, of, _, name in plan.rows]
-        for row, (kind, told) in zip(self._rows, () if plan is None else plan.start):
-            row.told = told if kind == IS_SETTLED else NOT_YET
-        room = min(room, MOST_STAGES - len(self._rows))
-        self._room = len(self._rows) + (room or plan is None)
-        self._ledger = _Ledger(plan, self._room - len(self._rows))
+        self._most = (plan or _nothing).most
+        self._machine = _Machine(plan, min(max(room, plan is None), self._most - len(self._rows)))
         self._values: List[Any] = []
         self._errors: List[BaseException] = []
-        self._times, self._replies = array("q"), bytearray()
+        self._times, self._counts, self._turns = array("q"), False, 0
+        if plan is not None:
+            self._note(self._machine.more(), [])
         _forks.add(self)
+
+    @property
+    def _at(self) -> int:
+        return self._machine.at
 
     @property
     def _stages(self) -> int:
         return len(self._rows)
 
-    # One event, under the lock.
+    @property
+    def _events(self) -> int:
+        return len(self._times)
 
-    def _apply(self, word: int, news: _News, error: Optional[int] = None) -> "c.Array[c.c_uint32]":
-        """Does the event of a word, shows what came of it, and adds that to the news. `error` is the number of the
-        exception that its stage times out with by it, or has a bad answer with. Those behind take that of their first
-        source that has one."""
-        ledger, rows = self._ledger, self._rows
-        ledger.apply(word)
-        self._times.append(monotonic_ns())
-        self._replies += ledger.reply
-        for changed in ledger.news[:ledger.changed.value]:
-            row, kind = rows[changed.stage], changed.now.kind
-            if kind == IS_SETTLED:
-                row.told, row.place = _told(changed.now), len(self._times)
-                if row.told.kind in FAILURES:
-                    is_own = error is not None and changed.stage == word >> 36 & 4095
-                    behind = None if is_own else self._error_of_sources(row, row.told.kind)
-                    row.error = error if behind is None else behind
+    # One call of the machine, under the lock.
+
+    def _apply(self, word: int, settled: "List[Stage[Any]]", error: Optional[int] = None) -> memoryview:
+        """Does a word, and shows what came of it. `error` is the number of the exception that its stage times out with
+        by it, or has a bad answer with."""
+        machine = self._machine
+        code = _apply(machine.at, word, 0, machine.applied, machine.told, ROWS)
+        if code:
+            check(code)
+        self._stamp(1)
+        if machine.numbers[_APPLIED_TOLD]:
+            self._note(machine.numbers[_APPLIED_TOLD], settled, word >> 36 & 4095, error)
+        return machine.numbers
+
+    def _add(self, row: _Row, word: int, settled: "List[Stage[Any]]") -> None:
+        """Attaches the stage of a row by a word."""
+        machine = self._machine
+        code = _apply(machine.at, word, 0, machine.applied, machine.told, ROWS)
+        if code == Code.NO_ROOM:
+            machine.grow()
+            code = _apply(machine.at, word, 0, machine.applied, machine.told, ROWS)
+        check(code)
+        self._rows.append(row)
+        self._stamp(1)
+        self._note(machine.numbers[_APPLIED_TOLD], settled)
+
+    def _stamp(self, words: int) -> None:
+        """Writes down when these words were done. They are counted where the machine may have done some by itself."""
+        if self._counts:
+            words = self._machine.words_from(len(self._times))
+        self._times.extend([monotonic_ns()] * words)
+
+    def _note(self, many: int, settled: "List[Stage[Any]]", own: int = -1, error: Optional[int] = None) -> None:
+        """Shows the stages that are told, and adds them to those that were settled. The stage `own` has the exception
+        of this number, where it is one. Those behind take that of their first source that has one."""
+        machine, rows = self._machine, self._rows
+        while many:
+            told = machine.numbers[_TOLD:_TOLD + _TOLD_NUMBERS * min(many, ROWS)].tolist()
+            for k in range(0, len(told), _TOLD_NUMBERS):
+                number, outcome = told[k] & 0xFFFF, Told(*told[k + 1:k + 6])
+                row = rows[number]
+                row.kind = outcome.kind
+                if outcome.kind in FAILURES:
+                    row.error = error if number == own and error is not None else self._error_of(row, outcome.kind)
                 stage, row.stage = row.stage, None
                 if stage is not None:
-                    stage._publish(row.told)
-                    news.settled.append(stage)
-            elif kind == IS_READY:
-                news.ready.append(changed.stage)
-            elif kind == IS_CLAIMED:
-                self._show_running(row)
-        return ledger.reply
+                    stage._publish(outcome)
+                    settled.append(stage)
+            many = machine.more() if many > ROWS else 0
 
-    def _error_of_sources(self, row: _Row, kind: int) -> Optional[int]:
+    def _error_of(self, row: _Row, kind: int) -> Optional[int]:
         """What the row of the first source says of an exception whose outcome is of this kind."""
-        return next((self._rows[source].error for source in row.of if self._rows[source].told.kind == kind), None)
+        return next((self._rows[source].error for source in row.of if self._rows[source].kind == kind), None)
 
     @staticmethod
     def _show_running(row: _Row) -> None:
@@ -365,22 +396,6 @@ class RequestCore:
         if row.stage is not None:
             with row.stage._condition:
                 row.stage._state = RUNNING
-
-    def _make_room(self, least: int) -> None:
-        """Room for so many stages more, and some."""
-        if len(self._rows) + least <= self._room:
-            return
-        more = min(3 * self._room + least, MOST_STAGES - len(self._rows))
-        while more and self._room + more >= len(self._rows) + least:
-            code = _grow(self._ledger.at, more)
-            if not code:
-                self._room += more
-                self._ledger.make_room(self._room)
-                return
-            if code != Code.ROOM:  # with its edges the graph would be too large
-                check(code)
-            more //= 2
-        raise RequestFull("a request has at most 4,096 stages")
 
     # What others call.
 
@@ -392,112 +407,158 @@ class RequestCore:
         if any(source is not None and source.request is not self for source in (first, second)):
             raise TypeError("no stage of this request")
         known = name if name is not None else name_of(call)
-        stage, news = self._stage_class(self, 0), _News([], [])
+        stage: "Stage[Any]" = self._stage_class(self, 0)
+        settled: "List[Stage[Any]]" = []
         if call is not None:
             stage._call, stage._given = call, (args or (), kwargs or {})
         with self._lock:
-            self._make_room(1 + (form in COMPOSE_FORMS))
-            if form in COMPOSE_FORMS:
-                self._rows.append(_Row(Form.SOURCE, (), "relay"))
-                self._apply(ATTACH << 56 | _here.who << 48, news)
+            composes = form in COMPOSE_FORMS
+            if len(self._rows) + 1 + composes > self._most:
+                raise RequestFull("a request has at most 4,096 stages")
+            if composes:
+                self._add(_Row(Form.SOURCE, (), "relay"), ATTACH << 56 | _here.who << 48, settled)
             stage.number = number = len(self._rows)
-            self._rows.append(_Row(form, of, known, stage))
             sources = (*of, 0, 0)
-            self._apply(ATTACH << 56 | _here.who << 48 | sources[0] << 36 | len(of) << 32 | form << 24 |
-                        sources[1] << 12 | (0 if call is None else number), news)
-        self._tell(news)
+            self._add(_Row(form, of, known, stage), ATTACH << 56 | _here.who << 48 | sources[0] << 36 |
+                      len(of) << 32 | form << 24 | sources[1] << 12 | (0 if call is None else number), settled)
+            is_ready = call is not None and (not of or any(self._rows[source].kind for source in of))
+        self._tell(settled, is_ready)
+        return stage
+
+    def _gather(self, form: int, of: "Sequence[Stage[Any]]", name: str) -> "Stage[Any]":
+        """The last of the stages that wait for all of these, or for one of them."""
+        if any(source.request is not self for source in of):
+            raise TypeError("no stage of this request")
+        numbers, many = array("H", [source.number for source in of]), max(len(of) - 1, 1)
+        stage: "Stage[Any]" = self._stage_class(self, 0)
+        settled: "List[Stage[Any]]" = []
+        with self._lock:
+            machine, at = self._machine, len(self._rows)
+            machine.numbers[_GATHERING], machine.numbers[_GATHERING + 1] = _here.who, form
+            code = int(Code.NO_ROOM)
+            while code == Code.NO_ROOM:
+                if at + many > self._most:
+                    raise RequestFull("a request has at most 4,096 stages")
+                code = _gather(machine.at, machine.at + 4 * _GATHERING, (numbers or array("H", [0])).buffer_info()[0],
+                               len(numbers), machine.told, ROWS)
+                if code == Code.NO_ROOM:
+                    machine.grow()
+            check(code)
+            stage.number = at + many - 1
+            self._rows += [_Row(form, numbers[:2] if not k else (at + k - 1, numbers[k + 1]), name,
+                                stage if k == many - 1 else None) for k in range(many)]
+            self._stamp(many)
+            self._note(machine.numbers[_GATHERED_TOLD], settled)
+        self._tell(settled, True)
         return stage
 
     def _change(self, kind: int, who: int, stage: "int | Stage[Any]", given: Any) -> bool:
         """Completes, fails or cancels a stage, and says whether that did it. `given` is the value, the exception, or
         True where a stage whose function runs isn't to be cancelled. By FAIL_AS it has a bad answer where the
         exception is a `BadAnswer`, and else times out."""
-        number, news = stage if isinstance(stage, int) else stage.number, _News([], [])
+        number = stage if isinstance(stage, int) else stage.number
+        settled: "List[Stage[Any]]" = []
         with self._lock:
             row = self._rows[number]
-            if kind == CANCEL and given is True and row.running and row.told.kind == PENDING:
+            if kind == CANCEL and given is True and row.running and row.kind == PENDING:
                 return False
             error = self._code(given) if kind == FAIL_AS else None
             low = (self._number(given) if kind == COMPLETE else self._code(given) if kind == FAIL else
                    int(kind == FAIL_AS and isinstance(given, _classes["bad_answer"])) << 32)
-            did = self._apply(kind << 56 | (_here.who if who == THIS_THREAD else who) << 48 | number << 36 | low, news,
-                              error)[ANSWER]
-        self._tell(news)
+            numbers = self._apply(kind << 56 | (_here.who if who == THIS_THREAD else who) << 48 | number << 36 | low,
+                                  settled, error)
+            did, is_ready = numbers[_REPLY + ANSWER], bool(numbers[_APPLIED_TOLD])
+        self._tell(settled, is_ready)
         return bool(did)
 
-    def _run(self, stage: "Stage[Any]", who: int) -> None:
-        """Claims a stage, calls its function and finishes it, and goes on with a stage that became ready by that."""
-        following: "Optional[Stage[Any]]" = stage
-        del stage
-        while following is not None:
-            stage, begun = following, self._begin(following, who)
-            if begun is None:
-                return
-            call, args, kwargs = begun
-            try:
-                given = call(*args, **kwargs)
-            except BaseException as error:
-                error.__traceback__ = error.__traceback__ and error.__traceback__.tb_next
-                following = self._end(stage, who, THROWS, error)
-            else:
-                composes = self._rows[stage.number].form in COMPOSE_FORMS
-                following = self._link(stage, who, given) if composes else self._end(stage, who, GIVES, given)
-                del given
-            # An error's traceback may keep this frame, which is to keep nothing.
-            del stage, begun, call, args, kwargs
+    def _takes_from(self, stage: int, other: int) -> None:
+        """Lets a stage have another one's exception, by which it will end. The lock is held."""
+        self._rows[stage].of, self._counts = (other,), True
+
+    def _run(self, who: int) -> None:
+        """Uses a turn: claims a stage, calls its function and finishes it, and goes on where another function became
+        ready by that."""
+        while self._step(who):
+            pass
 
     def _work(self, who: int) -> None:
         """Runs all that is ready, and all that gets ready by that, where nobody else does."""
-        ready, last, first = c.c_uint16(), -1, None
-        while True:
-            with self._lock:
-                code = _ready(self._ledger.at, 0, c.byref(ready))
-            if code == Code.NOTHING or ready.value == last:  # or one that couldn't be claimed
-                break
-            check(code)
+        is_over, first = False, None
+        while not is_over:
             try:
-                self._run(self._stage(ready.value), who)
+                is_over = self._step(who) is None
+            except Refused:
+                raise
             except BaseException as error:  # a callback's
-                first, last = first or error, ready.value
+                first = first or error
         if first is not None:
             raise first
 
-    def _begin(self, stage: "Stage[Any]",
-               who: int) -> Optional[Tuple[Callable[..., Any], Tuple[Any, ...], Dict[str, Any]]]:
-        """Claims a stage. Its function with its arguments, or None where nobody is to call it."""
-        news = _News([], [])
+    def _step(self, who: int) -> Optional[bool]:
+        """Runs the lowest ready function. Whether another turn is this thread's; None where none is ready."""
+        begun = self._begin(who)
+        if begun is None:
+            return None
+        stage, call, args, kwargs = begun
+        try:
+            given = call(*args, **kwargs)
+        except BaseException as error:
+            error.__traceback__ = error.__traceback__ and error.__traceback__.tb_next
+            goes_on = self._end(stage, who, THROWS, error)
+        else:
+            composes = self._rows[stage.number].form in COMPOSE_FORMS
+            goes_on = self._link(stage, who, given) if composes else self._end(stage, who, GIVES, given)
+            del given
+        # An error's traceback may keep this frame, which is to keep nothing.
+        del stage, begun, call, args, kwargs
+        return goes_on
+
+    def _begin(self, who: int, stage: "Optional[Stage[Any]]" = None) -> Optional[_Begun]:
+        """Claims this stage, or the lowest that is ready. The stage, and its function with its arguments; None where
+        nobody is to call one."""
         with self._lock:
-            reply = self._apply(CLAIM << 56 | who << 48 | stage.number << 36, news)
-            if reply[ANSWER] or stage._call is None:
+            machine = self._machine
+            self._turns -= self._turns > 0
+            if stage is None:
+                machine.numbers[_STEP], machine.numbers[_TASK] = who, 0
+                code = _next(machine.at, machine.at + 4 * _STEP, machine.at + 4 * _TASK, machine.told, ROWS)
+                if code == Code.NOTHING:
+                    return None
+                check(code)
+                self._stamp(1)
+                stage, at = self._known(machine.numbers[_TASK_STAGE] & 0xFFFF), _TASK_ARGS
+            elif self._apply(CLAIM << 56 | who << 48 | stage.number << 36, [])[_REPLY + ANSWER]:
+                return None
+            else:
+                at = _REPLY_ARGS
+            self._show_running(self._rows[stage.number])
+            if stage._call is None:
                 return None
             args, kwargs = stage._given
-            return stage._call, args or self._args(stage, reply), kwargs
+            return stage, stage._call, args or self._args(stage, at), kwargs
 
-    def _end(self, stage: "Stage[Any]", who: int, kind: int, given: Any) -> "Optional[Stage[Any]]":
-        """Finishes a stage with a value, an exception or a lower stage. A stage that became ready by that and isn't
-        handed to a thread."""
-        news = _News([], [])
+    def _end(self, stage: "Stage[Any]", who: int, kind: int, given: Any) -> bool:
+        """Finishes a stage with a value, an exception or a lower stage, and says whether a turn is left to the
+        caller."""
+        settled: "List[Stage[Any]]" = []
         with self._lock:
             low = (self._number(given) if kind == GIVES else THROWS << 32 | self._code(given) if kind == THROWS else
                    LINKS << 32 | given.number)
-            error = self._rows[given.number].error if kind == LINKS else None  # what it links to may have ended
-            self._apply(FINISH << 56 | who << 48 | stage.number << 36 | low, news, error)
-        following = self._stage(news.ready.pop(0)) if news.ready else None
+            if kind == LINKS:
+                self._rows[stage.number].of = (given.number,)  # it takes that one's exception
+            numbers = self._apply(FINISH << 56 | who << 48 | stage.number << 36 | low, settled)
+            is_ready = bool(numbers[_APPLIED_TOLD])
+        goes_on = is_ready and self._take_turn()
         try:
-            self._tell(news)
+            self._tell(settled, is_ready)
         except BaseException:
-            if following is not None:
-                self._tell(_News([], [following.number]))  # nobody else will
+            if goes_on:
+                self._works.put(self)  # type: ignore[arg-type]  # nobody else will
             raise
-        return following
+        return goes_on
 
-    def _link(self, stage: "Stage[Any]", who: int, to: Any) -> "Optional[Stage[Any]]":
+    def _link(self, stage: "Stage[Any]", who: int, to: Any) -> bool:
         raise NotImplementedError
-
-    def _open(self) -> None:
-        """Hands on what is ready in a plan from the start."""
-        start = [] if self._plan is None else self._plan.start
-        self._tell(_News([], [number for number, (kind, _) in enumerate(start) if kind == IS_READY]))
 
     def _stage(self, number: int) -> "Stage[Any]":
         """The future of a stage that may have none yet."""
@@ -512,8 +573,8 @@ class RequestCore:
         stage = self._stage_class(self, number)
         if self._plan is not None and number < len(self._plan.rows):
             stage._call = self._plan.rows[number][2]
-        if row.told.kind != PENDING:
-            stage._publish(row.told)
+        if row.kind != PENDING:
+            stage._publish(self._machine.outcome(number))
         else:
             row.stage = stage
             if row.running:
@@ -525,9 +586,9 @@ class RequestCore:
         does now."""
         with self._lock:
             row = self._rows[stage.number]
-            if row.told.kind == CANCELLED and not row.told.wrapped:
+            if stage._state == CANCELLED_AND_NOTIFIED:
                 return False
-            if row.told.kind != PENDING or row.running:
+            if row.kind != PENDING or row.running:
                 return None
             self._show_running(row)
             return True
@@ -538,48 +599,82 @@ class RequestCore:
     def _rename(self, number: int, name: str) -> None:
         self._rows[number].name = name
 
-    def _facts(self) -> Tuple[Any, Any, Any, Any, List[str], List[Any], List[BaseException]]:
-        """Words, times, replies as numbers of 32 bits; place, stage and outcome of each; names, values, errors."""
+    def _facts(self) -> Tuple[Any, Any, List[str], List[Any], List[BaseException]]:
+        """The words, the time of each in nanoseconds, and names, values and errors."""
         with self._lock:
-            told = array("I")
-            for number, row in enumerate(self._rows):
-                told.extend((row.place, number, *row.told[:4], row.told.number % 2**32))
-            return (self._ledger.words(len(self._times)), self._times[:], bytes(self._replies), told,
-                    [row.name for row in self._rows], self._values[:], self._errors[:])
+            return (self._words(), self._times[:], [row.name for row in self._rows], self._values[:],
+                    self._errors[:])
 
-    def _tell(self, news: _News) -> None:
-        """Tells threads of stages that are ready, and callbacks of those that were settled. The lock is free. What a
-        callback raises is raised once all is told."""
-        first: Optional[BaseException] = None
-        for number in news.ready:  # (which grows)
-            stage = self._stage(number)
-            try:
-                is_taken = self._works.put(stage)
-            except BaseException as raised:  # a stage that is put twice runs once, and one that isn't put never does
-                first, is_taken = first or raised, self._works.put(stage)
-            if not is_taken:
-                error = self._works.refusal()
-                with self._lock:
-                    self._apply(FAIL << 56 | _here.who << 48 | number << 36 | self._code(error), news)
-        for stage in news.settled:
+    # Turns.
+
+    def _take_told(self) -> None:
+        """Tells what others' calls of the machine have left to be told, and hands on what is ready."""
+        settled: "List[Stage[Any]]" = []
+        with self._lock:
+            self._stamp(0)
+            self._note(self._machine.more(), settled)
+        self._tell(settled, True)
+
+    def _tell(self, settled: "List[Stage[Any]]", is_ready: bool) -> None:
+        """Gives turns for functions that may be ready, and calls the callbacks of the stages that were settled. The
+        lock is free. What a callback raises is raised once all is told."""
+        first = self._hand_on() if is_ready else None
+        if self._counts:
+            with self._lock:
+                self._stamp(0)
+                self._note(self._machine.more(), settled)
+        for stage in settled:
             raised_by_callback = stage._let_go()
             first = first or raised_by_callback
         if first is not None:
             raise first
 
-    # What the ledger's numbers stand for. The lock is held.
+    def _hand_on(self) -> Optional[BaseException]:
+        """Gives a turn for each function that is ready and has none. If nobody takes it, those that are ready fail.
+        What was raised meanwhile."""
+        with self._lock:
+            turns = max(self._machine.ready() - self._turns, 0)
+            self._turns += turns
+        first: Optional[BaseException] = None
+        for left in range(turns, 0, -1):
+            try:
+                is_taken = self._works.put(self)  # type: ignore[arg-type]
+            except BaseException as raised:  # a turn too many does nothing, and one too few leaves a function behind
+                first = first or raised
+                try:
+                    is_taken = self._works.put(self)  # type: ignore[arg-type]
+                except BaseException:  # the next call gives these turns
+                    with self._lock:
+                        self._turns -= min(left, self._turns)
+                    break
+            if not is_taken:
+                self._fail_ready(self._works.refusal())
+                break
+        return first
 
-    def _args(self, stage: "Stage[Any]", reply: "c.Array[c.c_uint32]") -> Tuple[Any, ...]:
-        kind = reply[ARGS]
+    def _take_turn(self) -> bool:
+        """Whether a function is ready that has no turn, which is this thread's then."""
+        with self._lock:
+            is_left = self._machine.ready() > self._turns
+            self._turns += is_left
+            return is_left
+
+    def _take_back(self) -> None:
+        """Takes all turns back. The lock is held."""
+        self._turns, self._counts = 0, True
+
+    # What the machine's numbers stand for. The lock is held.
+
+    def _args(self, stage: "Stage[Any]", at: int) -> Tuple[Any, ...]:
+        """What a function is called with, as it is told from a place on."""
+        kind, first_some, first, second_some, second, *outcome = self._machine.numbers[at:at + 10]
         if kind == GOT:
-            got = Told(*reply[OUTCOME])
-            own = self._rows[stage.number]
-            error = None if got.kind == VALUE else self._error(got, self._error_of_sources(own, got.kind))
-            if self._rows[stage.number].form in _TOLD_FAULT_ALONE:
+            got, row = Told(*outcome), self._rows[stage.number]
+            error = None if got.kind == VALUE else self._error(got, self._error_of(row, got.kind))
+            if row.form in _TOLD_FAULT_ALONE:
                 return (error,)
             return (self._value(got.some, got.number) if error is None else None, error)
-        first, second = self._value(reply[FIRST_SOME], reply[FIRST]), self._value(reply[SECOND_SOME], reply[SECOND])
-        return (first, second)[:kind]
+        return (self._value(first_some, first), self._value(second_some, second))[:kind]
 
     def _value(self, some: int, number: int) -> Any:
         return self._values[number] if some else None

@@ -41,35 +41,34 @@ class ContextRequest(Request):
         """A flow's function with its context. One that was attached has that already."""
         return Within(self._context.copy().run, call)
 
-    def _run(self, stage: "Stage[Any]", who: int) -> None:
+    def _run(self, who: int) -> None:
         if self._plan is None:
-            RequestCore._run(self, stage, who)
+            RequestCore._run(self, who)
         else:
-            self._run_planned(stage, who)
+            while self._run_planned(who):
+                pass
 
-    def _run_planned(self, stage: "Stage[Any]", who: int) -> None:
-        """As `_run`. Functions of a plan are given their contexts here."""
-        following: "Optional[Stage[Any]]" = stage
-        del stage
-        while following is not None:
-            stage, begun = following, self._begin(following, who)
-            if begun is None:
-                return
-            call, args, kwargs = begun
-            try:
-                given = (call if type(call) is Within else self._within(call))(*args, **kwargs)
-            except BaseException as error:
-                error.__traceback__ = error.__traceback__ and error.__traceback__.tb_next
-                following = self._end(stage, who, THROWS, error)
-            else:
-                following = ended(stage, who, given)
-                del given
-            # An error's traceback may keep this frame, which is to keep nothing.
-            del stage, begun, call, args, kwargs
+    def _run_planned(self, who: int) -> Optional[bool]:
+        """Runs the lowest ready function, as `_run` does. Those of a plan are given their contexts here."""
+        begun = self._begin(who)
+        if begun is None:
+            return None
+        stage, call, args, kwargs = begun
+        try:
+            given = (call if type(call) is Within else self._within(call))(*args, **kwargs)
+        except BaseException as error:
+            error.__traceback__ = error.__traceback__ and error.__traceback__.tb_next
+            goes_on = self._end(stage, who, THROWS, error)
+        else:
+            goes_on = ended(stage, who, given)
+            del given
+        # An error's traceback may keep this frame, which is to keep nothing.
+        del stage, begun, call, args, kwargs
+        return goes_on
 
 
-def ended(stage: "Stage[Any]", who: int, given: Any) -> "Optional[Stage[Any]]":
-    """Finishes a stage with what its function gave."""
+def ended(stage: "Stage[Any]", who: int, given: Any) -> bool:
+    """Finishes a stage with what its function gave, and says whether a turn is left to the caller."""
     if stage._form in COMPOSE_FORMS:
         return stage.request._link(stage, who, given)
     return stage.request._end(stage, who, GIVES, given)

@@ -11,10 +11,11 @@ import os
 import threading
 import weakref
 from collections import deque
+from functools import partial
 from typing import Any, Callable, Deque, Dict, Tuple
 
 from .contexts import ContextRequest
-from .history import Describe, History
+from .history import History
 
 LOGGER = logging.getLogger("concurrent.futures")
 MOST = 2048  # histories that wait for a hook
@@ -36,16 +37,16 @@ class Ends:
         """No thread is there, and nothing is left to tell."""
         self.requests: "Dict[int, weakref.ref[EndingRequest]]" = {}  # of which nobody was told yet, by their `id`
         self._changed = threading.Condition()  # (which the thread that has it may take again, as in a `__del__`)
-        self._left: "Deque[Tuple[History, Describe, contextvars.Context]]" = deque()
+        self._left: "Deque[Tuple[Callable[[], History], contextvars.Context]]" = deque()
         self._is_there = self._is_losing = False
 
-    def tell(self, history: History, describe: Describe, context: contextvars.Context) -> None:
-        """Has the hook called with a history, or drops that where too many wait."""
+    def tell(self, make: Callable[[], History], context: contextvars.Context) -> None:
+        """Has the hook called with the history that this gives, or drops that where too many wait."""
         with self._changed:
             is_full, was_losing = len(self._left) >= MOST, self._is_losing
             self._is_losing = is_full
             if not is_full:
-                self._left.append((history, describe, context))
+                self._left.append((make, context))
             starts = not (self._is_there or is_full)
             self._is_there = self._is_there or starts
         if is_full and not was_losing:
@@ -67,12 +68,12 @@ class Ends:
                     self._is_there = False
                     self._changed.notify_all()
                     return
-                history, describe, context = self._left.popleft()
+                make, context = self._left.popleft()
             try:
-                context.run(self._hook, history._described(describe))
+                context.run(self._hook, make())
             except BaseException:
                 LOGGER.warning("exception in the hook of an ended request", exc_info=True)
-            del history, context
+            del make, context
 
     def end_all(self) -> None:
         """Ends all requests as they are, and waits until the hook was told."""
@@ -121,8 +122,9 @@ class EndingRequest(ContextRequest):
         """Has the hook told, if it wasn't yet. It raises nothing."""
         try:
             if self._ends.requests.pop(id(self), None) is not None:
-                self._ends.tell(History(self.name, self._plan, self._facts()),
-                                getattr(self, "_describe", self._works.describe), self._context)
+                history = History(self.name, self._plan, self._facts())
+                described = partial(history._described, getattr(self, "_describe", self._works.describe))
+                self._ends.tell(described, self._context)
         except Exception:
             LOGGER.warning("the end of a request isn't told", exc_info=True)
 

@@ -1,20 +1,29 @@
 """What happened to a request: told in words, as an account that `cf_look check` judges, and as a script."""
+import ctypes as c
 import itertools
 import subprocess
 import time
 import unicodedata
 from array import array
-from typing import TYPE_CHECKING, Any, Callable, Dict, List, NamedTuple, Optional, Tuple
+from typing import TYPE_CHECKING, Any, Callable, Iterator, List, NamedTuple, Optional, Sequence, Tuple
 
+from .._library import CNews, CReply, CStage
 from ..events import Event, event_of
+from ..ledger import Ledger
 from ..plan import Plan
 from ..tale import Kind, Said, Tale
 from ..values import Form
-from .words import (BAD_ANSWER, CANCELLED, CLIENT, CLOCK, FIRST_WORKER, PENDING, RELAY, REPLY_NUMBERS, THROWN,
+from .words import (BAD_ANSWER, CANCELLED, CLIENT, CLOCK, FIRST_WORKER, IS_SETTLED, RELAY, REPLY_NUMBERS, THROWN,
                     TIMED_OUT, Told)
 
 if TYPE_CHECKING:
-    from ._plain import PlanCore
+    from typing import Protocol
+
+    class Planned(Protocol):
+        """A plan. Of each stage the form, the numbers of its sources, its function or None, and its name."""
+
+        @property
+        def rows(self) -> Sequence[Tuple[int, Tuple[int, ...], Optional[Callable[..., Any]], str]]: ...
 
 LONGEST_TEXT = 60  # characters that are told of a value
 FORGING = ("Cc", "Cf", "Cs", "Zl", "Zp")  # the categories of characters that could make a text look like another line
@@ -106,9 +115,9 @@ class History:
         words: The word of each event.
         values, errors: What the numbers in the words stand for."""
 
-    def __init__(self, name: str, plan: "Optional[PlanCore]",
-                 facts: Tuple[Any, Any, Any, Any, List[str], List[Any], List[BaseException]]) -> None:
-        words, times, replies, told, names, values, errors = facts
+    def __init__(self, name: str, plan: "Optional[Planned]",
+                 facts: Tuple[Any, Any, List[str], List[Any], List[BaseException]]) -> None:
+        words, times, names, values, errors = facts
         self.name: str = name
         self.names: List[str] = names
         self.values: List[Any] = values
@@ -118,14 +127,11 @@ class History:
         rows = [] if plan is None else plan.rows
         self.planned: List[Tuple[int, Tuple[int, ...], bool]] = [
             (form, of, call is not None) for form, of, call, _ in rows]
-        self._times, self._replies = _numbers("q", times), _numbers("I", replies)
+        self._times = _numbers("q", times)
         self._since = time.time_ns() - time.monotonic_ns()  # when the clock of the times was at 0
-        self._told: Dict[int, List[Tuple[int, Told]]] = {}
+        self._opened: Optional[int] = None  # in nanoseconds since 1970, where the first event doesn't tell it
         self._entries: Optional[List[Entry]] = None
-        numbers = _numbers("I", told)
-        for k in range(0, len(numbers), 7):
-            if numbers[k + 2] != PENDING:
-                self._told.setdefault(numbers[k], []).append((numbers[k + 1], Told(*numbers[k + 2:k + 7])))
+        self._start: Optional[List[Tuple[int, Told]]] = None
 
     def _described(self, describe: Describe) -> "History":
         """The same with what a function tells of values and exceptions. It is called here, and no lock is held."""
@@ -136,13 +142,34 @@ class History:
         return self
 
     def entries(self) -> List[Entry]:
-        """All events."""
+        """All events. The library does the words again for these."""
         if self._entries is None:
             first = self._times[0] if self._times else 0
-            replies = [tuple(self._replies[k:k + REPLY_NUMBERS]) for k in range(0, len(self._replies), REPLY_NUMBERS)]
-            self._entries = [Entry(k + 1, (self._times[k] - first) / 1e9, word, event_of(word), replies[k],
-                                   self._told.get(k + 1, [])) for k, word in enumerate(self.words)]
+            self._entries = [Entry(k + 1, (self._times[k] - first) / 1e9, word, event_of(word), reply, told)
+                             for k, (word, (reply, told)) in enumerate(zip(self.words, self._done_again()))]
         return self._entries
+
+    def start(self) -> List[Tuple[int, Told]]:
+        """Which stages are settled before the first event, and with what."""
+        if self._start is None:
+            with Ledger(self._plan()) as ledger:
+                stages = [(number, ledger._tell("cf_ledger_stage", CStage(), number))
+                          for number in range(len(self.planned))]
+            self._start = [(number, _outcome(it)) for number, it in stages if it.kind == IS_SETTLED]
+        return self._start
+
+    def _done_again(self) -> Iterator[Tuple[Tuple[int, ...], List[Tuple[int, Told]]]]:
+        """Of each word what it was answered, and which stages it settled."""
+        reply, count, many = CReply(), c.c_size_t(), len(self.names)
+        numbers, news = (c.c_uint32 * REPLY_NUMBERS).from_buffer(reply), (CNews * max(many, 1))()
+        settled = {number for number, _ in self.start()}
+        with Ledger(self._plan(), many - len(self.planned)) as ledger:
+            for word in self.words:
+                ledger._call("cf_ledger_apply", word, c.byref(reply), news, many, c.byref(count))
+                told = [(it.stage, _outcome(it.now)) for it in news[:count.value]
+                        if it.now.kind == IS_SETTLED and it.stage not in settled]
+                settled.update(number for number, _ in told)
+                yield tuple(numbers), told
 
     # As texts, which the library tells.
 
@@ -231,6 +258,11 @@ class History:
 
     def _text(self, thing: Any) -> str:
         return _by(describe_all, thing) if self._describe is describe_all else str(thing)
+
+
+def _outcome(stage: CStage) -> Told:
+    outcome = stage.outcome
+    return Told(outcome.kind, outcome.wrapped, outcome.code, outcome.value.kind, outcome.value.number % 2**32)
 
 
 def _numbers(kind: str, given: Any) -> List[int]:

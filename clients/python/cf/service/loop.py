@@ -72,6 +72,8 @@ class _WatchedRequest(WatchedRequest, ContextRequest):
 class _LoopWorks:
     """What `Works` is to a request."""
 
+    is_parents = False
+
     def __init__(self, loop: asyncio.AbstractEventLoop, describe: Describe, ends: Optional[Ends],
                  watch: Optional[Watch]) -> None:
         self._loop, self.describe, self.ends, self.watch = loop, describe, ends, watch
@@ -88,9 +90,9 @@ class _LoopWorks:
     def refusal(self) -> RuntimeError:
         return RuntimeError("Event loop is closed")
 
-    def put(self, stage: "Stage[Any]") -> bool:
+    def put(self, request: Request) -> bool:
         try:
-            self._loop.call_soon_threadsafe(self._run, stage)
+            self._loop.call_soon_threadsafe(self._run, request)
         except RuntimeError:
             return False
         return True
@@ -122,31 +124,31 @@ class _LoopWorks:
         except RuntimeError:  # the loop is closed, and calls nothing any more
             pass
 
-    def _run(self, stage: "Optional[Stage[Any]]") -> None:
-        while stage is not None:
-            request, begun = stage.request, stage.request._begin(stage, FIRST_WORKER)
+    def _run(self, request: Request, goes_on: bool = True) -> None:
+        while goes_on:
+            begun = request._begin(FIRST_WORKER)
             if begun is None:
                 return
-            call, args, kwargs = begun
+            stage, call, args, kwargs = begun
             within = call if type(call) is Within else cast(ContextRequest, request)._within(call)
             try:
                 given = within(*args, **kwargs)
             except BaseException as error:
-                stage = self._raised(stage, error)
+                goes_on = self._raised(stage, error)
             else:
                 if inspect.isawaitable(given) and not isinstance(given, Stage):
                     within.func(self._await, stage, given)
                     return
-                stage = ended(stage, FIRST_WORKER, given)
+                goes_on = ended(stage, FIRST_WORKER, given)
 
-    def _raised(self, stage: "Stage[Any]", error: BaseException) -> "Optional[Stage[Any]]":
+    def _raised(self, stage: "Stage[Any]", error: BaseException) -> bool:
         """Finishes a stage whose function raised. What leaves a loop as a task raises it does so here, too, once no
         stage is left behind."""
-        following = stage.request._end(stage, FIRST_WORKER, THROWS, error)
+        goes_on = stage.request._end(stage, FIRST_WORKER, THROWS, error)
         if not isinstance(error, (KeyboardInterrupt, SystemExit)):
-            return following
-        if following is not None:
-            self.put(following)
+            return goes_on
+        if goes_on:
+            self.put(stage.request)
         raise error
 
     def _await(self, stage: "Stage[Any]", given: Awaitable[Any]) -> None:
@@ -160,7 +162,7 @@ class _LoopWorks:
         try:
             value = await given
         except BaseException as error:
-            following = self._raised(stage, error)
+            goes_on = self._raised(stage, error)
         else:
-            following = ended(stage, FIRST_WORKER, value)
-        self._run(following)
+            goes_on = ended(stage, FIRST_WORKER, value)
+        self._run(stage.request, goes_on)

@@ -2,62 +2,74 @@
 
 The design of `cf.service`, which this file leads through:
 
-A request is one ledger of the proved library and the Python objects that the ledger knows by numbers. Who may settle a
-stage, which stage is ready, and what follows from a settled stage is decided by the ledger alone. The code here hands
-words in, reads the reply and the news, and does to Python objects what they say.
+A request is one machine of the proved library (docs/REQUEST.md) and the Python objects that the machine knows by
+numbers. Who may settle a stage, which stage is ready and whose function is called next, who has to be told, and what
+follows from a settled stage is decided by the machine alone. The code here is its host: it hands words in, and does to
+Python objects what the machine tells.
 
 What is kept where
-    - `RequestCore`, `StageCore` and `PlanCore` are written twice, with the same names and answers: in C
-      (`native/_cf.c`) and in Python over ctypes (`_plain.py`). `_core.py` chooses. A core has the ledger; for each
-      event its time and its reply; for each stage a row with form, sources, name, outcome and future; and the lists of
-      values and exceptions. A word names a value or an exception by its index in these lists. The future of a stage is
-      in its row until the stage is settled, and has the function with its arguments until then.
-    - `Request` and `Stage` are below the cores, and have what isn't hot: the methods that users call, relays,
-      deadlines.
+    - `RequestCore` and `StageCore` are written twice, with the same names and answers: in C (`native/_cf.c`) and in
+      Python over ctypes (`_plain.py`). `_core.py` chooses. A core has the machine; for each word its time; for each
+      stage a row with name, form, future, and what was told of it; and the lists of values and exceptions. A word names
+      a value or an exception by its index in these lists. The future of a stage is in its row until the stage is
+      settled, and has the function with its arguments until then.
+    - What isn't hot stands once, for both cores, in `_machine.py`: plans, relays within a request, refusals, words.
+    - `Request` and `Stage` are below the cores, and have what isn't hot either: the methods that users call, relays
+      of futures that stand elsewhere, time limits.
     - `Works` (works.py) has the threads and the clock of a `Service`, `_LoopWorks` (loop.py) the event loop of a
       `LoopService`. To a request both are the protocol `Works` below.
 
 What guards what
-    - In Python each request has a lock. It guards ledger, rows and lists. Under it only the conditions of stages are
+    - In Python each request has a lock. It guards machine, rows and lists. Under it only the conditions of stages are
       taken, with the locks of those who wait by `wait` and `as_completed`; under these never a request's lock. No
       thread has the locks of two requests.
-    - In C there is no such lock: one event with all that is written down of it runs no Python code, and keeps the
-      interpreter's lock, so it is one step for all threads.
+    - In C there is no such lock: one call of the machine with all that is written down of it runs no Python code, and
+      keeps the interpreter's lock, so it is one step for all threads.
     - Either way no function and no callback of a user runs within that step.
     - `Works._lock` is taken to start and to end threads.
     - Relays (relays.py) need no lock: whoever takes a relay out of its row settles it.
 
-What happens at a change (`_change`: complete, fail, cancel; also `_attach`, `_begin` and `_end`)
-    1. The ledger does one word. Its news say which stages are ready now, and which are settled.
-    2. What is settled is written into rows. So whoever sees an outcome can also see the outcomes of all earlier words.
+What happens at a change (`_change`: complete, fail, cancel; also `_attach`, `_gather` and `_end`)
+    1. The machine does one word. It tells the stages that are settled by it.
+    2. What is told is written into rows. So whoever sees an outcome can also see the outcomes of all earlier words.
     3. Threads that wait for settled stages are woken, and `wait` and `as_completed` are told. (In Python this comes
        within step 2, under the lock, in C right after it.)
-    4. Ready stages are handed to the works, by `Works.put`. If nobody will run one, it fails with `Works.refusal`.
+    4. If more functions are ready than there are turns, the works are given turns (`_hand_on`). If nobody takes one,
+       all that is ready fails with `Works.refusal`.
     5. Callbacks of settled stages are called, in the thread that made the change. One that raises keeps no other from
        being called. An `Exception` is logged; the first of anything else is raised at the end.
 
 A function from ready to finished
-    `Works.put` gives a stage to a thread or to the loop. That calls `_run`: the claim is one word, whose reply tells
-    what the function is called with; the function is called without a lock; the finish is one more word. If the finish
-    makes a stage ready, the same thread goes on with it, and hands the other ones to the works. A claim is in vain
-    where somebody has settled the stage meanwhile, and nothing is called then. A finish that comes too late changes
-    nothing. A flow that one thread runs (`flow.run`) asks the ledger for what is ready, by `_work`.
+    A turn is the request itself, put before the works by `Works.put`: it stands for one function that is ready, and
+    doesn't say which. A thread, or the loop, that takes it calls `_run`. The machine claims the lowest ready stage, and
+    tells its function and arguments; the function is called without a lock; the finish is one more word. If a function
+    became ready by it that has no turn, the same thread goes on with that one. There are as many turns as ready
+    functions, or more: if somebody settles a stage that is ready, a turn is too many, and does nothing. A finish that
+    comes too late changes nothing. A flow that one thread runs (`flow.run`) needs no turns: it goes on while the
+    machine has a function (`_work`).
 
 Relays
     A source has to be a stage of the same request. A future that isn't gets a relay: a source of this request that ends
     as the future does (`link` in relays.py). The future keeps the relay, and so the request, until either is settled.
     If a stage needed the relay alone, its end lets go of it (`_let_go_with`). A composing stage has a relay right below
     it. Its finish links to the stage that the function returned, if that is a lower one of this request, and else to
-    the relay (`_link`, `_follow`).
+    the relay (`_link`). If the function returned a higher stage of this request, the machine lets the relay follow it
+    (`_follow_within`), and else `link` does (`_follow`).
 
-Deadlines
+Time limits
     `_later` asks the clock of the works to act after some seconds, and takes that back at the stage's end by a
-    callback. The act is a change by the caller CLOCK: FAIL_AS, by which the stage times out, or COMPLETE.
+    callback. The act is a change by the caller CLOCK: FAIL_AS, by which the stage times out, or COMPLETE. They aren't
+    the machine's deadlines.
 
 Room
-    A request has at most 4,096 stages. The ledger has room for a few at first and makes more by doing its words again
-    (`_make_room`, `grow` in C). What takes several stages asks `_check_room` before it attaches the first, so that a
-    call that raises `RequestFull` has changed nothing.
+    A request has at most 4,096 stages, and 16,384 mentions of sources, two of which are set aside for each stage that
+    is attached. The machine has room for a few at first, and makes more when it says that there is none. What takes
+    several stages asks `_check_room` before it attaches the first, so that a call that raises `RequestFull` has changed
+    nothing.
+
+Forks
+    In a child of `fork` no thread of a service is there, and what it was to run is the parent's. So what is ready then
+    is claimed there by nobody (`_leave_to_parent`).
 
 Contexts and ends
     A request whose functions have contexts is a `ContextRequest` (contexts.py), and one of a service with a hook an
@@ -78,7 +90,7 @@ from ._core import RequestCore
 from .history import Describe, History
 from .relays import Hold, link
 from .stage import Stage
-from .words import FAIL, LINKS, MOST_STAGES, RELAY, THROWS, RequestFull
+from .words import FAIL, LINKS, RELAY, THROWS, RequestFull
 
 if TYPE_CHECKING:
     from typing import Protocol
@@ -108,7 +120,11 @@ if TYPE_CHECKING:
 
         def refusal(self) -> RuntimeError: ...
 
-        def put(self, stage: Stage[Any]) -> bool: ...
+        def put(self, request: Request) -> bool: ...
+
+        @property
+        def is_parents(self) -> bool:
+            """Whether what was put isn't there in a child of `fork`."""
 
 
 T = TypeVar("T")
@@ -119,7 +135,7 @@ class Request(RequestCore):
     """Stages that belong together, of which one history is kept. `Service.request` and `Service.start` open one. Any
     thread may use it.
 
-    Each change is one event of the request's ledger. An event and what follows from it are shown in one step; callbacks
+    Each change is one event of the request. An event and what follows from it are shown in one step; callbacks
     and threads are told after that. Values and exceptions are kept until nobody has the request or one of its stages
     any more.
 
@@ -213,7 +229,7 @@ class Request(RequestCore):
         if self._works.closed:
             raise self._works.refusal()
         here, holds = self._relays_of(of, 1)
-        done: Stage[List[T]] = self._behind(Form.APPLY, self._tree(Form.ALL_OF, here, "all of"), None,
+        done: Stage[List[T]] = self._behind(Form.APPLY, self._gather(Form.ALL_OF, here, "all of"), None,
                                             functools.partial(_results, here))
         _let_go_with(done, holds)
         return done.named("gather")
@@ -266,14 +282,14 @@ class Request(RequestCore):
 
     def _of_all(self, form: Form, of: "Sequence[concurrent.futures.Future[Any]]", name: str) -> "Stage[Any]":
         here, holds = self._relays_of(of, 0)
-        stage = self._tree(form, here, name)
+        stage = self._gather(form, here, name)
         _let_go_with(stage, holds)
         return stage
 
     def _relays_of(self, of: "Sequence[concurrent.futures.Future[Any]]",
                    more: int) -> "Tuple[List[Stage[Any]], List[Hold]]":
         """Stages of this request that end as these futures do, and what lets go of the relays among them. There is
-        room for a tree of them and so many stages more, else nothing is attached."""
+        room to gather them and for so many stages more, else nothing is attached."""
         others = sum(not isinstance(future, Stage) or future.request is not self for future in of)
         self._check_room(others + max(len(of) - 1, 1) + more)
         holds: List[Hold] = []
@@ -289,18 +305,9 @@ class Request(RequestCore):
             holds.append(hold)
         return relay
 
-    def _tree(self, form: Form, row: "List[Stage[Any]]", name: str) -> "Stage[Any]":
-        """An attached stage has at most two sources; a tree of them tells what one stage of all would."""
-        attach = self._attach
-        while len(row) > 2:
-            more = [attach(form, row[k], row[k + 1], None, None, None, name) for k in range(0, len(row) - 1, 2)]
-            row = more + row[len(row) - 1:] if len(row) % 2 else more
-        first, second = (*row, None, None)[:2]
-        return attach(form, first, second, None, None, None, name)
-
     def _check_room(self, stages: int) -> None:
         """Raises where so many more wouldn't find room, before any is attached."""
-        if self._stages + stages > MOST_STAGES:
+        if self._stages + stages > self._most:
             raise RequestFull("a request has at most 4,096 stages")
 
     def _later(self, stage: "Stage[T]", seconds: float, act: Callable[[], object]) -> "Stage[T]":
@@ -313,7 +320,7 @@ class Request(RequestCore):
             stage.add_done_callback(lambda _: forget())
         return stage
 
-    def _link(self, stage: "Stage[Any]", who: int, to: Any) -> "Optional[Stage[Any]]":
+    def _link(self, stage: "Stage[Any]", who: int, to: Any) -> bool:
         """Finishes a composing stage with the future that its function gave. A stage links to lower ones alone, and
         one that its function made is higher; so its relay, which stands just below it, is settled as that one is."""
         if not isinstance(to, concurrent.futures.Future):
@@ -329,6 +336,9 @@ class Request(RequestCore):
 
     def _follow(self, stage: "Stage[Any]", relay: "Stage[Any]", to: "concurrent.futures.Future[Any]") -> None:
         """Lets a relay end as the future does, and as a future of others' fails that can't be asked."""
+        if isinstance(to, Stage) and to.request is self:
+            self._follow_within(relay.number, to.number)
+            return
         try:
             hold = link(relay, to)
         except Exception as error:

@@ -60,7 +60,7 @@ class _Reading:
             number: (form, of) for number, (form, of, _) in enumerate(history.planned)}
         self.claims: Dict[int, Entry] = {}
         self.finishes: Dict[int, Entry] = {}
-        self.ends: Dict[int, Told] = dict(history._told.get(0, []))
+        self.ends: Dict[int, Told] = dict(history.start())
         self.inner: Set[int] = set()  # stages for which another one waits, or that a function attached
         for entry in history.entries():
             self.ends.update(entry.told)
@@ -84,7 +84,8 @@ class _Reading:
     def spans(self) -> Iterator[Span]:
         if not self.moments:
             return
-        yield Span(_whole(self.history.name), self.moments[0], self.moments[-1], {}, (), *self._last(), None)
+        start = self.moments[0] if self.history._opened is None else min(self.history._opened, self.moments[0])
+        yield Span(_whole(self.history.name), start, self.moments[-1], {}, (), *self._last(), None)
         for stage in sorted(self.claims):
             yield self._span(stage)
 

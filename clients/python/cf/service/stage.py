@@ -1,4 +1,4 @@
-"""A stage of a request: a future whose state the request's ledger decides."""
+"""A stage of a request: a future whose state the request's machine decides."""
 import asyncio
 import concurrent.futures
 import functools
@@ -36,7 +36,7 @@ else:
 class Stage(_Future[T]):
     """A `concurrent.futures.Future` that can have stages behind it, and that can be awaited.
 
-    The request's ledger decides what happens to a stage. Reading a stage (`result`, `done`, ..) tells what the ledger
+    The request's machine decides what happens to a stage. Reading a stage (`result`, `done`, ..) tells what the machine
     has told of it. The head of request.py tells the design.
 
     Where functions run: on one of the service's threads, or on the loop of a `LoopService`, where they may be coroutine
@@ -46,7 +46,7 @@ class Stage(_Future[T]):
     exception, and a stage behind a cancelled one with `CancelledError`. Its own function isn't called then, unless it
     takes exceptions (`handle`, `when_done`, `recover`, `recover_compose`).
 
-    What attaching costs: one stage of the request and one event of the ledger. `compose` and `recover_compose` take
+    What attaching costs: one stage of the request and one event. `compose` and `recover_compose` take
     two of each. A run is two more events, the claim and the finish.
 
     Each method that attaches a stage returns the new stage, and raises

@@ -11,7 +11,7 @@ its own, so one thread at a time may be within a service that is watched.
 import concurrent.futures
 import functools
 from array import array
-from typing import Any, Callable, Dict, List, Optional, Protocol, Sequence, Tuple, TypeVar, cast
+from typing import Any, Callable, Dict, List, Optional, Protocol, Sequence, Set, Tuple, TypeVar, cast
 
 from ._core import be
 from .ending import Ends
@@ -19,7 +19,7 @@ from .history import Describe, History
 from .relays import Hold, is_relay, is_release
 from .request import Request
 from .stage import Stage
-from .words import CANCEL, COMPOSE_FORMS, GIVES, LINKS, THROWS
+from .words import COMPOSE_FORMS, GIVES, LINKS, THROWS
 
 T = TypeVar("T")
 
@@ -97,10 +97,10 @@ class Task:
 
     def claim(self, who: int) -> bool:
         """Claims it for a caller, whose number histories tell, and says whether the function is to be called."""
-        begun = self.stage.request._begin(self.stage, who)
+        begun = self.stage.request._begin(who, self.stage)
         if begun is None:
             return False
-        self._who, self.fn, self._args = who, begun[0], begun[1:]
+        self._who, self.fn, self._args = who, begun[1], begun[2:]
         return True
 
     def call(self, leaves: Tuple[type, ...] = ()) -> None:
@@ -121,14 +121,16 @@ class Task:
         """Finishes the stage. A stage that became ready by that, which is run once the callbacks were called."""
         stage, request = self.stage, self.stage.request
         if self._kind == GIVES and stage._form in COMPOSE_FORMS:
-            following = request._link(stage, self._who, self._given)
+            goes_on = request._link(stage, self._who, self._given)
         else:
-            following = request._end(stage, self._who, self._kind, self._given)
-        return None if following is None else Task(following)
+            goes_on = request._end(stage, self._who, self._kind, self._given)
+        return cast(WatchedRequest, request)._task() if goes_on else None
 
 
 class WatchedWorks:
     """What `Works` is to a request, where a watch runs the service."""
+
+    is_parents = False
 
     def __init__(self, watch: Watch, describe: Describe) -> None:
         self.watch, self.describe, self.closed = watch, describe, False
@@ -141,10 +143,10 @@ class WatchedWorks:
     def refusal(self) -> RuntimeError:
         return RuntimeError("cannot schedule new futures after shutdown")
 
-    def put(self, stage: "Stage[Any]") -> bool:
+    def put(self, request: Request) -> bool:
         if self.closed and not self.watch.busy:
             return False
-        self.watch.ready(Task(stage))
+        self.watch.ready(cast(WatchedRequest, request)._task())
         return True
 
     def close(self) -> None:
@@ -158,11 +160,14 @@ class WatchedWorks:
 
 
 class WatchedRequest(Request):
-    """A request that tells a watch what is done to it."""
+    """A request that tells a watch what is done to it. A watch that runs the functions chooses among the stages that
+    are ready, so each of them is told by itself."""
 
     def __init__(self, works: Any, title: str, room: int, keeps: object = None, plan: Any = None) -> None:
         super().__init__(works, title, room, keeps, plan, WatchedStage)
         self._moments = array("q")
+        self._told_ready: Set[int] = set()
+        self._own = 0  # of these the one whose turn is the caller's
         works.watch.opened(self)
 
     @property
@@ -179,12 +184,45 @@ class WatchedRequest(Request):
         return super().history()
 
     def _facts(self) -> Any:
+        self._date()
         words, _, *others = super()._facts()
         return (words, self._moments[:], *others)
 
-    def _stamp(self, events: int) -> None:
+    def _date(self) -> None:
+        """Those events that have no time yet were done now."""
         moment = int(self.watch.now(self) * 1e9)
-        self._moments.extend([moment] * events)
+        self._moments.extend([moment] * (self._events - len(self._moments)))
+
+    # Which stages are ready.
+
+    def _choose(self) -> Optional[int]:
+        """A stage that is ready and wasn't told."""
+        news = [number for number in self._ready_ones() if number not in self._told_ready]
+        self._told_ready.update(news[:1])
+        return news[0] if news else None
+
+    def _task(self) -> Task:
+        """The stage whose turn is the caller's."""
+        return Task(self._stage(self._own))
+
+    def _take_turn(self) -> bool:
+        if self._is_on_loop:
+            return super()._take_turn()
+        chosen = self._choose()
+        self._own = self._own if chosen is None else chosen
+        return chosen is not None
+
+    def _hand_on(self) -> Optional[BaseException]:
+        if self._is_on_loop:
+            return super()._hand_on()
+        own = self._own
+        for self._own in iter(self._choose, None):
+            if not self._works.put(self):
+                self._fail_ready(self._works.refusal())
+        self._own = own
+        return None
+
+    # What is done.
 
     def _open(self) -> None:
         for number in range(self._stages):
@@ -198,41 +236,58 @@ class WatchedRequest(Request):
                 call: Optional[Callable[..., Any]], args: Optional[Tuple[Any, ...]], kwargs: Optional[Dict[str, Any]],
                 name: Optional[str]) -> "Stage[Any]":
         stage = super()._attach(form, first, second, call, args, kwargs, name)
+        self._date()
         if form in COMPOSE_FORMS:
-            self._stamp(1)
-            _meet(self._stage(stage.number - 1))
-            self.watch.attached(self._stage(stage.number - 1), ())
-        self._stamp(1)
-        _meet(stage)
-        self.watch.attached(stage, [source for source in (first, second) if source is not None])
+            self._meet(self._stage(stage.number - 1), ())
+        self._meet(stage, [source for source in (first, second) if source is not None])
         return stage
+
+    def _gather(self, form: int, of: "Sequence[Stage[Any]]", name: str) -> "Stage[Any]":
+        first = self._stages
+        root = super()._gather(form, of, name)
+        self._date()
+        self._meet(self._stage(first), of[:2])
+        for number in range(first + 1, root.number + 1):
+            self._meet(self._stage(number), (self._stage(number - 1), of[number - first + 1]))
+        return root
+
+    def _meet(self, stage: "Stage[Any]", of: "Sequence[Stage[Any]]") -> None:
+        _meet(stage)
+        self.watch.attached(stage, of)
 
     def _change(self, kind: int, who: int, stage: "int | Stage[Any]", given: Any) -> bool:
         its = self._stage(stage) if isinstance(stage, int) else stage
         self.watch.read(its)
-        refused = kind == CANCEL and given is True and its.running()
         did = super()._change(kind, who, stage, given)
-        self._stamp(not refused)
+        self._date()
         self.watch.changed(its, did)
         return did
 
-    def _begin(self, stage: "Stage[Any]", who: int) -> Any:
-        begun = super()._begin(stage, who)
-        self._stamp(1)
-        self.watch.claimed(stage)
+    def _begin(self, who: int, stage: "Optional[Stage[Any]]" = None) -> Any:
+        begun = super()._begin(who, stage)
+        self._date()
+        its = stage if begun is None else begun[0]
+        if its is not None:
+            self.watch.claimed(its)
         return begun
 
-    def _end(self, stage: "Stage[Any]", who: int, kind: int, given: Any) -> "Optional[Stage[Any]]":
-        following = super()._end(stage, who, kind, given)
-        self._stamp(1)
+    def _end(self, stage: "Stage[Any]", who: int, kind: int, given: Any) -> bool:
+        goes_on = super()._end(stage, who, kind, given)
+        self._date()
         self.watch.finished(stage, given if kind == LINKS else None)
-        return following
+        return goes_on
 
     def _relay_of(self, future: "concurrent.futures.Future[T]", holds: List[Hold]) -> "Stage[T]":
         relay = super()._relay_of(future, holds)
         if relay is not future:
             self.watch.linked(relay, future)
         return relay
+
+    def _follow_within(self, relay: int, number: int) -> None:
+        super()._follow_within(relay, number)
+        self._date()
+        its = self._stage(relay)
+        self.watch.changed(its, is_settled(its))
 
     def _follow(self, stage: "Stage[Any]", relay: "Stage[Any]", to: "concurrent.futures.Future[Any]") -> None:
         super()._follow(stage, relay, to)

@@ -20,7 +20,7 @@ ANSWER, NUMBER, ARGS, FIRST_SOME, FIRST, SECOND_SOME, SECOND = range(7)
 OUTCOME = slice(7, 12)
 REPLY_NUMBERS = 12
 
-MOST_STAGES = 4096
+MOST_STAGES, MOST_EDGES = 4096, 16384
 
 # The callers in a history; a service's threads have the numbers from FIRST_WORKER on. THIS_THREAD is whichever this
 # thread is.

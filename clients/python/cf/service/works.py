@@ -10,7 +10,7 @@ import time
 import weakref
 from concurrent.futures.thread import BrokenThreadPool
 from queue import Empty, SimpleQueue
-from typing import Any, Callable, Iterable, List, Optional, Set, Tuple
+from typing import TYPE_CHECKING, Any, Callable, Iterable, List, Optional, Set, Tuple, TypeVar
 
 from ._core import be
 from .ending import Ends
@@ -18,17 +18,24 @@ from .history import Describe, describe_all
 from .stage import Stage
 from .words import FIRST_WORKER, MOST_CALLERS
 
+if TYPE_CHECKING:
+    from .request import Request
+
+T = TypeVar("T")
 LOGGER = logging.getLogger("concurrent.futures")
 BROKEN = "A thread initializer failed, the thread pool is not usable anymore"
 
 
 class Works:
-    """Threads, started as they are needed, that run stages which are ready. They end once this is closed and nothing is
-    left to do.
+    """Threads, started as they are needed, that run functions which are ready. They end once this is closed and nothing
+    is left to do.
 
-    Ready stages go through a queue without a lock of ours. `_lock` is taken to start and to end a thread, and around
-    nothing that calls back; no request's lock is held meanwhile. A thread ends only where it finds the queue empty
-    under the lock, and who puts a stage looks behind it whether all have ended, so each stage is run or refused."""
+    A request is put once for each function that becomes ready. It goes through a queue without a lock of ours. `_lock`
+    is taken to start and to end a thread, and around nothing that calls back; no request's lock is held meanwhile. A
+    thread ends only where it finds the queue empty under the lock, and who puts a request looks behind it whether all
+    have ended, so each function is run or refused."""
+
+    is_parents = True
 
     def __init__(self, most: int, prefix: str, initializer: Optional[Callable[..., object]], initargs: Tuple[Any, ...],
                  describe: Describe = describe_all, ends: Optional[Ends] = None) -> None:
@@ -41,8 +48,8 @@ class Works:
     def _reset(self) -> None:
         """No thread is there."""
         self.threads: Set[_Thread] = set()
-        self._lock = threading.RLock()  # (what is collected meanwhile may put stages)
-        self._stages: "SimpleQueue[Optional[Stage[Any]]]" = SimpleQueue()
+        self._lock = threading.RLock()  # (what is collected meanwhile may put requests)
+        self._turns: "SimpleQueue[Optional[Request]]" = SimpleQueue()
         self._end = [None]  # what lets threads end is in the queue once, whoever closes this
         self._idle = self._alive = 0
         self._is_full = False  # all threads were started
@@ -53,56 +60,56 @@ class Works:
             return BrokenThreadPool(BROKEN)
         return RuntimeError("cannot schedule new futures after shutdown" if self.closed else "can't start new thread")
 
-    def put(self, stage: "Stage[Any]") -> bool:
-        """Hands a ready stage to a thread, and says whether one will run it."""
+    def put(self, request: "Request") -> bool:
+        """Has a thread run a function of a request that is ready, and says whether one will."""
         if not (self._is_full or self.closed):
-            return self._put_starting(stage)
-        self._stages.put(stage)
+            return self._put_starting(request)
+        self._turns.put(request)
         if self._is_full and not self.closed:
             return True
         with self._lock:
             left = self._left()
-        return self._refuse(left, stage)
+        return self._refuse(left, request)
 
-    def _put_starting(self, stage: "Stage[Any]") -> bool:
+    def _put_starting(self, request: "Request") -> bool:
         """The same while not all threads are there: where none is idle, one is started."""
         with self._lock:
             if self.broken or self.closed and not self._alive:
                 return False
             if self._idle or self._alive == self.most:
                 self._idle -= bool(self._idle)
-                self._stages.put(stage)
+                self._turns.put(request)
                 return True
             number = self._alive
             self._alive += 1
             self._is_full = self._alive == self.most
-            thread = _Thread(target=self._work, args=(FIRST_WORKER + number % (MOST_CALLERS - FIRST_WORKER), [stage]),
+            thread = _Thread(target=self._work, args=(FIRST_WORKER + number % (MOST_CALLERS - FIRST_WORKER), [request]),
                              name=f"{self._prefix}_{number}", daemon=True)
             self.threads.add(thread)
         try:
             thread.start()
         except Exception:  # there are no more threads for now, or the interpreter ends
-            self._go_without(thread)
-            return False
+            return self._go_without(thread, request)
         finally:
             thread.tried.set()
         return True
 
-    def _go_without(self, thread: "_Thread") -> None:
-        """A thread couldn't be started. The next put tries again, and what others have put meanwhile isn't left
-        behind."""
+    def _go_without(self, thread: "_Thread", request: "Request") -> bool:
+        """A thread couldn't be started, so another one runs what it was to run, if one is there. The next put tries
+        again, and what others have put meanwhile isn't left behind."""
         with self._lock:
             self._alive -= 1
             self.threads.discard(thread)
             self._is_full, self._idle = False, 0  # (a thread that waits and isn't counted costs one more)
+            self._turns.put(request)
             left = self._left()
-        self._refuse(left)
+        return self._refuse(left, request)
 
     def close(self) -> None:
         """Lets threads end once nothing is left to do."""
         self.closed = True
         with contextlib.suppress(IndexError):
-            self._stages.put(self._end.pop())
+            self._turns.put(self._end.pop())
 
     def join(self) -> None:
         """Waits for all threads but this one, also for one that is about to be started."""
@@ -121,76 +128,77 @@ class Works:
     def cancel_all(self) -> None:
         """Cancels the stages that no thread has taken yet."""
         with self._lock:
-            stages = self._drained()
-        _all(Stage.cancel, stages)
+            requests = self._drained()
+        _all(_cancel_ready, dict.fromkeys(requests))
 
-    def _left(self) -> "List[Stage[Any]]":
+    def _left(self) -> "List[Request]":
         """What is in the queue, and nobody will run."""
         return [] if self._alive else self._drained()
 
-    def _drained(self) -> "List[Stage[Any]]":
+    def _drained(self) -> "List[Request]":
         """What is in the queue, and no more. What lets threads end stays."""
-        stages, ends = [], False
+        requests, ends = [], False
         while True:
             try:
-                stage = self._stages.get_nowait()  # (threads take from it without the lock)
+                request = self._turns.get_nowait()  # (threads take from it without the lock)
             except Empty:
                 break
-            if stage is None:
+            if request is None:
                 ends = True
             else:
-                stages.append(stage)
+                requests.append(request)
         if ends:
-            self._stages.put(None)
-        return stages
+            self._turns.put(None)
+        return requests
 
-    def _refuse(self, stages: "List[Stage[Any]]", own: "Optional[Stage[Any]]" = None) -> bool:
-        """Lets stages fail that nobody will run, but the caller's own, and says whether that isn't among them."""
-        _all(lambda stage: stage.fail(self.refusal()), [stage for stage in stages if stage is not own])
-        return all(stage is not own for stage in stages)
+    def _refuse(self, requests: "List[Request]", own: "Optional[Request]" = None) -> bool:
+        """Lets fail what is ready of requests that nobody will run, but of the caller's own, and says whether that
+        isn't among them."""
+        _all(lambda request: request._refuse(self.refusal()), dict.fromkeys(it for it in requests if it is not own))
+        return all(request is not own for request in requests)
 
-    def _work(self, who: int, first: "List[Stage[Any]]") -> None:
+    def _work(self, who: int, first: "List[Request]") -> None:
         be(who)
-        stage: "Optional[Stage[Any]]" = first.pop()
+        request: "Optional[Request]" = first.pop()
         if self._initializer is not None:
             try:
                 self._initializer(*self._initargs)
             except BaseException:
                 LOGGER.critical("Exception in initializer:", exc_info=True)
-                self._break([] if stage is None else [stage])
+                self._break([] if request is None else [request])
                 return
-        while stage is not None:
+        while request is not None:
             try:
-                stage.request._run(stage, who)
+                request._run(who)
             except BaseException:  # a callback's, such as SystemExit
                 LOGGER.critical("Exception in worker", exc_info=True)
-            stage = None  # nothing is held meanwhile
-            stage = self._take()
+            request = None  # nothing is held meanwhile
+            request = self._take()
 
-    def _take(self) -> "Optional[Stage[Any]]":
-        """Waits for a stage. None where this thread is to end."""
+    def _take(self) -> "Optional[Request]":
+        """Waits for a request. None where this thread is to end."""
         while True:
             if not self._is_full:
                 with self._lock:
                     self._idle += 1
-            stage = self._stages.get()
-            if stage is not None:
-                return stage
+            request = self._turns.get()
+            if request is not None:
+                return request
             with self._lock:
-                is_last = self._stages.empty()
+                is_last = self._turns.empty()
                 self._alive -= is_last
-                self._stages.put(None)  # for the others, or behind what is left
+                self._turns.put(None)  # for the others, or behind what is left
                 if is_last:
                     return None
 
-    def _break(self, first: "List[Stage[Any]]") -> None:
+    def _break(self, first: "List[Request]") -> None:
         with self._lock:
             self.broken = True
             self._alive -= 1
-            stages = self._drained()
+            requests = self._drained()
             self.close()  # (others may have)
         try:
-            self._refuse(stages + first)
+            self._refuse(requests + first)
         except BaseException:  # a callback's
             LOGGER.critical("Exception in worker", exc_info=True)
 
@@ -210,13 +218,19 @@ class _Thread(threading.Thread):
         self.tried = threading.Event()
 
 
-def _all(act: "Callable[[Stage[Any]], object]", stages: "Iterable[Stage[Any]]") -> None:
-    """Does it to all of the stages, also where callbacks raise what isn't an `Exception`. The first of that is
-    raised then."""
+def _cancel_ready(request: "Request") -> None:
+    with request._lock:
+        request._take_back()
+    _all(Stage.cancel, [request._stage(number) for number in request._ready_ones()])
+
+
+def _all(act: "Callable[[T], object]", things: "Iterable[T]") -> None:
+    """Does it to all of these, also where callbacks raise what isn't an `Exception`. The first of that is raised
+    then."""
     first: Optional[BaseException] = None
-    for stage in stages:
+    for thing in things:
         try:
-            act(stage)
+            act(thing)
         except BaseException as error:
             first = first or error
     if first is not None:
@@ -296,9 +310,9 @@ class Clock:
 
 
 class Here:
-    """This thread, which runs all that is ready before it goes on, as its ledger tells it. There is no clock."""
+    """This thread, which runs all that is ready before it goes on. There is no clock."""
 
-    closed = False
+    closed = is_parents = False
     ends: Optional[Ends] = None
 
     @property
@@ -312,7 +326,7 @@ class Here:
     def refusal(self) -> RuntimeError:
         return RuntimeError("nobody runs it")
 
-    def put(self, stage: "Stage[Any]") -> bool:
+    def put(self, request: "Request") -> bool:
         return True
 
 

@@ -3,6 +3,7 @@
 Each process replays a row's words on the proved graph. A word is put where nothing stands yet, so all see one order.
 """
 from .codec import Abandoned, Json, RemoteError
+from .contexts import Carrier, Trace, Variables
 from .functions import Functions
 from .request import DurableRequest, DurableStage
 from .rows import Broken, Grouped, Memory, Put, Store, StoreError, Timer, Unknown
@@ -14,6 +15,6 @@ from .worker import Worker
 # The names of before. They go with the version for the library 1.5.
 Desk, Request, Stage = RowView, DurableRequest, DurableStage
 
-__all__ = ["Abandoned", "Broken", "Desk", "DurableRequest", "DurableService", "DurableStage", "Functions", "Grouped",
-           "Json", "Memory", "Put", "RemoteError", "Request", "RowView", "Stage", "Store", "StoreError", "Timer",
-           "Unknown", "Watcher", "Worker", "connect", "new_session"]
+__all__ = ["Abandoned", "Broken", "Carrier", "Desk", "DurableRequest", "DurableService", "DurableStage", "Functions",
+           "Grouped", "Json", "Memory", "Put", "RemoteError", "Request", "RowView", "Stage", "Store", "StoreError",
+           "Timer", "Trace", "Unknown", "Variables", "Watcher", "Worker", "connect", "new_session"]

@@ -1,21 +1,24 @@
 """Rows in keys of an etcd cluster, by its JSON gateway: for few and important requests that outlive machines."""
 import base64
+import contextlib
 import http.client
 import json
 import select
+import socket
 import threading
 import time
 import weakref
-from typing import Any, Dict, List, Optional, Sequence, Tuple
+from typing import Any, Dict, List, NamedTuple, Optional, Sequence, Set, Tuple
 from urllib.parse import quote, unquote
 
-from .rows import (HEAD, Entry, Glance, Gone, Listed, Open, Opened, Put, Store, StoreError, Timer, Unknown, flow_of,
-                   in_a_row)
+from .rows import (FIRST, HEAD, Changes, Entry, Glance, Gone, Listed, Open, Opened, Put, Store, StoreError, Timer,
+                   Unknown, flow_of, in_a_row)
 
 MOST_ENTRIES = 40  # in a put: a transaction of etcd has 128 operations at most by default
 MOST_READS = 100  # of keys, in a transaction
 MOST_GLANCES = 60  # in a transaction: each is two comparisons
 SECONDS = 3  # for an answer
+BETWEEN_CHECKS = 30.0  # seconds between two looks at the keys of open requests that a watch tells of
 
 
 class Etcd(Store):
@@ -30,15 +33,21 @@ class Etcd(Store):
         # of open requests, by the revision of the key that says so: what of them doesn't change
         self._heads: Dict[Tuple[str, str], Tuple[int, float, str]] = {}
         self._made: "weakref.WeakSet[http.client.HTTPConnection]" = weakref.WeakSet()
+        self._watches: "weakref.WeakSet[_Watch]" = weakref.WeakSet()
         self._get(b"cf/r/", keys_only=True)  # whether a majority answers
 
     # Calls.
 
+    def _address(self) -> Tuple[str, int]:
+        """The member that is asked now."""
+        host, port = self._addresses[self._turn % len(self._addresses)].rsplit(":", 1)
+        return host, int(port)
+
     def _post(self, path: str, body: Any) -> Any:
         connection: Optional[http.client.HTTPConnection] = getattr(self._local, "http", None)
         if connection is None:
-            host, port = self._addresses[self._turn % len(self._addresses)].rsplit(":", 1)
-            connection = self._local.http = http.client.HTTPConnection(host, int(port), timeout=SECONDS)
+            host, port = self._address()
+            connection = self._local.http = http.client.HTTPConnection(host, port, timeout=SECONDS)
             self._made.add(connection)
         try:
             connection.request("POST", path, json.dumps(body))
@@ -124,7 +133,7 @@ class Etcd(Store):
             told.append(Listed(name, json.loads(value)["opened"], None if name in ends else at, ends.get(name, words)))
         return sorted(told)
 
-    def end(self, name: str, at: int, number: int = 0) -> None:
+    def end(self, name: str, at: int, number: int = 0) -> bool:
         key, timers, revision = _key("o", name), _key("t", name) + b"/", str(number or self._revision(name))
         told = self._txn([self._is_there(name, revision),
                           {"key": _b64(key), "target": "VALUE", "value": _b64(b"%d" % at)}],
@@ -132,8 +141,10 @@ class Etcd(Store):
                           {"request_delete_range": _range(timers, _after(timers))},
                           {"request_delete_range": _range(_key("g", name))},
                           _put(_key("c", name), json.dumps([time.time(), at]).encode())])
-        if not told.get("succeeded") and self._is_dropped(name, revision):
+        closes = bool(told.get("succeeded"))
+        if not closes and self._is_dropped(name, revision):
             raise self._gone(name)
+        return closes
 
     def reopen(self, name: str, number: int = 0) -> None:
         revision = str(number or self._revision(name))
@@ -227,8 +238,8 @@ class Etcd(Store):
             time.sleep(min(seconds, 0.05))
 
     def _watching(self) -> Tuple[http.client.HTTPConnection, http.client.HTTPResponse]:
-        host, port = self._addresses[self._turn % len(self._addresses)].rsplit(":", 1)
-        connection = http.client.HTTPConnection(host, int(port), timeout=SECONDS)
+        host, port = self._address()
+        connection = http.client.HTTPConnection(host, port, timeout=SECONDS)
         connection.request("POST", "/v3/watch", json.dumps({"create_request": _range(b"cf/w/", b"cf/w0")}))
         answer = connection.getresponse()
         sock = connection.sock
@@ -240,6 +251,8 @@ class Etcd(Store):
     def close(self) -> None:
         for connection in list(self._made):
             connection.close()
+        for watch in list(self._watches):
+            watch.end()
 
     # Sessions and timers.
 
@@ -269,15 +282,108 @@ class Etcd(Store):
     # What lists ask for.
 
     def overview(self) -> List[Open]:
-        told = self._post("/v3/kv/range", _range(b"cf/o/", b"cf/o0")).get("kvs", [])
-        ends = {(_name(base64.b64decode(it["key"])), it["create_revision"]): int(base64.b64decode(it["value"]))
-                for it in told}
+        return self._overview()[0]
+
+    def _overview(self) -> Tuple[List[Open], int, Dict[str, str]]:
+        """All open requests; the revision of that; and by their names those of the keys that say that they are open."""
+        told = self._post("/v3/kv/range", _range(b"cf/o/", b"cf/o0"))
+        ends = _ends(told)
         self._heads = {key: it for key, it in self._heads.items() if key in ends}
+        opened = self._opens(ends, _glances_of(self._get(b"cf/g/", b"cf/g0")))
+        return opened, int(told["header"]["revision"]), dict(ends.keys())
+
+    def changes(self, mark: Optional["_Mark"]) -> Tuple[Changes, "_Mark"]:
+        if mark is None:
+            first = self._first()
+            if first is not None:
+                return first
+        before: Dict[str, str] = {} if mark is None else mark.born
+        if mark is None or mark.watch is None:
+            opened, revision, born = self._overview()
+            return Changes(opened, {}, [it for it in before if it not in born]), self._marked(revision, born)
+        if not mark.watch.is_lost and time.monotonic() < mark.checked + BETWEEN_CHECKS:
+            return self._watched(mark)
+        try:
+            checked = self._checked(mark)
+        except Unknown:
+            if mark.watch.is_lost:
+                raise
+            return self._watched(mark._replace(checked=time.monotonic()))  # (it tells still; keys are for later)
+        return checked if checked is not None else self.changes(mark._replace(watch=None))
+
+    def _first(self) -> "Optional[Tuple[Changes, _Mark]]":
+        """The first open requests, by their keys, where there are many more."""
+        told = self._post("/v3/kv/range", _range(b"cf/o/", b"cf/o0", limit=FIRST))
+        ends, many = _ends(told), int(told.get("count", 0))
+        if many <= 2 * FIRST:
+            return None
+        return (Changes(self._opens(ends, self._glances([name for name, _ in ends])), {}, [], many),
+                _Mark(0, dict(ends.keys()), None, 0.0))
+
+    def _marked(self, revision: int, born: Dict[str, str], watch: "Optional[_Watch]" = None) -> "_Mark":
+        if watch is None or watch.is_lost:
+            if watch is not None:
+                self._turn += 1  # (the next member)
+            watch = _Watch(*self._address(), revision)
+            self._watches.add(watch)
+        return _Mark(revision, born, watch, time.monotonic())
+
+    def _watched(self, mark: "_Mark") -> "Tuple[Changes, _Mark]":
+        """What is other by what the watch has told since."""
+        assert mark.watch is not None
+        ends: Dict[str, Tuple[str, int]] = {}
+        gone: Set[str] = set()
+        revision = mark.revision
+        for it in mark.watch.taken():
+            key = it["kv"]
+            if int(key["mod_revision"]) <= mark.revision:  # it is known by a check
+                continue
+            name, revision = _name(base64.b64decode(key["key"])), int(key["mod_revision"])
+            ends.pop(name, None)
+            gone.add(name)
+            if it.get("type") != "DELETE":
+                ends[name] = (key["create_revision"], int(base64.b64decode(key["value"])))
+                gone.discard(name)
+        changes, born = self._changed({(name, at): words for name, (at, words) in ends.items()}, gone, mark.born)
+        return changes, mark._replace(revision=revision, born=born)
+
+    def _checked(self, mark: "_Mark") -> "Optional[Tuple[Changes, _Mark]]":
+        """The same by what stands in keys: a watch may be silent since its member is cut off. None where a request was
+        dropped that was open, since no key tells so."""
+        since = {"min_mod_revision": str(mark.revision + 1)}
+        told = self._txn([], [{"request_range": it} for it in (
+            _range(b"cf/o/", b"cf/o0", **since), _range(b"cf/c/", b"cf/c0", keys_only=True, **since),
+            _range(b"cf/o/", b"cf/o0", count_only=True))])
+        ends, closed, many = (it["response_range"] for it in told["responses"])
+        gone = {_name(base64.b64decode(it["key"])) for it in closed.get("kvs", [])}
+        changes, born = self._changed(_ends(ends), gone, mark.born)
+        if len(born) != int(many.get("count", 0)):
+            return None
+        return changes, self._marked(int(told["header"]["revision"]), born, mark.watch)
+
+    def _changed(self, ends: Dict[Tuple[str, str], int], gone: Set[str],
+                 before: Dict[str, str]) -> Tuple[Changes, Dict[str, str]]:
+        """What is other if these are open, and those were closed or dropped before; and all that are open then."""
+        if not ends and not gone:
+            return Changes([], {}, []), before
+        born = {**{name: at for name, at in before.items() if name not in gone}, **dict(ends.keys())}
+        for name in gone & before.keys():
+            self._heads.pop((name, before[name]), None)
+        opened = self._opens({key: words for key, words in ends.items() if before.get(key[0]) != key[1]}, {})
+        return Changes(opened, {name: words for (name, _), words in ends.items()},
+                       [name for name in gone if name in before and name not in born]), born
+
+    def _glances(self, names: List[str]) -> Dict[Tuple[str, int], Glance]:
+        """The glances at these requests, by their names and numbers."""
+        pairs = []
+        for k in range(0, len(names), MOST_READS):
+            told = self._txn([], [{"request_range": _range(_key("g", name))} for name in names[k:k + MOST_READS]])
+            pairs += [it for found in told.get("responses", []) for it in _pairs(found["response_range"])]
+        return _glances_of(pairs)
+
+    def _opens(self, ends: Dict[Tuple[str, str], int], glances: Dict[Tuple[str, int], Glance]) -> List[Open]:
+        """What lists tell of these requests, as far as they are there."""
         self._read_heads([key for key in ends if key not in self._heads])
-        glances = {}
-        for key, value in self._get(b"cf/g/", b"cf/g0"):
-            number, words, said = json.loads(value)
-            glances[_name(key), number] = Glance(_name(key), number, words, said)
         opened = [(name, words, *self._heads[name, born]) for (name, born), words in ends.items()
                   if (name, born) in self._heads]
         return [Open(name, number, at, words, flow, glances.get((name, number)))
@@ -339,6 +445,69 @@ class Etcd(Store):
         self._txn([], [{"request_delete_range": {"key": _b64(_place(row, stage))}} for row in rows])
 
 
+class _Watch:
+    """What a member tells of keys of open requests, from behind a revision on. A thread reads it."""
+
+    def __init__(self, host: str, port: int, revision: int) -> None:
+        self.is_lost = False
+        self._told: List[Any] = []
+        self._lock = threading.Lock()
+        self._asked = {**_range(b"cf/o/", b"cf/o0"), "start_revision": str(revision + 1)}
+        self._connection = http.client.HTTPConnection(host, port, timeout=SECONDS)
+        self._sock: Optional[socket.socket] = None
+        try:
+            threading.Thread(target=self._run, name="cf-watch", daemon=True).start()
+        except RuntimeError:  # there are no more threads for now: keys are looked at instead
+            self.is_lost = True
+
+    def _run(self) -> None:
+        try:
+            self._connection.connect()
+            self._sock = self._connection.sock
+            self._sock.settimeout(None)
+            self._connection.request("POST", "/v3/watch", json.dumps({"create_request": self._asked}))
+            with contextlib.closing(self._connection.getresponse()) as answer:
+                result: Any = {}
+                while not result.get("canceled"):  # (it is, where the revision is compacted)
+                    result = json.loads(answer.readline())["result"]
+                    with self._lock:
+                        self._told += result.get("events", [])
+        except (OSError, http.client.HTTPException, ValueError, KeyError, AttributeError):
+            pass
+        finally:
+            self.is_lost = True
+            self._connection.close()
+            if self._sock is not None:
+                self._sock.close()
+
+    def taken(self) -> List[Any]:
+        """What it has told since it was asked last."""
+        with self._lock:
+            told, self._told = self._told, []
+        return told
+
+    def end(self) -> None:
+        """Has the thread end."""
+        if self._sock is not None:
+            with contextlib.suppress(OSError):
+                self._sock.shutdown(socket.SHUT_RDWR)
+
+
+class _Mark(NamedTuple):
+    """What a list of open requests was of.
+
+    Attributes:
+        revision: The cluster's.
+        born: By the names of the requests, the revisions of the keys that say that they are open.
+        watch: What tells of later ones, or None where these were the first requests alone.
+        checked: When keys were looked at."""
+
+    revision: int
+    born: Dict[str, str]
+    watch: Optional[_Watch]
+    checked: float
+
+
 def _b64(data: bytes) -> str:
     return base64.b64encode(data).decode()
 
@@ -376,6 +545,20 @@ def _absent(key: bytes) -> Any:
 def _pairs(told: Any) -> List[Tuple[bytes, bytes]]:
     """The keys and values of a range."""
     return [(base64.b64decode(it["key"]), base64.b64decode(it.get("value", ""))) for it in told.get("kvs", [])]
+
+
+def _glances_of(pairs: Sequence[Tuple[bytes, bytes]]) -> Dict[Tuple[str, int], Glance]:
+    told = {}
+    for key, value in pairs:
+        number, words, said = json.loads(value)
+        told[_name(key), number] = Glance(_name(key), number, words, said)
+    return told
+
+
+def _ends(told: Any) -> Dict[Tuple[str, str], int]:
+    """How many words open requests have, by their names and the revisions of the keys that say that they are open."""
+    return {(_name(base64.b64decode(it["key"])), it["create_revision"]): int(base64.b64decode(it["value"]))
+            for it in told.get("kvs", [])}
 
 
 def _entries(name: str, at: int, pairs: Sequence[Tuple[bytes, bytes]]) -> List[Entry]:

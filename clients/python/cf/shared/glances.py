@@ -3,6 +3,7 @@
 A session that has read a row makes a glance of it, and keeps it in the store, so that a list of many requests reads no
 row. A glance is JSON, since readers of other versions take what they know of it.
 """
+import functools
 import json
 from typing import Any, Dict, List, NamedTuple, Optional, Tuple
 
@@ -11,6 +12,7 @@ from .rows import Glance
 from .view import RowView
 
 FORMAT = 1
+SINCE = ',"since":'  # behind which the last member of a glance stands (within a text its marks would be escaped)
 MOST_NAMED = 3  # stages that it waits for
 MOST_TOLD = 16  # claims, and functions of ready stages
 MOST_TRIES = 100
@@ -111,8 +113,22 @@ def glance_of(view: RowView, now: float, before: Optional[Seen]) -> Glance:
 
 def read(glance: Optional[Glance]) -> Optional[Seen]:
     """What a glance says, or None where there is none that can be read."""
+    if glance is None:
+        return None
+    # Requests of one flow that wait for the same say the same but for the last moment, and that is read once.
+    head, _, since = glance.said.rpartition(SINCE)
     try:
-        said: Dict[str, Any] = json.loads(glance.said) if glance is not None else {}
+        moment = float(since[:-1])
+    except ValueError:
+        return _seen_in(glance.said)
+    seen = _seen_in(head + "}")
+    return None if seen is None else Seen(*seen[:-1], moment)
+
+
+@functools.lru_cache(4096)
+def _seen_in(text: str) -> Optional[Seen]:
+    try:
+        said: Dict[str, Any] = json.loads(text)
         if said.get("glance") != FORMAT:
             return None
         return Seen(int(said["stages"]), int(said["open"]),
@@ -121,6 +137,6 @@ def read(glance: Optional[Glance]) -> Optional[Seen]:
                      for stage, name, session, since in said["claims"]],
                     [Queue(str(name), int(version), int(many), float(since))
                      for name, version, many, since in said["ready"]],
-                    int(said["tries"]), float(said["since"]))
+                    int(said["tries"]), float(said.get("since", 0)))
     except (ValueError, KeyError, TypeError, AttributeError):
         return None

@@ -1,19 +1,25 @@
 """Plans of requests as a store keeps them: a JSON text that each process builds the same graph of."""
 import json
-from typing import Any, Dict, List, Optional, Tuple
+from typing import Any, Dict, List, Optional, Sequence, Tuple
 
-from ..service._plain import PlanCore
+from ..plan import Plan
 from ..service.flow import Flow
-from ..service.words import COMPOSE_FORMS, FORMS, FORMS_WITHOUT_FUNCTION
-from ..values import Refused
+from ..service.words import COMPOSE_FORMS, FORMS, FORMS_WITHOUT_FUNCTION, Told
+from ..values import Form, Refused
+from .contexts import Carrier, captured
 from .functions import Functions, said_of
+from .ledgers import StoredLedger
 from .rows import Broken
 
 FORMAT = 3  # of plans in stores, beside those of scripts
 
 
 class SharedPlan:
-    """A plan that was read: what it says of each stage, and the same for the library."""
+    """A plan that was read: what it says of each stage, and the same for the library.
+
+    Attributes:
+        rows: Form, sources, function or None, and name of each stage.
+        start: How far each has come in a new ledger, and what it came to."""
 
     def __init__(self, text: str, name: str) -> None:
         try:
@@ -21,24 +27,30 @@ class SharedPlan:
             if read["cf"] != FORMAT:
                 raise ValueError(f"it is of version {read['cf']}")
             self.flow = str(read["flow"])
+            self.carried: Dict[str, Any] = dict(read.get("context", {}))
             self.said: List[Dict[str, Any]] = [said_in(it, number) for number, it in enumerate(read["stages"])]
             forms = [FORMS.index(it["form"]) for it in self.said]
-            rows = [(form, tuple(it.get("of", [])), None if form in FORMS_WITHOUT_FUNCTION else _nobody,
-                     str(it["name"])) for form, it in zip(forms, self.said)]
-            self.core = PlanCore(rows)
+            self.rows: List[Tuple[int, Tuple[int, ...], Any, str]] = [
+                (form, tuple(it.get("of", [])), None if form in FORMS_WITHOUT_FUNCTION else _nobody, str(it["name"]))
+                for form, it in zip(forms, self.said)]
+            self._plan = Plan()
+            for number, (form, of, call, _) in enumerate(self.rows):
+                self._plan.stage(Form(form), *of, function=None if call is None else number)
+            ledger = self.ledger(0)
+            self.start: List[Tuple[int, Told]] = [ledger.stage(number) for number in range(len(self.rows))]
         except (ValueError, KeyError, TypeError, Refused) as error:
             raise Broken(name, 0, f"its plan can't be read: {error!r}") from None
 
-    @property
-    def rows(self) -> List[Tuple[int, Tuple[int, ...], Any, str]]:
-        """Form, sources, function or None, and name of each stage."""
-        return self.core.rows
+    def ledger(self, room: int) -> StoredLedger:
+        """A new ledger of it, with room for so many stages more."""
+        return StoredLedger(self._plan, len(self.rows), room)
 
 
 def said_in(read: Any, number: int) -> Dict[str, Any]:
     """What was read of a stage of this number, if it is something of the kind: its name, its function's name,
     version and arguments, and the lower stages that it speaks of."""
-    kinds = {"name": str, "fn": str, "version": int, "args": list, "kwargs": dict, "again": int, "to": int}
+    kinds = {"name": str, "fn": str, "version": int, "args": list, "kwargs": dict, "again": int, "to": int,
+             "context": dict}
     if not isinstance(read, dict) or "name" not in read or any(name in read and not isinstance(read[name], kind)
                                                                for name, kind in kinds.items()):
         raise ValueError(f"it says nothing of a stage: {str(read)[:80]}")
@@ -51,16 +63,30 @@ def _nobody(*_: Any) -> None:
     """Stands for a function in a plan: what is called is found by its name."""
 
 
-def text_of(flow: Optional[Flow], functions: Functions) -> str:
-    """The text of a flow's plan, or of one without stages. `TypeError` where a function isn't registered, or a stage
-    composes: the promise for what its function gives would be a stage more."""
+def text_of(flow: Optional[Flow], functions: Functions, carriers: Sequence[Carrier] = ()) -> str:
+    """The text of a flow's plan, or of one without stages, with the context that its functions are to have.
+    `TypeError` where a function isn't registered, or a stage composes: the promise for what its function gives would
+    be a stage more; or where JSON hasn't what a carrier gives."""
     stages = []
     for form, of, call, name in [] if flow is None else flow._rows:
         if form in COMPOSE_FORMS:
             raise TypeError(f"{name}: a flow in a store has no compose; a stage of a request has")
         stages.append({"form": FORMS[form], "of": list(of), "name": name, **said_of(functions, call, (), {})})
-    return json.dumps({"cf": FORMAT, "flow": "" if flow is None else flow.name, "stages": stages},
-                      separators=(",", ":"))
+    return json.dumps({"cf": FORMAT, "flow": "" if flow is None else flow.name, "stages": stages,
+                       **captured(carriers)}, separators=(",", ":"))
+
+
+def are_alike(text: str, other: str) -> bool:
+    """Whether two texts are of one plan, wherever it was begun."""
+    return text == other or _bare(text) == _bare(other)
+
+
+def _bare(text: str) -> Any:
+    try:
+        read = json.loads(text)
+    except ValueError:
+        return text
+    return {name: it for name, it in read.items() if name != "context"} if isinstance(read, dict) else read
 
 
 def tried_again(said: Dict[str, Any]) -> Optional[int]:

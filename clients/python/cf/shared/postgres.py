@@ -6,7 +6,7 @@ import threading
 import time
 from typing import Any, Dict, Generator, Iterator, List, NoReturn, Optional, Sequence, Tuple
 
-from .rows import Entry, Glance, Opened, Put, StoreError, Timer, Transaction, Unknown, in_a_row
+from .rows import FIRST, Entry, Glance, Opened, Put, StoreError, Timer, Transaction, Unknown, in_a_row
 from .tables import TableStore
 
 psycopg2: Any = importlib.import_module("psycopg2")  # (its types are installed on some machines only)
@@ -62,6 +62,10 @@ class Postgres(TableStore):
 
     is_transactional = True
     VALUE, HAS_PART = "%s", "position(%s in name) > 0"
+    OPEN = "select string_agg(id::text, ',') from cf_request where closed is null"
+    # (Materialized, it goes through the open ones alone, and not through all by their names.)
+    FIRST_OPEN = ("with opened as materialized (select id, name from cf_request where closed is null) "
+                  f"select id, (select count(*) from opened) from opened order by name collate \"C\" limit {FIRST}")
 
     def __init__(self, address: str, is_unsafe: bool = False) -> None:
         super().__init__()
@@ -162,15 +166,27 @@ class Postgres(TableStore):
                 told[str(name)] = max(int(many), told.get(str(name), 0))
         return told, mark
 
-    def end(self, name: str, at: int, number: int = 0) -> None:
+    def _longer(self, words: Optional[int]) -> Tuple[Optional[Dict[int, int]], int]:
+        if words is None:
+            (at,), = self._ask(MARK)
+            return None, int(at)
+        rows = self._ask(f"select null, ({MARK}) union all select request, max(at) + 1 from cf_word "
+                         "where made_by >= %s::text::xid8 group by request", str(words))
+        told = {number: int(many) for number, many in rows}
+        return {int(number): many for number, many in told.items() if number is not None}, told[None]
+
+    def end(self, name: str, at: int, number: int = 0) -> bool:
         number = number or self._id(name)
-        if not self._ask(f"select pg_advisory_xact_lock({CLOSING}, %s); "
+        told = self._ask(f"select pg_advisory_xact_lock({CLOSING}, %s); "
                          f"with closed as (update cf_request set closed = {NOW} "
                          f"where id = %s and closed is null and {HAS} returning id), "
                          "timers as (delete from cf_timer where request in (select id from closed)), "
                          "glances as (delete from cf_glance where request in (select id from closed)) "
-                         "select 1 from cf_request where id = %s", number % 2**31, number, at, number):
+                         "select exists (select 1 from closed) from cf_request where id = %s",
+                         number % 2**31, number, at, number)
+        if not told:
             raise self._gone(name)
+        return bool(told[0][0])
 
     def reopen(self, name: str, number: int = 0) -> None:
         number = number or self._id(name)

@@ -76,6 +76,7 @@ from ..service.words import (ANSWER, ATTACH, CANCEL, CANCELLED, COMPLETE, FAIL, 
                              NUMBER, THROWN, TIMED_OUT, VALUE, RequestFull, Told)
 from ..values import BadAnswer, Form
 from .view import Done, RowView
+from .contexts import captured
 from .functions import said_of
 from .glances import Seen, glance_of
 from .glances import read as read_glance
@@ -355,6 +356,10 @@ class DurableRequest:
         """All that happened until now, as the row tells it. It reads all payloads, so it takes time by the number of
         words."""
         self._catch_up()
+        return self._history()
+
+    def _history(self) -> History:
+        """All that is seen."""
         return self._view.history(self._service.codec, self._lock)._described(self._describe)
 
     def end(self) -> None:
@@ -362,7 +367,8 @@ class DurableRequest:
         A flow's request is closed by itself once all its stages are settled. A stage that is attached opens a
         request again."""
         self._catch_up()
-        self._view.sure(lambda: self._service.store.end(self.name, self.seen, self.number))
+        if self._view.sure(lambda: self._service.store.end(self.name, self.seen, self.number)):
+            self._service._tell_end(self)
         self.is_closed = True
 
     # Acting on the row.
@@ -395,6 +401,7 @@ class DurableRequest:
         if any(stage.request._view is not self._view for stage in of):
             raise TypeError("no stage of this request")
         said = said_of(self._service.functions, call, args, kwargs or {})
+        said.update(captured(self._service.contexts) if call is not None else {})
         payload = json.dumps({"name": name or said.get("fn", form.name.lower()), **said}).encode()
         sources = tuple(stage.number for stage in of)
 
@@ -408,7 +415,7 @@ class DurableRequest:
     def _compose(self, source: "DurableStage[Any]", call: Callable[..., Any]) -> "DurableStage[Any]":
         if source.request._view is not self._view:
             raise TypeError("no stage of this request")
-        said = said_of(self._service.functions, call, (), {})
+        said = {**said_of(self._service.functions, call, (), {}), **captured(self._service.contexts)}
 
         def decide(view: RowView) -> Any:
             view.make_room(2)
@@ -591,8 +598,8 @@ class DurableRequest:
     def _end_if_done(self) -> None:
         with self._lock:  # (another thread may be reading a word)
             seen = self.seen if self._is_over() else None
-        if seen is not None:
-            self._service.store.end(self.name, seen, self.number)
+        if seen is not None and self._service.store.end(self.name, seen, self.number):
+            self._service._tell_end(self)
 
     def _cancel_all(self) -> None:
         for number, stage in list(self._stages.items()):

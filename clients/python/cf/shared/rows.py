@@ -5,6 +5,7 @@ made again after a lost reply is known by what stands at its place. A payload is
 transaction, and named by the word's place, counted from 1: no word names what isn't there.
 """
 import abc
+import functools
 import json
 import re
 import threading
@@ -17,6 +18,7 @@ from .host import HOST, Host
 T = TypeVar("T")
 Entry = Tuple[int, int]  # a word and its token
 COUNT_BITS = 23  # of a token
+FIRST = 101  # requests that are told alone at first, where there are more than twice as many: a page, and one more
 HEAD = 400  # characters of a plan, in which the flow's name stands
 
 
@@ -152,6 +154,22 @@ class Open(NamedTuple):
     glance: Optional[Glance]
 
 
+class Changes(NamedTuple):
+    """What is other in the list of open requests.
+
+    Attributes:
+        opened: Requests that weren't in it, and others that are told anew, each as it is now.
+        longer: How many words some of the others have by now.
+        gone: The names of those that aren't open any more.
+        many: How many are open in all, where these are only the first by name, and all come with the next call."""
+
+    opened: Sequence[Open]
+    longer: Mapping[str, int]
+    gone: Sequence[str]
+    many: Optional[int] = None
+
+
+@functools.lru_cache(1024)  # (many requests are of one flow)
 def flow_of(head: str) -> str:
     """The flow's name in the first characters of a plan, as `plans.text_of` writes it."""
     found = re.match(r'\{"cf":\d+,"flow":("(?:[^"\\]|\\.)*")', head)
@@ -232,9 +250,9 @@ class Store(abc.ABC):
         """All requests, by name."""
 
     @abc.abstractmethod
-    def end(self, name: str, at: int, number: int = 0) -> None:
+    def end(self, name: str, at: int, number: int = 0) -> bool:
         """Marks a request as closed, where it has just so many words: nothing is left to do in it. Its timers are
-        forgotten."""
+        forgotten. It says whether this call has closed it."""
 
     @abc.abstractmethod
     def reopen(self, name: str, number: int = 0) -> None:
@@ -280,6 +298,14 @@ class Store(abc.ABC):
         found = [(it, self.find(it.name)) for it in self.listing() if it.closed is None]
         return [Open(it.name, at.number, it.opened, it.words, flow_of(at.plan[:HEAD]), None)
                 for it, at in found if at is not None]
+
+    def changes(self, mark: Any) -> Tuple[Changes, Any]:
+        """What is other in the list of open requests since a mark, and the next mark; since None, all of them are new,
+        of which the first may be told alone at first. It may tell some a moment later. A store that can't tell them
+        apart tells all anew."""
+        opened = self.overview()
+        names = {it.name for it in opened}
+        return Changes(opened, {}, [name for name in mark or () if name not in names]), names
 
     def keep_glances(self, glances: Sequence[Glance]) -> None:
         """Keeps these, each in the place of the one before. Those of requests that aren't open are left out."""
@@ -407,13 +433,15 @@ class Memory(Store):
             return [Listed(name, it.opened, self._closed.get(name), len(self._rows.get(name, [])))
                     for name, it in sorted(self._opened.items())]
 
-    def end(self, name: str, at: int, number: int = 0) -> None:
+    def end(self, name: str, at: int, number: int = 0) -> bool:
         with self._change:
             self._is_there(name, number)
-            if len(self._rows.get(name, [])) == at:
-                self._closed.setdefault(name, time.time())
-                self._glances.pop(name, None)
-                self._timers = {key: it for key, it in self._timers.items() if key[0] != name}
+            if name in self._closed or len(self._rows.get(name, [])) != at:
+                return False
+            self._closed[name] = time.time()
+            self._glances.pop(name, None)
+            self._timers = {key: it for key, it in self._timers.items() if key[0] != name}
+            return True
 
     def reopen(self, name: str, number: int = 0) -> None:
         with self._change:
@@ -574,8 +602,8 @@ class Grouped(Store):
     def listing(self) -> List[Listed]:
         return self._store.listing()
 
-    def end(self, name: str, at: int, number: int = 0) -> None:
-        self._store.end(name, at, number)
+    def end(self, name: str, at: int, number: int = 0) -> bool:
+        return self._store.end(name, at, number)
 
     def reopen(self, name: str, number: int = 0) -> None:
         self._store.reopen(name, number)
@@ -606,6 +634,9 @@ class Grouped(Store):
 
     def overview(self) -> List[Open]:
         return self._store.overview()
+
+    def changes(self, mark: Any) -> Tuple[Changes, Any]:
+        return self._store.changes(mark)
 
     def keep_glances(self, glances: Sequence[Glance]) -> None:
         self._store.keep_glances(glances)

@@ -1,6 +1,7 @@
 """Services whose requests stand in a store: they outlive processes, and machines share them."""
 import concurrent.futures
 import contextlib
+import functools
 import itertools
 import logging
 import math
@@ -10,16 +11,18 @@ import threading
 import weakref
 from typing import Any, Callable, Dict, List, NamedTuple, Optional, Sequence, Set, Tuple, TypeVar
 
+from ..service.ending import Ends, Hook
 from ..service.flow import Flow
 from ..service.history import Describe, describe_all
 from ..service.words import (ANSWER, ARGS, CLAIM, COMPOSE_FORMS, FAIL, FINISH, FIRST, FIRST_SOME, GIVES, GOT, LINKS,
                              ONE, OUTCOME, SECOND, SECOND_SOME, THROWS, TWO, VALUE, Told)
 from ..values import Form
 from .codec import Abandoned, Json, RemoteError
+from .contexts import Carrier, within
 from .view import SESSION_BITS, Done, RowView, Watcher
 from .functions import F, Functions, Known
 from .host import HOST, Host
-from .plans import text_of, tried_again
+from .plans import are_alike, text_of, tried_again
 from .request import DurableRequest, DurableStage
 from .rows import Broken, Glance, Gone, Grouped, Opened, Store, StoreError, Timer, Transaction, Unknown, sure
 
@@ -42,6 +45,7 @@ class Claimed(NamedTuple):
     args: Tuple[Any, ...]
     kwargs: Dict[str, Any]
     error: Optional[BaseException]  # what a further try passes on instead
+    carried: Dict[str, Any]  # of the context of the place where it was attached
 
 
 class Finish(NamedTuple):
@@ -90,21 +94,29 @@ class DurableService(concurrent.futures.Executor):
         note: Told of each answer of the store; for tests.
         describe: What histories tell of values and exceptions, as of `cf.service.Service`.
         host: Has the clock, the threads and what comes by chance; for tests.
+        on_end: Called with the `History` of each request that this process has closed, on a thread of its own, and in
+            the context of the place where the request was opened, as far as `contexts` carry that. What it raises is
+            logged as a warning. `SpanFile` and `Spans` of `cf.service` are such hooks.
+        contexts: What of the context goes along with functions, wherever they are called: that of the place where each
+            was attached, and of a flow that of the place where the request was begun. Each process that works on these
+            requests has the same ones.
 
     Raises:
-        ValueError: `max_workers` is below 0, or `lease` isn't above 0 and finite."""
+        ValueError: `max_workers` is below 0, `lease` isn't above 0 and finite, or a host is given beside `on_end`."""
 
     _numbers = itertools.count()
 
     def __init__(self, store: Store, max_workers: Optional[int] = None, *, functions: Optional[Functions] = None,
                  codec: Optional[Json] = None, lease: float = 10, takes_all: bool = False, groups: bool = False,
                  note: Optional[Callable[..., None]] = None, describe: Describe = describe_all,
-                 host: Host = HOST) -> None:
+                 host: Host = HOST, on_end: Optional[Hook] = None, contexts: Sequence[Carrier] = ()) -> None:
         workers = min(32, (os.cpu_count() or 1) + 4) if max_workers is None else max_workers
         if workers < 0:
             raise ValueError("max_workers must not be below 0")
         if not 0 < lease < math.inf:
             raise ValueError("lease must be above 0 and finite")
+        if on_end is not None and host is not HOST:
+            raise ValueError("a host and on_end aren't given together")
         self.store: Store = Grouped(store) if groups else store
         self.codec: Json = codec or Json()
         self._host = host
@@ -114,7 +126,10 @@ class DurableService(concurrent.futures.Executor):
             self.functions.add(functions)
         self._workers, self._takes_all, self._lease = workers, takes_all, lease
         self._note, self._describe = note, describe
-        self._pool = host.pool(max(workers, 1), f"cf-shared-{next(self._numbers)}")
+        self.contexts: Tuple[Carrier, ...] = tuple(contexts)
+        named = f"cf-shared-{next(self._numbers)}"
+        self._pool = host.pool(max(workers, 1), named)
+        self._ends = None if on_end is None else Ends(on_end, f"{named}_ends")
         self._requests: Dict[str, DurableRequest] = {}
         # those that were closed
         self._left: "weakref.WeakValueDictionary[str, DurableRequest]" = weakref.WeakValueDictionary()
@@ -151,7 +166,7 @@ class DurableService(concurrent.futures.Executor):
             RuntimeError: The service is shut down, or this process is a child of `fork`.
             Unknown: The store didn't answer for a minute.
             Broken: The row can't be gone on with."""
-        request = self._opened(name or self._named("request"), text_of(None, self.functions), False)
+        request = self._opened(name or self._named("request"), text_of(None, self.functions, self.contexts), False)
         request._describe = describe or request._describe
         return request
 
@@ -175,7 +190,7 @@ class DurableService(concurrent.futures.Executor):
         if len(given) > len(flow._promises):
             raise ValueError(f"{flow.name} has {len(flow._promises)} promises")
         payloads = [None if it is None else self.codec.write(it) for it in given]
-        request = self._opened(name or self._named(flow.name), text_of(flow, self.functions), True)
+        request = self._opened(name or self._named(flow.name), text_of(flow, self.functions, self.contexts), True)
         request._describe = describe or request._describe
         request._complete_all(list(zip(flow._promises, payloads)))
         self._serve(request)
@@ -221,7 +236,8 @@ class DurableService(concurrent.futures.Executor):
         it.
 
         Args:
-            wait: Whether to wait for the functions that run, and then to close the store.
+            wait: Whether to wait for the functions that run, and until `on_end` was told, for at most 30 seconds; and
+                then to close the store.
             cancel_futures: Whether to cancel stages of flows, as of `submit`, that were asked for here and that
                 nobody has claimed."""
         for request in list(self._requests.values()) if cancel_futures else ():
@@ -233,6 +249,8 @@ class DurableService(concurrent.futures.Executor):
         self._pool.shutdown(wait)
         if wait and threading.current_thread() is not self._pump:
             self._pump.join()
+            if self._ends is not None:
+                self._ends.end_all()
             with contextlib.suppress(Unknown, StoreError):  # others see it by its silence
                 self.store.drop_beat(self.session)
             self.store.close()
@@ -245,7 +263,7 @@ class DurableService(concurrent.futures.Executor):
         if self._stops.is_set():
             raise RuntimeError("cannot schedule new futures after shutdown")
         found = self._sure(lambda: self.store.open(name, plan), name)
-        if same and found.plan != plan:
+        if same and not are_alike(found.plan, plan):
             raise Broken(name, 0, "it was begun with another plan")
         kept = self._kept(self._made(found))
         if kept.number != found.number:  # it was dropped meanwhile, and another of its name begun
@@ -260,7 +278,8 @@ class DurableService(concurrent.futures.Executor):
         return sure(call, name, 0, PATIENCE, host=self._host)
 
     def _made(self, found: Opened) -> DurableRequest:
-        return DurableRequest(self, RowView(self.store, found, self.session, PATIENCE, self._note, self._host))
+        return DurableRequest(self, RowView(self.store, found, self.session, PATIENCE, self._note, self._host,
+                                            is_timed=self._ends is not None))
 
     def _kept(self, request: DurableRequest) -> DurableRequest:
         """The one object of a request that this service has: this one, or the one that was there before."""
@@ -600,9 +619,10 @@ class DurableService(concurrent.futures.Executor):
             error = args[0]
             # the sources of what is tried again may be open: it was settled by hand
             if not isinstance(error, Abandoned):
-                return Claimed(stage, known, (), {}, error)
+                return Claimed(stage, known, (), {}, error, {})
             said, args = view.said(again), self._args_again(request, again)
-        return Claimed(stage, known, tuple(said.get("args", ())) or args, said.get("kwargs", {}), None)
+        return Claimed(stage, known, tuple(said.get("args", ())) or args, said.get("kwargs", {}), None,
+                       view.carried(stage))
 
     def _args(self, request: DurableRequest, stage: int, reply: Sequence[int]) -> Tuple[Any, ...]:
         """What a claim says that the function is called with."""
@@ -638,7 +658,7 @@ class DurableService(concurrent.futures.Executor):
 
     def _composed(self, request: DurableRequest, claimed: Claimed) -> Finish:
         try:
-            given = self._host.call(claimed.known, request, *claimed.args, **claimed.kwargs)
+            given = self._call(claimed, request)
             if not isinstance(given, DurableStage) or given.request._view is not request._view:
                 raise TypeError(f"{claimed.known.name} has to give a stage of the request")
             return Finish(claimed.stage, LINKS, self.codec.write({"stage": given.number}))
@@ -651,12 +671,27 @@ class DurableService(concurrent.futures.Executor):
         try:
             if claimed.error is not None:
                 raise claimed.error
-            value = self._host.call(claimed.known, *first, *claimed.args, **claimed.kwargs)
+            value = self._call(claimed, *first)
             return Finish(claimed.stage, GIVES, None if value is None else self.codec.write(value))
         except self._host.leaves:
             raise
         except BaseException as error:
             return Finish(claimed.stage, THROWS, self._error(error))
+
+    def _call(self, claimed: Claimed, *first: Any) -> Any:
+        """Calls a function, in a context of its own where contexts go along."""
+        call: Callable[..., Any] = self._host.call
+        if self.contexts:
+            call = functools.partial(within(self.contexts, claimed.carried).run, call)
+        return call(claimed.known, *first, *claimed.args, **claimed.kwargs)
+
+    def _tell_end(self, request: DurableRequest) -> None:
+        """Has the hook told of a request that this process has closed. It raises nothing."""
+        try:
+            if self._ends is not None:
+                self._ends.tell(request._history, within(self.contexts, request._view.plan.carried))
+        except Exception:
+            LOGGER.warning("the end of request %r isn't told", request.name, exc_info=True)
 
     def _error(self, error: BaseException) -> bytes:
         """The bytes of an exception, or of one that says that the codec has none for it."""

@@ -7,7 +7,7 @@ import threading
 import time
 from typing import Any, Callable, Dict, Generator, List, Optional, Sequence, Tuple, TypeVar
 
-from .rows import Broken, Entry, Glance, Opened, Put, StoreError, Timer, Transaction, Unknown, in_a_row
+from .rows import FIRST, Broken, Entry, Glance, Opened, Put, StoreError, Timer, Transaction, Unknown, in_a_row
 from .tables import TableStore
 
 T = TypeVar("T")
@@ -49,6 +49,10 @@ class SQLite(TableStore):
 
     is_transactional = locks_out = True
     VALUE, HAS_PART = "?", "instr(name, ?) > 0"
+    OPEN = "select group_concat(id) from cf_request where closed is null"
+    # (The limit has it go through the open ones alone, and not through all by their names.)
+    FIRST_OPEN = ("select id, (select count(*) from cf_request where closed is null) from "
+                  f"(select id, name from cf_request where closed is null limit -1) order by name limit {FIRST}")
 
     def __init__(self, path: str, is_unsafe: bool = False) -> None:
         super().__init__()
@@ -143,17 +147,26 @@ class SQLite(TableStore):
                            "where n > ? and closed is null group by request", mark[0])
         return {**{str(name): 0 for name, in opened}, **{str(name): int(many) for name, many in longer}}, at
 
-    def end(self, name: str, at: int, number: int = 0) -> None:
+    def _longer(self, words: Optional[int]) -> Tuple[Optional[Dict[int, int]], int]:
+        (at,), = self._ask("select coalesce(max(n), 0) from cf_word")
+        if words is None or at < words:
+            return None, int(at)
+        rows = self._ask("select request, max(at) + 1 from cf_word where n > ? group by request", words)
+        return {int(number): int(many) for number, many in rows}, int(at)
+
+    def end(self, name: str, at: int, number: int = 0) -> bool:
         number = number or self._id(name)
 
-        def act(db: sqlite3.Connection) -> bool:
-            if db.execute(f"update cf_request set closed = ? where id = ? and closed is null and {HAS}",
-                          (time.time(), number, at)).rowcount:
-                for table in ("cf_timer", "cf_glance"):
-                    db.execute(f"delete from {table} where request = ?", (number,))
-            return _is_there(db, number)
-        if not self._in_turn(act):
+        def act(db: sqlite3.Connection) -> Tuple[bool, bool]:
+            closes = db.execute(f"update cf_request set closed = ? where id = ? and closed is null and {HAS}",
+                                (time.time(), number, at)).rowcount == 1
+            for table in ("cf_timer", "cf_glance") if closes else ():
+                db.execute(f"delete from {table} where request = ?", (number,))
+            return closes, _is_there(db, number)
+        closes, is_there = self._in_turn(act)
+        if not is_there:
             raise self._gone(name)
+        return closes
 
     def reopen(self, name: str, number: int = 0) -> None:
         number = number or self._id(name)

@@ -1,8 +1,23 @@
 """What stores whose rows are in SQL tables have in common: requests and their numbers, and what lists ask for."""
 import abc
-from typing import Any, Dict, List, Optional, Tuple
+from typing import Any, Dict, Iterable, List, Mapping, NamedTuple, Optional, Sequence, Tuple
 
-from .rows import HEAD, Glance, Gone, Listed, Open, Opened, Put, Store, flow_of
+from .rows import FIRST, HEAD, Changes, Glance, Gone, Listed, Open, Opened, Put, Store, flow_of
+
+ANEW = 200  # requests that are told anew each time
+MOST_VALUES = 500  # in a statement
+OVERVIEW = ("select r.id, r.name, r.opened, (select max(at) + 1 from cf_word where request = r.id), "
+            f"substr(r.plan, 1, {HEAD}), g.words, g.said from cf_request r left join cf_glance g on g.request = r.id "
+            "where r.closed is null")
+
+
+class _Mark(NamedTuple):
+    """What a list of open requests was of: the words until then, or None where it had the first requests alone; its
+    names by numbers; and the last number that was told anew."""
+
+    words: Any
+    names: Mapping[int, str]
+    turn: int
 
 
 class TableStore(Store):
@@ -14,6 +29,8 @@ class TableStore(Store):
 
     VALUE: str  # what stands for a value in a statement
     HAS_PART: str  # whether a name has a part, which is a value
+    OPEN: str  # asks for the numbers of all open requests, with commas between them
+    FIRST_OPEN: str  # asks for those of the first ones by name, each with how many there are in all
 
     def __init__(self) -> None:
         self._ids: Dict[str, int] = {}
@@ -62,14 +79,45 @@ class TableStore(Store):
         return {int(session): int(count) for session, count in self._ask("select session, count from cf_beat")}
 
     def overview(self) -> List[Open]:
-        rows = self._ask(f"select r.id, r.name, r.opened, (select max(at) + 1 from cf_word where request = r.id), "
-                         f"substr(r.plan, 1, {HEAD}), g.words, g.said from cf_request r "
-                         "left join cf_glance g on g.request = r.id where r.closed is null")
+        return _opens(self._ask(OVERVIEW))
+
+    def changes(self, mark: Optional[_Mark]) -> Tuple[Changes, _Mark]:
+        if mark is None:
+            first = self._ask(self.FIRST_OPEN)
+            if first and int(first[0][1]) > 2 * FIRST:
+                opened = self._opened([number for number, _ in first])
+                return (Changes(opened, {}, [], int(first[0][1])),
+                        _Mark(None, {it.number: it.name for it in opened}, 0))
+        # The words first: what comes between is told once more.
+        longer, words = self._longer(None if mark is None else mark.words)
+        before: Mapping[int, str] = {} if mark is None else mark.names
+        if mark is None or longer is None:
+            opened = self.overview()
+            names = {it.number: it.name for it in opened}
+            return Changes(opened, {}, _gone(before, before.keys() - names, names)), _Mark(words, names, 0)
+        numbers = {int(it) for it in str(self._ask(self.OPEN)[0][0] or "").split(",") if it}
+        new = numbers - before.keys()
+        # (some are told anew each time, so that a list which misses something misses it for seconds only)
+        again = sorted(it for it in numbers if it > mark.turn)[:ANEW]
+        opened = self._opened([*new, *again])
+        names = {number: name for number, name in before.items() if number in numbers}
+        names.update((it.number, it.name) for it in opened)
+        many = {names[number]: words for number, words in longer.items() if number in names}
+        return (Changes(opened, many, _gone(before, before.keys() - numbers, names)),
+                _Mark(words, names, again[-1] if len(again) == ANEW else 0))
+
+    @abc.abstractmethod
+    def _longer(self, words: Any) -> Tuple[Optional[Dict[int, int]], Any]:
+        """How many words the requests have, by number, whose words may have changed since a mark, or None where that
+        isn't known; and the next mark."""
+
+    def _opened(self, numbers: Sequence[int]) -> List[Open]:
+        """Those of these requests that are open."""
         told = []
-        for number, name, opened, many, head, words, said in rows:
-            glance = None if words is None else Glance(str(name), int(number), int(words), str(said))
-            told.append(Open(str(name), int(number), float(opened), int(many or 0), flow_of(str(head)), glance))
-        return told
+        for k in range(0, len(numbers), MOST_VALUES):
+            some = numbers[k:k + MOST_VALUES]
+            told += self._ask(f"{OVERVIEW} and r.id in ({','.join([self.VALUE] * len(some))})", *some)
+        return _opens(told)
 
     def closed(self, behind: str, most: int, part: str = "") -> List[Listed]:
         rows = self._ask("select name, opened, closed, (select max(at) + 1 from cf_word where request = id) "
@@ -81,3 +129,18 @@ class TableStore(Store):
         number = (number or self._id(request)) if request else 0
         return {int(session): str(said) for session, said in self._ask(
             f"select session, name from cf_name where request = {self.VALUE}", number)}
+
+
+def _opens(rows: Iterable[Tuple[Any, ...]]) -> List[Open]:
+    """What rows of `OVERVIEW` tell."""
+    told = []
+    for number, name, opened, many, head, words, said in rows:
+        glance = None if words is None else Glance(str(name), int(number), int(words), str(said))
+        told.append(Open(str(name), int(number), float(opened), int(many or 0), flow_of(str(head)), glance))
+    return told
+
+
+def _gone(before: Mapping[int, str], numbers: Iterable[int], names: Mapping[int, str]) -> List[str]:
+    """The names of these numbers, but for those that another request has now."""
+    gone = {before[number] for number in numbers}
+    return sorted(gone.difference(names.values())) if gone else []

@@ -10,13 +10,13 @@ from typing import (Any, Callable, ContextManager, Dict, Iterable, List, Mapping
 from .. import values
 from .._library import NOT_YOURS, CNews
 from ..events import _known
-from ..service._plain import PlanCore, _grow, _Ledger, _told
 from ..service.history import History
 from ..service.words import (ANSWER, ATTACH, CLAIM, COMPLETE, COMPOSE_FORMS, FAIL, FAIL_AS, FAILURES, FINISH, GIVES,
                              IS_CLAIMED, IS_PENDING, IS_READY, IS_SETTLED, LINKS, MOST_STAGES, NOT_YET, NUMBER, THROWS,
                              TICK, RequestFull, Told)
 from .codec import Json
 from .host import HOST, Host
+from .ledgers import StoredLedger, told_of
 from .plans import SharedPlan, said_in
 from .rows import COUNT_BITS, Broken, Entry, Gone, Opened, Put, Store, Unknown, sure
 
@@ -45,13 +45,14 @@ class Done(NamedTuple):
 
 
 class RowHistory(History):
-    """A row's history: it has no times, and numbers that sessions had as callers. `sessions` are those of its words,
-    and `named` what some of them are called in the request."""
+    """A row's history: it has no times that it tells, and numbers that sessions had as callers. `sessions` are those
+    of its words, and `named` what some of them are called in the request."""
 
-    def __init__(self, name: str, core: PlanCore, facts: Any, sessions: Sequence[int],
-                 named: Optional[Mapping[int, str]] = None) -> None:
-        super().__init__(name, core, facts)
+    def __init__(self, name: str, plan: SharedPlan, facts: Any, sessions: Sequence[int],
+                 named: Optional[Mapping[int, str]] = None, opened: Optional[float] = None) -> None:
+        super().__init__(name, plan, facts)
         self._sessions, self._named = sessions, named or {}
+        self._opened = None if opened is None else int(opened * 1e9)
 
     def caller(self, who: int) -> str:
         """What a caller is called: all the names that sessions of its number have."""
@@ -91,10 +92,11 @@ class RowView:
         session: The session whose view it is.
         patience: For how many seconds the store may be silent, before `Unknown` is raised.
         note: Told of each answer that this view got; for tests.
-        host: Has the clock and what comes by chance."""
+        host: Has the clock and what comes by chance.
+        is_timed: Whether it remembers when it noticed each word."""
 
     def __init__(self, store: Store, opened: Opened, session: int, patience: float = 60,
-                 note: Optional[Callable[..., None]] = None, host: Host = HOST) -> None:
+                 note: Optional[Callable[..., None]] = None, host: Host = HOST, is_timed: bool = False) -> None:
         self.store: Store = store
         self.name: str = opened.name
         self.session: int = session
@@ -103,8 +105,8 @@ class RowView:
         self._room = min(ROOM, MOST_STAGES - len(self.plan.rows))
         self._ledger = self._made()
         self.forms: List[Tuple[int, Tuple[int, ...]]] = [(form, of) for form, of, _, _ in self.plan.rows]
-        self.kinds: List[int] = [kind for kind, _ in self.plan.core.start]
-        self.told: List[Told] = [Told(*told) for _, told in self.plan.core.start]
+        self.kinds: List[int] = [kind for kind, _ in self.plan.start]
+        self.told: List[Told] = [told for _, told in self.plan.start]
         self.places: List[int] = [0] * len(self.forms)  # where each was settled
         # the places of the words by which stages, or sources of theirs, timed out or had a bad answer
         self.failed: Dict[int, int] = {}
@@ -116,7 +118,8 @@ class RowView:
         self.claims: Dict[int, int] = {}  # the session whose claim of a stage is open
         self.ready: Set[int] = {number for number, kind in enumerate(self.kinds) if kind == IS_READY}
         self.words: "array[int]" = array("Q")
-        self._replies, self._sessions = bytearray(), array("Q")
+        self._sessions = array("Q")
+        self._times: "Optional[array[int]]" = array("q") if is_timed else None
         self.who: int = -1
         self.lost = self.unknown = 0
         self._numbers: Dict[int, int] = {}
@@ -260,12 +263,13 @@ class RowView:
         try:
             if kind == ATTACH:
                 self.make_room(1)
-            self._ledger.apply(word)
+            news = self._ledger.apply(word)
         except (values.Refused, RequestFull) as refused:
             raise Broken(self.name, self.place, f"the word {word} can't be done: {refused}") from None
         reply, place = tuple(self._ledger.reply), self.place
         self.words.append(word)
-        self._replies += self._ledger.reply
+        if self._times is not None:
+            self._times.append(int(self._host.monotonic() * 1e9))
         session = token >> COUNT_BITS
         self._sessions.append(session)
         self._numbers.setdefault(who, session)
@@ -281,8 +285,7 @@ class RowView:
                 self.links[word & 0xFFF] = place
         links = kind == FINISH and word >> 32 & 0xF == LINKS
         failed = place if kind == FAIL_AS else self.failed.get(word & 0xFFF, 0) if links else 0
-        done = Done(place, word, token, reply,
-                    self._changed(self._ledger.news[:self._ledger.changed.value], place, failed))
+        done = Done(place, word, token, reply, self._changed(news, place, failed))
         if token in self._doubt:
             self._find(done, who)
         if self._doubt:  # what was to stand here and doesn't never will
@@ -318,7 +321,7 @@ class RowView:
         for it in news:
             number, kind = it.stage, it.now.kind
             if kind == IS_SETTLED and not self.places[number]:
-                told = Told(*_told(it.now))
+                told = told_of(it.now)
                 if told.kind in FAILURES:
                     self.failed[number] = failed or self.failed_of(self.forms[number][1], told.kind)
                 # first: other threads look whether it is settled
@@ -346,21 +349,21 @@ class RowView:
             return
         more = min(3 * many + least, MOST_STAGES - len(self.plan.rows) - self._room)
         while more >= least:
-            code = _grow(self._ledger.at, more)
-            if not code:
+            try:
+                self._ledger.grow(more)
                 self._room += more
-                self._ledger.make_room(len(self.plan.rows) + self._room)
                 return
-            if code != values.Code.ROOM:
-                values.check(code)
+            except values.Refused as refused:
+                if refused.code != values.Code.ROOM:
+                    raise
             more //= 2
         raise RequestFull("a request has at most 4,096 stages")
 
-    def _made(self) -> _Ledger:
+    def _made(self) -> StoredLedger:
         room = self._room
         while True:
             try:
-                ledger = _Ledger(self.plan.core, room)
+                ledger = self.plan.ledger(room)
                 self._room = room
                 return ledger
             except values.Refused as refused:
@@ -379,6 +382,13 @@ class RowView:
             self._said[stage] = self.read(self.attached[stage],
                                           lambda given: said_in(json.loads(given.decode()), stage))
         return self._said[stage]
+
+    def carried(self, stage: int) -> Dict[str, Any]:
+        """What of the context of the place where a stage was attached goes along with its function."""
+        if stage < len(self.plan.said):
+            return self.plan.carried
+        found: Dict[str, Any] = self.said(stage).get("context", {})
+        return found
 
     def look_up(self, stages: Iterable[int]) -> None:
         """Reads what is said of these stages, as far as it isn't known, in one call. What can't be read is left to
@@ -445,10 +455,8 @@ class RowView:
                     raise
                 return unread(error)
         with lock:
-            words, replies, sessions, told = self.words[:], bytes(self._replies), self._sessions[:], array("I")
-            for number, it in enumerate(self.told):
-                told.extend((self.places[number], number, *it[:4], it.number % 2**32))
-            many = len(self.forms)
+            words, sessions, many = self.words[:], self._sessions[:], len(self.forms)
+            times = array("q", [0] * len(words)) if self._times is None else self._times[:]
         found = self._payloads([place for place, word in enumerate(words, 1) if _names(word)])
         values_: List[Any] = [None] * (len(words) + 1)
         errors: List[BaseException] = [RuntimeError("no payload")] * (len(words) + 1)
@@ -458,9 +466,9 @@ class RowView:
             (errors if is_error else values_)[place] = told_by(lambda: self._reading(place, given, reader))
         self.sure(lambda: self.look_up(range(many)))
         names = [str(told_by(lambda: self.said(number)["name"])) for number in range(many)]
-        facts = (words, array("q", [0] * len(words)), replies, told, names, values_, errors)
+        facts = (words, times, names, values_, errors)
         named: Dict[int, str] = self.sure(lambda: self.store.session_names(self.name, self.opened.number))
-        return RowHistory(self.name, self.plan.core, facts, sessions, named)
+        return RowHistory(self.name, self.plan, facts, sessions, named, self.opened.opened)
 
     def open_claims(self) -> Dict[int, int]:
         """The stages whose function runs somewhere: claimed and not settled, with the session that has it."""

@@ -1,9 +1,11 @@
 """A process of its own that works on all requests of a store."""
 import signal
 import threading
-from typing import Optional
+from typing import Optional, Sequence
 
+from ..service.ending import Hook
 from .codec import Json
+from .contexts import Carrier
 from .functions import Functions
 from .rows import Store
 from .service import DurableService
@@ -14,13 +16,14 @@ class Worker(DurableService):
     of workers share one store, on any number of machines. It begins at once, and ends with `shutdown`.
 
     Args:
-        store, max_workers, codec, lease, groups: As of `DurableService`.
+        store, max_workers, codec, lease, groups, on_end, contexts: As of `DurableService`.
         functions: The registered functions. A stage whose function isn't among them waits for another worker."""
 
     def __init__(self, store: Store, functions: Functions, max_workers: Optional[int] = None, *,
-                 codec: Optional[Json] = None, lease: float = 10, groups: bool = False) -> None:
+                 codec: Optional[Json] = None, lease: float = 10, groups: bool = False,
+                 on_end: Optional[Hook] = None, contexts: Sequence[Carrier] = ()) -> None:
         super().__init__(store, max_workers, functions=functions, codec=codec, lease=lease, takes_all=True,
-                         groups=groups)
+                         groups=groups, on_end=on_end, contexts=contexts)
 
     def run(self, ends: Optional[threading.Event] = None) -> None:
         """Works until the process gets SIGTERM or SIGINT, and finishes what runs by then. It is for the main thread.

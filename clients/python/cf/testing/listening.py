@@ -107,6 +107,9 @@ class Listening(State):
 
     def linked(self, relay: "Stage[Any]", future: "concurrent.futures.Future[Any]") -> None:
         """As `Watch.linked`."""
+        if isinstance(future, WatchedStage) and future.request is relay.request:  # (which needs no callback)
+            self._behind.add(self._place(relay), [self._place(future)])
+            return
         thing: Thing = ("outside", future.number) if isinstance(future, Arrival) else (
             self._place(future) if isinstance(future, WatchedStage) else ("elsewhere",))
         self._relays.setdefault(thing, []).append(self._place(relay))

@@ -110,11 +110,12 @@ class Rows:
             self.timers = {key: it for key, it in self.timers.items() if key[0] != name}
         return did
 
-    def end(self, name: str, at: int, number: int) -> None:
+    def end(self, name: str, at: int, number: int) -> bool:
         """As `Store.end`."""
-        self.change(name, lambda: self.memory.end(name, at, number))
+        closes = self.change(name, lambda: self.memory.end(name, at, number))
         if name not in self.memory.ends():
             self.timers = {key: it for key, it in self.timers.items() if key[0] != name}
+        return closes
 
     def set_timer(self, timer: Timer) -> None:
         """As `Store.set_timer`."""
@@ -172,8 +173,8 @@ class ProcessStore(Store):
         self._world.touch(ROWS, READS)
         return [it._replace(opened=0.0) for it in self.rows.memory.listing()]
 
-    def end(self, name: str, at: int, number: int = 0) -> None:
-        self._world.ask(self._process, OF_WRITES, f"closes {name}", lambda: self.rows.end(name, at, number))
+    def end(self, name: str, at: int, number: int = 0) -> bool:
+        return self._world.ask(self._process, OF_WRITES, f"closes {name}", lambda: self.rows.end(name, at, number))
 
     def reopen(self, name: str, number: int = 0) -> None:
         self._world.ask(self._process, OF_WRITES, f"opens {name} again",

@@ -119,11 +119,10 @@ class CoreCase(unittest.TestCase):
 
     def fits(self, request):
         """What is written down of a request is done again by a ledger of its own, which comes to the same."""
-        plan, (words, times, replies, told, names, values, errors) = cf.Plan(), request._facts()
-        many = memoryview(bytes(told)).cast("I")
-        ledger = cf.Ledger.of_words(plan, list(memoryview(bytes(words)).cast("Q")), len(names))
-        self.assertEqual((len(bytes(words)), len(bytes(replies)), ledger.stages()),
-                         (len(bytes(times)), 6 * len(bytes(words)), len(names)))
-        for place, number, kind, *_ in (many[k:k + 7].tolist() for k in range(0, len(many), 7)):
-            outcome = ledger.stage(number).outcome
-            self.assertEqual(kind != 0, outcome is not None, number)
+        done = [request._stage(number).done() for number in range(request._stages)]
+        words, times, names, values, errors = request._facts()
+        ledger = cf.Ledger.of_words(cf.Plan(), list(memoryview(bytes(words)).cast("Q")), len(names))
+        self.assertEqual((len(bytes(words)), ledger.stages()), (len(bytes(times)), len(names)))
+        for number, was_done in enumerate(done):
+            is_settled = ledger.stage(number).outcome is not None
+            self.assertTrue(was_done <= is_settled <= request._stage(number).done(), number)

@@ -140,7 +140,7 @@ class CallbacksOfCores(CoreCase):
         def more(stage):
             behind = calling.promise()
             behind.add_done_callback(lambda _: called_back.append(stage.number))
-            stage.add_done_callback(lambda _: behind.complete(len(calling._facts()[4])))
+            stage.add_done_callback(lambda _: behind.complete(len(calling._facts()[2])))
             calling.history()
         for end in ends:
             end.add_done_callback(more)

@@ -10,6 +10,7 @@ import functools
 import gc
 import pickle
 import sys
+import types
 import unittest
 
 from case import Case, CoreCase, program
@@ -30,13 +31,13 @@ class CoreArguments(CoreCase):
                      type("Own", (Request,), {"__init__": lambda self: None})()):
             core_stage = self.request.promise()
             self.refused(lambda: made._attach(0, None, None, None, None, None, "x"),
-                         lambda: made._change(COMPLETE, 0, 0, 1), lambda: made._run(core_stage, 3),
-                         lambda: made._work(3), lambda: made._begin(core_stage, 3),
+                         lambda: made._change(COMPLETE, 0, 0, 1), lambda: made._run(3),
+                         lambda: made._work(3), lambda: made._begin(3, core_stage),
                          lambda: made._end(core_stage, 3, 1, 1), lambda: made._stage(0),
                          lambda: made._set_running(core_stage), lambda: made._name_of(0), lambda: made._rename(0, "x"),
                          lambda: made._attach(3, core_stage, None, str, None, None, None))
             self.assertIsNone(made._open())
-            self.assertEqual(made._facts()[4], [])
+            self.assertEqual(made._facts()[2], [])
 
     def test_an_opening_that_fails(self):
         opened = _core.RequestCore.__new__(_core.RequestCore)
@@ -49,10 +50,9 @@ class CoreArguments(CoreCase):
         flow = Flow()
         end = flow.promise().then(str)
         opened = flow.run(1)
-        facts = opened._facts()[:3]
-        self.refused(lambda: opened.__init__(None, "", 1), lambda: flow._plan.__init__([]),
-                     lambda: flow._plan.__init__([(0, (), None, "x")] * 3))
-        self.assertEqual((opened._facts()[:3], opened[end].result(0), flow.run(2)[end].result(0)), (facts, "1", "2"))
+        facts = opened._facts()[:2]
+        self.refused(lambda: opened.__init__(None, "", 1))
+        self.assertEqual((opened._facts()[:2], opened[end].result(0), flow.run(2)[end].result(0)), (facts, "1", "2"))
         self.assertEqual(flow.run()._stage(1).name, "str")
 
     def test_a_plan_whose_rows_change_as_they_are_read(self):
@@ -61,18 +61,26 @@ class CoreArguments(CoreCase):
                 rows.clear()
                 gc.collect()
                 return 0
-        for row in ((Number(), (), None, "x"), (3, (Number(),), str, "y")):
-            rows = [(0, (), None, f"name {k}") for k in range(50)]
-            rows[1] = row
-            del row
-            self.assertEqual((len(_core.PlanCore(rows).rows), rows), (50, []))
-        self.refused(lambda: _core.PlanCore([7]), lambda: _core.PlanCore([()]),
-                     lambda: _core.PlanCore([(3, (0,), str, "x")]),
-                     lambda: _core.PlanCore([(0, (), None, "x"), (3, (65536,), str, "y")]),
-                     lambda: _core.PlanCore([(3, (-1,), str, "y")]), lambda: _core.PlanCore([(99, (), None, "x")]),
-                     lambda: _core.PlanCore([(0, (), None, 7)]), lambda: _core.PlanCore(7))
-        with self.assertRaises(RequestFull):
-            _core.PlanCore([(0, (), None, "x")] * 4097)
+        plan = _core.PlanCore([(0, (), None, "x"), (3, (0,), str, "y")])
+        rows = [(0, (), None, "x"), (Number(), (), None, "x")]
+        self.core(plan, tuple(rows))
+        self.assertEqual(rows, [])
+        self.refused(*[lambda rows=rows: self.core(plan, rows) for rows in (
+            ((0, (), None, "x"), 7), ((0, (), None, "x"), ()), ((3, (0,), str, "x"), (3, (0,), str, "y")),
+            ((0, (), None, "x"), (3, (Number(),), str, "y")), ((0, (), None, "x"), (3, (65536,), str, "y")),
+            ((0, (), None, "x"), (3, (-1,), str, "y")),
+            ((0, (), None, "x"), (0, (), None, 7)), [(0, (), None, "x"), (3, (0,), str, "y")], 7)])
+        self.refused(lambda: _core.PlanCore([7]), lambda: _core.PlanCore([()]), lambda: _core.PlanCore(7),
+                     lambda: _core.PlanCore([(99, (), None, "x")]))
+        for rows in ([(0, (), None, "x")] * 4097, [(16, (0,) * 16385, None, "x")]):
+            with self.assertRaises(RequestFull):
+                _core.PlanCore(rows)
+
+    @staticmethod
+    def core(plan, rows):
+        """A request of a plan with other rows."""
+        return _core.RequestCore(None, "", 1, None, types.SimpleNamespace(at=plan.at, most=plan.most,
+                                                                              rows=rows, kept=None))
 
     def test_numbers_out_of_their_range_reach_no_word(self):
         """An event of another kind, caller or form than is meant would let the ledger and what stands beside it
@@ -81,7 +89,7 @@ class CoreArguments(CoreCase):
         core_stage = core.promise()
         for bad in (-2, -1, 7, 64, 255, 256, 1 << 16, 1 << 32, 7 << 8, -(1 << 40), 1 << 70):
             self.refused(lambda: core._change(bad, 0, core_stage, None) if bad != 7 else core._change(7, 0, 0, None),
-                         lambda: core._run(core_stage, bad) if bad != 7 else 1 / 0,
+                         lambda: core._run(bad) if bad != 7 else 1 / 0,
                          lambda: core._end(core_stage, bad, 1, None) if bad != 7 else 1 / 0,
                          lambda: core._end(core_stage, 3, bad, None), lambda: core._stage(bad),
                          lambda: _core.be(bad) if bad != 7 else 1 / 0,
@@ -92,7 +100,7 @@ class CoreArguments(CoreCase):
         for kind in (4, 5, 6, 9):
             self.refused(lambda: core._change(kind, 0, core_stage, None))
         self.fits(core)
-        self.assertEqual((len(core._facts()[4]), core_stage.complete(1), core_stage.then(str).result(9)),
+        self.assertEqual((len(core._facts()[2]), core_stage.complete(1), core_stage.then(str).result(9)),
                          (1, True, "1"))
 
     def test_arguments_of_other_types(self):
@@ -103,8 +111,8 @@ class CoreArguments(CoreCase):
                      lambda: core._attach(1, None, None, str, [], {}, None),
                      lambda: core._attach("3", core_stage, None, str, None, None, None), lambda: core._attach(),
                      lambda: core._attach(3, other, None, str, None, None, None),
-                     lambda: core._attach(3, 7, None, str, None, None, None), lambda: core._run(other, 3),
-                     lambda: core._begin(None, 3), lambda: core._end(core_stage, 3, 3, other),
+                     lambda: core._attach(3, 7, None, str, None, None, None), lambda: core._begin(3, other),
+                     lambda: core._begin(None), lambda: core._end(core_stage, 3, 3, other),
                      lambda: core._change(COMPLETE, 0, "x", 1), lambda: core._set_running(other),
                      lambda: core._work(None),
                      lambda: _core.RequestCore(), lambda: _core.RequestCore(1, 2, 3, 4, 5, 6),
@@ -141,10 +149,8 @@ class CoreArguments(CoreCase):
         self.assertEqual((out, status), ("refused\n" * 5, 0), err)
 
     def test_copies_and_classes(self):
-        core_stage, flow = self.request.promise(), Flow()
-        flow.promise()
-        flow.run()
-        for each in (core_stage, self.request, flow._plan):
+        core_stage = self.request.promise()
+        for each in (core_stage, self.request):
             for call in (copy.copy, copy.deepcopy, pickle.dumps, lambda it: it.__reduce_ex__(2)):
                 self.refused(lambda: call(each))
         self.refused(lambda: object.__new__(Stage), lambda: Stage.__new__(Stage), lambda: Stage(),

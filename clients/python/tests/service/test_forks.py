@@ -34,6 +34,46 @@ class Forks(unittest.TestCase):
         self.assertEqual((out, status), ("child True 1 False\nparent True True\n", 0), err)
 
     @unittest.skipUnless(hasattr(os, "fork"), "no fork")
+    def test_what_is_ready_is_the_parents(self):
+        """A stage of the same request that becomes ready in the child is run there, and what was ready before isn't."""
+        out, err, status = program("""
+            service, goes_on = Service(1), threading.Event()
+            request, begun = service.request(), threading.Event()
+            first = request.supply(lambda: begun.set() or goes_on.wait(20))
+            begun.wait(20)
+            promise = request.promise()
+            queued, behind = [request.supply(os.getpid) for _ in range(2)], promise.then(lambda _: os.getpid())
+            pid = os.fork()
+            if not pid:
+                promise.complete(1)
+                own = request.supply(os.getpid).result(20)
+                print(own == behind.result(20) == os.getpid(), [it.done() for it in (first, *queued)], flush=True)
+                print(queued[0].cancel(), queued[1].complete(7), queued[1].result(0), flush=True)
+                os._exit(0)
+            print(os.waitpid(pid, 0)[1], flush=True)
+            goes_on.set()
+            promise.complete(1)
+            print({it.result(20) for it in (*queued, behind)} == {os.getpid()}, flush=True)
+        """)
+        self.assertEqual((out, status), ("True [False, False, False]\nTrue True 7\n0\nTrue\n", 0), err)
+
+    @unittest.skipUnless(hasattr(os, "fork"), "no fork")
+    def test_a_flow_goes_on_in_the_child(self):
+        out, err, status = program("""
+            from cf.service import Flow
+            flow, child = Flow(), []
+            first = flow.supply(lambda: child.append(os.fork()))
+            ends = [flow.supply(len, "abc"), first.then(lambda _: 1)]
+            request = flow.run()
+            print([request[end].result(0) for end in ends], flush=True)
+            if child[0]:
+                os.waitpid(child[0], 0)
+            else:
+                os._exit(0)
+        """)
+        self.assertEqual((out, status), ("[3, 1]\n" * 2, 0), err)
+
+    @unittest.skipUnless(hasattr(os, "fork"), "no fork")
     def test_forks_under_load(self):
         """Children go on with requests that the parent's threads were changing, waiting for and reading as it
         forked."""

@@ -85,26 +85,49 @@ class InterruptsOfCores(CoreCase):
         class Interrupted:
             closed, clock = False, None
 
-            def __init__(self):
-                self.calls, self.taken = 0, []
+            def __init__(self, most):
+                self.calls, self.taken, self.most = 0, [], most
 
             def refusal(self):
                 return RuntimeError("nobody")
 
-            def put(self, stage):
+            def put(self, request):
                 self.calls += 1
                 if self.calls % 2:
                     raise KeyboardInterrupt
-                self.taken.append(stage.number)
-                return self.calls > 2
-        interrupted = Interrupted()
-        of_interrupted = Request(interrupted, "r", 8)
-        before_interrupt = of_interrupted.promise()
-        ends = [before_interrupt.then(str) for _ in range(3)]
-        with self.assertRaises(KeyboardInterrupt):
-            before_interrupt.complete(1)
-        self.assertEqual((interrupted.taken, str(ends[0].exception(0)), [it.done() for it in ends]),
-                         ([1, 2, 3], "nobody", [True, False, False]))
+                self.taken.append(request)
+                return len(self.taken) <= self.most
+        for most, taken, is_done in ((3, 3, False), (1, 2, True), (0, 1, True)):
+            interrupted = Interrupted(most)
+            of_interrupted = Request(interrupted, "r", 8)
+            before_interrupt = of_interrupted.promise()
+            ends = [before_interrupt.then(str) for _ in range(3)]
+            with self.assertRaises(KeyboardInterrupt):
+                before_interrupt.complete(1)
+            self.assertEqual((interrupted.taken, [it.done() for it in ends]), ([of_interrupted] * taken, [is_done] * 3))
+            if is_done:
+                self.assertEqual({str(it.exception(0)) for it in ends}, {"nobody"})
+            else:
+                of_interrupted._run(3)
+                self.assertEqual((len(interrupted.taken), [it.done() for it in ends]), (3, [True, False, False]))
+
+    def test_puts_that_fail_are_made_up_for(self):
+        """A turn that couldn't be given is given with the next one."""
+        class Failing:
+            closed, clock, fails, taken = False, None, True, 0
+
+            def put(self, _):
+                if self.fails:
+                    raise MemoryError
+                self.taken += 1
+                return True
+        failing = Failing()
+        request = Request(failing, "r", 8)
+        with self.assertRaises(MemoryError):
+            request.supply(str)
+        failing.fails = False
+        request.supply(str)
+        self.assertEqual(failing.taken, 2)
 
     @unittest.skipUnless(IS_MODULE,
                          "by ctypes the stack may end between an event and its showing, as within concurrent.futures")

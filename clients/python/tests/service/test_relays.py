@@ -228,7 +228,7 @@ class Relays(CoreCase):
         service.shutdown()
         with self.assertRaises(RuntimeError):
             relaying.gather(adopted_future)
-        self.assertEqual((len(relaying._facts()[4]), len(full._facts()[4]), hasattr(adopted_future, "_relays")),
+        self.assertEqual((len(relaying._facts()[2]), len(full._facts()[2]), hasattr(adopted_future, "_relays")),
                          (0, 4093, False))
 
 

@@ -26,8 +26,8 @@ def ends(service):
         return True
     with contextlib.suppress(queue.Empty):  # (or they would never)
         while True:
-            service._works._stages.get(timeout=0.5)
-    service._works._stages.put(None)
+            service._works._turns.get(timeout=0.5)
+    service._works._turns.put(None)
     return False
 
 
@@ -68,14 +68,14 @@ class Shutdown(unittest.TestCase):
                     lets_end.set()
                     until(super().empty)
                 return was
-        ending._works._stages = Taken()
+        ending._works._turns = Taken()
         handed_in = [ending.submit(lets_end.wait, 20), ending.submit(str)]
         ends = threading.Thread(target=ending.shutdown, kwargs={"wait": False, "cancel_futures": True}, daemon=True)
         ends.start()
         ends.join(20)
         hangs = ends.is_alive()
         if hangs:
-            ending._works._stages.put(ending.request().promise())
+            ending._works._turns.put(ending.request())
         self.assertFalse(hangs)
         lets_end.set()
         self.assertFalse(concurrent.futures.wait(handed_in, 20).not_done)

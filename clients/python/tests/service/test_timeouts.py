@@ -162,6 +162,27 @@ class Causes(Case):
         concurrent.futures.wait(calls, 20)
         self.assertEqual(told_late, [error] * 4)
 
+    def test_the_exception_of_a_stage_that_is_followed(self):
+        """A composing stage has that of the higher stage which its function gave."""
+        timed, late = self.request, []
+        ends = [timed.supply(str).compose(lambda _: late.append(timed.promise("late")) or late[-1]) for _ in range(2)]
+        ends.append(timed.supply(dict).then(lambda it: it["x"]).recover_compose(
+            lambda _: late.append(timed.promise("late")) or late[-1]))
+        self.assertTrue(until(lambda: len(late) == 3))
+        errors = {late_stage.or_timeout(0.01).exception(20) for late_stage in late}
+        self.assertEqual({end.exception(20) for end in ends}, errors)
+        self.assertEqual(len(errors), 3)
+
+    def test_the_exception_of_what_is_gathered(self):
+        """Of any number of stages that of the first which has one, whichever timed out last."""
+        timed = self.request
+        for many in (2, 3, 5):
+            promises = [timed.promise() for _ in range(many)]
+            every, handled = timed.all_of(*promises), timed.gather(*promises).handle(lambda _, error: error)
+            errors = [promise.or_timeout(0).exception(20) for promise in reversed(promises)]
+            self.assertIs(every.exception(20), errors[-1])
+            self.assertIs(handled.result(20), errors[-1])
+
     def test_the_exception_of_a_timeout_in_a_flow(self):
         """Stages of any number of sources have that of the first which ended so."""
         flow = Flow()

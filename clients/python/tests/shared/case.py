@@ -59,11 +59,11 @@ class Case(unittest.TestCase):
         self.services += [asks, works]
         return store, asks, works
 
-    def worker(self, address=None, lease=None):
+    def worker(self, address=None, lease=None, more=()):
         head = "import sys; sys.path[:0] = %r; from cf import worker; sys.exit(worker.main(sys.argv[1:]))"
         paths = [str(HERE)] + ([] if os.environ.get("CF_INSTALLED") else [str(CLIENT)])
         process = subprocess.Popen([sys.executable, "-c", head % paths, "--store", address or self.address, "--lease",
-                                    str(lease or self.lease), "shared_functions"], stderr=subprocess.PIPE)
+                                    str(lease or self.lease), *more, "shared_functions"], stderr=subprocess.PIPE)
         self.processes.append(process)
         return process
 
@@ -73,11 +73,11 @@ class Case(unittest.TestCase):
             self.assertLess(time.monotonic(), end, "it takes too long")
             time.sleep(0.01)
 
-    def each(self):
+    def each(self, **more):
         """A service over each store, with a name for a request."""
         for address in [self.address, "memory://", *STORES]:
             with self.subTest(address):
-                yield self.service(address), self.name + address
+                yield self.service(address, **more), self.name + address
 
 
 class Watched(list):

@@ -1,11 +1,13 @@
 """The functions of tests of cf.shared, which several processes know."""
+import contextvars
 import os
 import threading
 import time
 
-from cf.shared import Functions
+from cf.shared import Functions, Variables
 
-functions = Functions()
+TENANT = contextvars.ContextVar("tenant")
+functions, contexts = Functions(), [Variables(tenant=TENANT)]
 held = threading.Event()  # until it is set, `hold` runs
 
 
@@ -103,3 +105,25 @@ def waiting(request, number):
 @functions.function("marking")
 def marking(request, path):
     return request.supply(mark, path, 30).recover(text)
+
+
+@functions.function("tenant")
+def tenant(*_):
+    return TENANT.get(None)
+
+
+@functions.function("leaking")
+def leaking():
+    seen = TENANT.get(None)
+    TENANT.set("leaked")
+    return seen
+
+
+@functions.function("asking tenant")
+def asking_tenant(request, _):
+    return request.supply(tenant)
+
+
+@functions.function("pay tenant", transactional=True)
+def pay_tenant(connection):
+    return pay(connection, TENANT.get(None))

@@ -4,6 +4,7 @@ glances there.
 
     CF_LIBRARY=/path/to/libcf.so python3 clients/python/tests/shared/test_glances.py [-v] [TEST ..]
 """
+import time
 import unittest
 
 from case import Case, STORES
@@ -13,7 +14,7 @@ from cf.shared import (Abandoned, Broken, connect, DurableService, Grouped, Memo
                        StoreError, Unknown)
 from cf.shared.glances import glance_of, read
 from cf.shared.plans import text_of
-from cf.shared.rows import flow_of, Glance, Gone
+from cf.shared.rows import FIRST, flow_of, Glance, Gone
 
 
 class Lists(Case):
@@ -50,6 +51,100 @@ class Lists(Case):
             store.keep_glances([glance])
             store.drop(self.name), store.open(self.name, "{}")
             self.assertEqual([it.glance for it in store.overview() if it.name == self.name], [None])
+
+    def test_what_is_other_in_the_list(self):
+        flow = Flow("flow")
+        flow.promise()
+        for store in self.listing_stores():
+            mark = None
+
+            def changed(is_told=lambda *_: True, store=store):
+                """What is told of requests of this test, new or anew, and longer; and who is gone. (Some is told a
+                moment later.)"""
+                nonlocal mark
+                opened, words, gone = {}, {}, set()
+
+                def asked():
+                    nonlocal mark
+                    changes, mark = store.changes(mark)
+                    its = {it.name[len(self.name):]: it for it in changes.opened if it.name.startswith(self.name)}
+                    opened.update(its)
+                    words.update({name: it.words for name, it in its.items()})
+                    words.update({name[len(self.name):]: it for name, it in changes.longer.items()
+                                  if name.startswith(self.name)})
+                    gone.update(it[len(self.name):] for it in changes.gone if it.startswith(self.name))
+                    return is_told(opened, words, gone)
+                self.until(asked)
+                return opened, words, gone
+            first = store.open(self.name + "a", text_of(flow, f.functions))
+            store.keep_glances([Glance(first.name, first.number, 0, "x")])
+            opened, _, gone = changed()
+            self.assertEqual((opened["a"][1], *opened["a"][3:], gone), (
+                first.number, 0, "flow", Glance(first.name, first.number, 0, "x"), set()))
+            self.assertAlmostEqual(opened["a"].opened, first.opened, 2)
+            store.open(self.name + "b", text_of(flow, f.functions))
+            store.append(Put(first.name, 0, [(1, 11), (2, 12)], {}))
+            opened, words, gone = changed(lambda opened, words, gone: "b" in opened and words.get("a") == 2)
+            self.assertEqual((opened["b"].flow, gone), ("flow", set()))
+            self.assertEqual(changed()[2], set())
+            store.end(first.name, 2), store.append(Put(self.name + "b", 0, [(1, 13)], {}))
+            opened, words, gone = changed(lambda _, words, gone: gone and words.get("b") == 1)
+            self.assertEqual((words, gone), ({"b": 1}, {"a"}))
+            store.reopen(first.name)
+            opened, _, gone = changed(lambda opened, *_: "a" in opened)
+            self.assertEqual((opened["a"].number, opened["a"].words, gone), (first.number, 2, set()))
+            store.end(first.name, 2), store.drop(first.name)
+            again = store.open(first.name, "{}")
+            opened, _, gone = changed(lambda opened, *_: "a" in opened and opened["a"].number == again.number)
+            self.assertEqual((opened["a"].words, gone), (0, set()))
+            store.drop(first.name)  # while it is open
+            changed(lambda opened, words, gone: gone == {"a"})
+            store.open(self.name + "c", "{}"), store.end(self.name + "c", 0)
+            time.sleep(0.1)
+            opened, _, gone = changed()
+            self.assertEqual(("c" in opened, gone), (False, set()))
+
+    def test_the_first_of_many(self):
+        """.. are told alone at first, by name, and with how many there are."""
+        for store in self.listing_stores():
+            for k in reversed(range(2 * FIRST + 1 - len(store.overview()))):
+                store.open(f"!{k:03}", "{}")
+            store.end("!000", 0)
+            self.assertIsNone(store.changes(None)[0].many)
+            store.reopen("!000")
+            its = {it.name: it for it in store.overview()}
+            store.keep_glances([Glance("!007", its["!007"].number, 0, "x")])
+            mark = None
+            changes, mark = store.changes(mark)
+            if changes.many is not None:  # (the store in memory tells all)
+                self.assertEqual(([it.name for it in sorted(changes.opened)], changes.many, changes.gone),
+                                 (sorted(its)[:FIRST], len(its), []))
+                self.assertEqual([it.glance.said for it in changes.opened if it.name == "!007"], ["x"])
+                changes, mark = store.changes(mark)
+                self.assertEqual((len(changes.opened), changes.many, changes.gone), (len(its), None, []))
+                gone = set()
+
+                def asked(store=store, gone=gone):
+                    nonlocal mark
+                    changes, mark = store.changes(mark)
+                    gone.update(changes.gone)
+                    return gone == {"!000", "!001"}
+                store.end("!000", 0), store.drop("!001")
+                self.until(asked)
+            for name in its:
+                if name[0] == "!" and store.find(name) is not None:
+                    store.drop(name)
+
+    def test_who_closes_a_request(self):
+        for store in self.listing_stores():
+            store.open(self.name, "{}")
+            store.append(Put(self.name, 0, [(1, 11)], {}))
+            self.assertEqual([store.end(self.name, many) for many in (0, 2, 1, 1)], [False, False, True, False])
+            store.reopen(self.name)
+            self.assertIs(store.end(self.name, 1), True)
+            store.drop(self.name)
+            with self.assertRaises(Gone):
+                store.end(self.name, 1)
 
     def test_a_page_of_closed_requests(self):
         for store in self.listing_stores():
@@ -188,9 +283,19 @@ class Glances(Case):
             self.assertTrue(promise.complete(1))
 
     def test_what_is_no_glance(self):
-        for said in ("", "{", "[]", "{}", '{"glance": 2}', '{"glance": 1}', '{"glance": 1, "stages": "x"}'):
+        for said in ("", "{", "[]", "{}", '{"glance": 2}', '{"glance": 1}', '{"glance": 1, "stages": "x"}',
+                     '{"glance":1,"since":7}', '{"glance":1,"since":', ',"since":7}'):
             self.assertIsNone(read(Glance("r", 1, 1, said)))
         self.assertIsNone(read(None))
+
+    def test_glances_that_differ_by_a_moment(self):
+        """.. are read once, and so is one of another version, in which more stands."""
+        whole = ('{"glance":1,"stages":2,"open":1,"waits":[[0,",\\"since\\":8}","ready"]],"claims":[],"ready":[],'
+                 '"tries":0,')
+        seen = read(Glance("r", 1, 1, whole + '"since":7.5}'))
+        self.assertEqual((seen.since, seen.waits[0].name), (7.5, ',"since":8}'))
+        self.assertEqual(read(Glance("r", 1, 1, whole + '"since":8}')), seen._replace(since=8.0))
+        self.assertEqual(read(Glance("r", 1, 1, whole + '"since":7.5,"more":[1]}')), seen)
 
     def test_a_stage_that_nobody_can_read(self):
         store = Memory()

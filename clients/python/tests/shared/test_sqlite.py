@@ -13,7 +13,7 @@ import unittest.mock
 from pathlib import Path
 
 from case import Case
-from cf.shared import Broken, connect, Put, sqlite as shared_sqlite, StoreError, Unknown
+from cf.shared import Broken, connect, Put, sqlite as shared_sqlite, StoreError, tables, Unknown
 
 
 class SQLite(Case):
@@ -31,6 +31,43 @@ class SQLite(Case):
         self.assertLess(len(os.listdir("/proc/self/fd")), before + 5)
         with self.assertRaises(StoreError):
             sqlite_store.append(Put("r", 0, [(1, 1)], {}))
+
+    def test_more_words_of_many_requests(self):
+        """Lists are told of new words by what was put since."""
+        store = connect(self.address)
+        for k in range(3):
+            store.open(f"r{k}", "{}")
+        with unittest.mock.patch.object(tables, "ANEW", 1):
+            _, mark = store.changes(None)
+            for many in (1, 2):
+                for k in range(3):
+                    store.append(Put(f"r{k}", many - 1, [(1, k)], {}))
+                changes, mark = store.changes(mark)
+                self.assertEqual(changes.longer, {"r0": many, "r1": many, "r2": many})
+            self.assertEqual((store.changes(mark)[0].longer, len(changes.opened)), ({}, 1))
+            told = set()
+            for _ in range(4):  # all are told anew, one after another
+                changes, mark = store.changes(mark)
+                told.update(it.name for it in changes.opened)
+        self.assertEqual(told, {"r0", "r1", "r2"})
+        store.close()
+
+    def test_numbers_that_come_again(self):
+        """Words have the numbers again of those that were dropped. A list misses none for long."""
+        store = connect(self.address)
+        for name in "abc":
+            store.open(name, "{}")
+        store.append(Put("a", 0, [(1, k) for k in range(3)], {}))
+        _, mark = store.changes(None)
+        store.end("a", 3), store.drop("a")
+        store.append(Put("b", 0, [(1, 7)], {})), store.append(Put("c", 0, [(1, k) for k in range(3)], {}))
+        changes, mark = store.changes(mark)
+        self.assertEqual({**{it.name: it.words for it in changes.opened}, **changes.longer}, {"b": 1, "c": 3})
+        store.drop("c")
+        store.open("d", "{}")
+        changes, mark = store.changes(mark)
+        self.assertEqual((changes.gone, {it.name: it.words for it in changes.opened}), (["c"], {"b": 1, "d": 0}))
+        store.close()
 
     def test_a_process_that_is_stopped_in_the_line(self):
         """Others are told so after some time, keep their place in the line, and go on once it does."""

@@ -68,7 +68,8 @@ class WebCase(Case):
             connection.putrequest(method, path, skip_host="Host" in given)
             for name, it in given.items():
                 connection.putheader(name, it)
-            connection.putheader("Content-Length", str(len(body or b"")))
+            if "Content-Length" not in given:
+                connection.putheader("Content-Length", str(len(body or b"")))
             connection.endheaders(body)
             answer = connection.getresponse()
             return answer.status, dict(answer.getheaders()), answer.read()
@@ -169,6 +170,8 @@ class Door(WebCase):
 
     def test_what_is_no_action(self):
         right = {"Origin": f"http://127.0.0.1:{self.port}", "X_CF_Token": self.page.door.post_token}
+        for length in ("-1", "x", "", "\u00b2", "0x10", "1" * 30):
+            self.assertEqual(self.ask("POST", "/act", **{**right, "Content_Length": length})[0], 413, length)
         for body in (b"", b"{", b"[]", b"7", b"\xff", b"{}", b'{"action": "end"}',
                      b'{"action": "shout", "name": "r", "number": 1, "who": "a"}',
                      b'{"action": "end", "name": 7, "number": 1, "who": "a"}'):
@@ -256,6 +259,20 @@ class Hostile(WebCase):
         status, _, body = self.ask("GET", "/data?" + urlencode({"view": "request", "number": "<b>"}))
         self.assertEqual((status, b"<b>" in body), (400, False))
 
+    def test_hostile_names_in_metrics(self):
+        """A name ends neither its label nor its line."""
+        store, functions = Memory(), Functions()
+        bad = functions.function(HOSTILE)(lambda: HOSTILE)
+        service = DurableService(store, 0, functions=functions, lease=60)
+        self.services.append(service)
+        self.page_over(store)
+        service.request("r").supply(bad)
+        self.until(lambda: b"cf_ready_stages{" in self.ask("GET", "/metrics")[2])
+        text = self.ask("GET", "/metrics")[2].decode()
+        (line,) = [line for line in text.split("\n") if line.startswith("cf_ready_stages{")]
+        self.assertRegex(line, r'^cf_ready_stages\{function="([^"\\]|\\["\\n])*",version="1"\} 1$')
+        self.assertFalse([line for line in text.split("\n")[:-1] if not line.startswith(("# ", "cf_"))])
+
     def test_a_broken_name_is_told_as_text(self):
         store = Memory()
         self.page_over(store)
@@ -280,6 +297,7 @@ class Hostile(WebCase):
         service.request("r").promise(HOSTILE)
         self.page_over(store, cf_look=str(program))
         status, headers, body = self.ask("GET", "/picture?" + urlencode({"name": "r", "number": 0}))
+        self.assertNotIn(b"<style>", body)
         digest = base64.b64encode(hashlib.sha256(b"run()").digest()).decode()
         policy = headers["Content-Security-Policy"]
         self.assertEqual((status, body), (200, b"<script type=x>1</script><script>run()</script>"))
@@ -293,6 +311,10 @@ class Hostile(WebCase):
         for theme, wanted in (("dark", b'<html data-theme="dark" lang=en>'), ('"><b>', b"<html lang=en>")):
             asked = urlencode({"name": "r", "number": 0, "theme": theme})
             self.assertEqual(self.ask("GET", "/picture?" + asked)[2], wanted + b"<script>run()</script>")
+        program.write_text("#!/bin/sh\ncat > /dev/null; printf '<head></head></head><script>run()</script>'\n")
+        service.request("r").promise()
+        body = self.ask("GET", "/picture?" + urlencode({"name": "r", "number": 0}))[2]
+        self.assertRegex(body.decode(), r"^<head><style>[^<]*</style></head></head><script>run\(\)</script>$")
         program.write_text("#!/bin/sh\nexit 1\n")
         service.request("r").promise()
         self.assertEqual(self.ask("GET", "/picture?" + urlencode({"name": "r", "number": 0}))[0], 500)
@@ -358,6 +380,16 @@ class Lists(WebCase):
                          (False, "host 7", ["r", "r", 0, "load"]))
         self.assertIn('cf_sessions{state="gone"} 1', self.ask("GET", "/metrics")[2].decode())
         self.assertIs(self.one("r")["stages"][0]["session"]["there"], False)
+
+    def test_words_that_have_no_glance(self):
+        """The row is read, as far as it is new."""
+        store = connect(self.address)
+        opened = store.open("r", text_of(self.flow(), f.functions))
+        self.page_over(store)
+        self.until(lambda: self.rows().get("r", {}).get("state") == "ready")
+        view = RowView(store, opened, new_session())
+        view.act(lambda view: [(4 << 56 | view.who << 48, None)])
+        self.until(lambda: (self.rows()["r"]["state"], self.rows()["r"]["words"]) == ("running", 1))
 
     @staticmethod
     def flow():

@@ -2,7 +2,7 @@
 use crate::event::reply_of_word;
 use crate::handle::Handle;
 use crate::ledger::{self, Stage};
-use crate::plan::{limit_in, Limit, Plan};
+use crate::plan::{limit_in, Form, Limit, Plan};
 use crate::refused::{if_there, Refused};
 use crate::step::{step_out, taken_out, task_in, Step};
 use crate::values::*;
@@ -156,6 +156,38 @@ impl Request {
             code
         })?;
         Ok(reply_of_word(word, applied.reply))
+    }
+
+    /// Attaches a stage that waits for all of these stages, or for one of them, whatever their number, by a caller: [`Form::AllOf`] or
+    /// [`Form::AnyOf`]. n stages are gathered by n - 1, at least one; the number of the last is given, and it settles as one stage of the form
+    /// behind all of these would. All are attached, or none is and nothing is changed: `NO_SUCH_NUMBER` where the form is another, `NO_WORD` where
+    /// `who` is above 63, `NO_STAGE`, `NO_ROOM`, `NO_MEMORY`.
+    ///
+    /// ```
+    /// use cf_graph::{Call, Event, Form, Of, Outcome, PlanBuilder, Request, RequestSizes, Told, Value};
+    /// # fn main() -> Result<(), cf_graph::Refused> {
+    /// let sizes = RequestSizes { room: 5, lanes: 1, own: 63 };
+    /// let (mut request, mut told) = (Request::new(&mut PlanBuilder::new()?.build()?, sizes, &[])?, Told::default());
+    /// for _ in 0..3 {
+    ///     request.apply(Event { who: 0, call: Call::Attach(Form::Source, Of::None, None) }.word()?, 0, &mut told)?;
+    /// }
+    /// assert_eq!(request.gather(0, Form::AnyOf, &[0, 1, 2], &mut told)?, 4);
+    /// request.apply(Event { who: 0, call: Call::Complete(2, Value::Int(7)) }.word()?, 0, &mut told)?;
+    /// assert_eq!(told.iter().collect::<Vec<_>>(), [(2, Outcome::Value(Value::Int(7))), (4, Outcome::Value(Value::Int(7)))]);
+    /// # Ok(())
+    /// # }
+    /// ```
+    pub fn gather(&mut self, who: u8, form: Form, sources: &[u16], told: &mut Told) -> Result<u16, Refused> {
+        let mut step = sys::cf_request_gathering { who, form: form as u32, ..Default::default() };
+        let (first, many, to) = (sources.as_ptr(), sources.len(), &mut step);
+        told.tell(&mut self.0, |h, rows, room, n| {
+            // SAFETY: alone, pointers: `h` and what is told to are this call's, and `first` and `rows` point to as many elements as said.
+            let code = unsafe { sys::cf_request_gather(h, to, first, many, rows, room) };
+            // SAFETY: pointers: `n` is this call's.
+            unsafe { *n = to.told };
+            code
+        })?;
+        Ok(step.root)
     }
 
     /// One step of a caller of a lane: finishes the stage that it holds with this answer, settles the stages that follow one that is settled now,

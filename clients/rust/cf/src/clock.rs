@@ -1,10 +1,10 @@
 //! What time it is, and who rings when it is later.
 use crate::core::Core;
-use crate::error::Refusal;
-use crate::spawn::{guarded, quietly, CLOCK};
+use crate::spawn::{guarded, quietly};
 use std::collections::BTreeMap;
 use std::fmt;
 use std::panic::{catch_unwind, resume_unwind, AssertUnwindSafe};
+use std::sync::atomic::{AtomicBool, Ordering};
 use std::sync::{Arc, Condvar, Mutex, MutexGuard, PoisonError, Weak};
 use std::thread;
 use std::time::{Duration, Instant};
@@ -34,12 +34,19 @@ pub trait Clock: Send + Sync + 'static {
     /// How long it is since a moment of the clock's own. It never goes back. Where it panics, an event has the time of the one before it.
     fn now(&self) -> Duration;
 
-    /// Rings the alarm after a while. It must not ring it before it returns. Where it drops the alarm, a stage that waits for it fails.
+    /// Rings the alarm after a while. It must not ring it before it returns. A request asks for one alarm at a time, up to the first of its
+    /// timeouts, and for an earlier one where an earlier timeout comes; the one before isn't wanted any more then ([`Alarm::is_wanted`]).
     fn after(&self, wait: Duration, alarm: Alarm);
+
+    /// Whether it is the computer's own, which requests read by themselves.
+    #[doc(hidden)]
+    fn is_system(&self) -> bool {
+        false
+    }
 }
 
-/// A timeout to come, which a [`Clock`] rings. It keeps no request alive. One that is dropped instead lets its stage fail with
-/// [`Refusal::NoClock`], unless that is settled.
+/// The next timeout of a request, which a [`Clock`] rings. It keeps no request alive. If one is dropped that is wanted, the stages of its request
+/// that have timeouts fail with [`Refusal::NoClock`](crate::Refusal::NoClock), since nothing rings for them any more.
 ///
 /// ```
 /// struct Stopped;
@@ -57,14 +64,14 @@ pub trait Clock: Send + Sync + 'static {
 /// ```
 pub struct Alarm {
     pub(crate) core: Weak<Core>,
-    pub(crate) stage: u16,
+    /// Which alarm of its request it is.
+    pub(crate) number: u64,
     pub(crate) wait: Duration,
-    /// The number of the value that the stage gets, which its request keeps.
-    pub(crate) gives: Option<u16>,
 }
 
 impl Alarm {
-    /// Lets it be that moment: the stage times out or gets its value, unless it is settled.
+    /// Lets it be that moment: the stages whose timeouts have come by then time out or get their values, unless they are settled. The request
+    /// asks its clock for the next alarm first, if there are later timeouts.
     ///
     /// ```
     /// struct AtOnce;
@@ -81,7 +88,7 @@ impl Alarm {
     /// ```
     pub fn ring(mut self) {
         if let Some(core) = std::mem::take(&mut self.core).upgrade() {
-            core.ring(self.stage, self.wait, self.gives);
+            core.rung(self.number);
         }
     }
 
@@ -90,7 +97,7 @@ impl Alarm {
         self.core = Weak::new();
     }
 
-    /// Whether its stage isn't settled. A clock may leave aside alarms that nobody wants.
+    /// Whether a stage waits for it. A clock may leave aside alarms that nobody wants.
     ///
     /// ```
     /// fn swept(alarms: &mut Vec<cf::Alarm>) {
@@ -98,24 +105,21 @@ impl Alarm {
     /// }
     /// ```
     pub fn is_wanted(&self) -> bool {
-        self.core.upgrade().map_or(false, |core| !core.lock().slot(self.stage).is_settled())
+        self.core.upgrade().map_or(false, |core| core.lock().awaited.is_for(self.number))
     }
 }
 
 impl Drop for Alarm {
     fn drop(&mut self) {
         if let Some(core) = self.core.upgrade() {
-            let is_pending = !core.lock().slot(self.stage).is_settled();
-            if is_pending {
-                let _ = core.settle(CLOCK, self.stage, Err(Refusal::NoClock.into()));
-            }
+            core.never_rung(self.number);
         }
     }
 }
 
 impl fmt::Debug for Alarm {
     fn fmt(&self, f: &mut fmt::Formatter<'_>) -> fmt::Result {
-        write!(f, "Alarm(stage {}, after {:?})", self.stage, self.wait)
+        write!(f, "Alarm(after {:?})", self.wait)
     }
 }
 
@@ -137,13 +141,17 @@ impl Clock for SystemClock {
         begun().elapsed()
     }
 
+    fn is_system(&self) -> bool {
+        true
+    }
+
     fn after(&self, wait: Duration, alarm: Alarm) {
         let at = match self.now().checked_add(wait) {
             Some(at) => at,
             None => return alarm.never(),
         };
         let mut held = ALARMS.lock();
-        held.has_ringer = held.has_ringer || start(ring);
+        held.start_ringer();
         let due = held.due();
         let is_first = due.add(at, alarm);
         let is_full = due.alarms.len() > due.sweep;
@@ -169,8 +177,17 @@ fn begun() -> Instant {
     BEGUN.try_with(|begun| *begun).unwrap_or_else(|_| first())
 }
 
+/// Starts the thread of the computer's clock, if the system has refused it before.
+pub(crate) fn try_again() {
+    if ALARMS.is_refused.load(Ordering::Relaxed) {
+        ALARMS.lock().start_ringer();
+    }
+}
+
 struct Alarms {
     held: Mutex<Ringers>,
+    /// The system has refused the ringer.
+    is_refused: AtomicBool,
     /// An alarm is the first now.
     came: Condvar,
     /// The ringer rings.
@@ -191,7 +208,7 @@ struct Ringers {
     rung: u64,
 }
 
-static ALARMS: Alarms = Alarms { held: Mutex::new(Ringers::NONE), came: Condvar::new(), rings: Condvar::new() };
+static ALARMS: Alarms = Alarms { held: Mutex::new(Ringers::NONE), is_refused: AtomicBool::new(false), came: Condvar::new(), rings: Condvar::new() };
 
 /// How long an alarm may keep the ringer up.
 const KEPT_UP: Duration = Duration::from_millis(10);
@@ -207,6 +224,11 @@ impl Ringers {
 
     fn due(&mut self) -> &mut Due {
         self.due.get_or_insert_with(Due::new)
+    }
+
+    fn start_ringer(&mut self) {
+        self.has_ringer = self.has_ringer || start(ring);
+        ALARMS.is_refused.store(!self.has_ringer, Ordering::Relaxed);
     }
 }
 

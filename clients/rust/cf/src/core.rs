@@ -1,7 +1,7 @@
 //! A request: its lock, and what is told once that is free.
 //!
 //! No code of a user runs under the lock: wakers, values and functions that are dropped, jobs and other requests are told behind it ([`After`]).
-use crate::clock::{Alarm, Clock};
+use crate::clock::{try_again, Alarm, Clock};
 use crate::context::carried;
 use crate::error::{Error, Panic, Refusal};
 use crate::history::History;
@@ -20,7 +20,7 @@ use std::panic::{catch_unwind, resume_unwind, AssertUnwindSafe};
 use std::sync::atomic::{AtomicBool, AtomicUsize, Ordering};
 use std::sync::{Arc, Mutex, MutexGuard, PoisonError, TryLockError};
 use std::task::{Poll, Waker};
-use std::time::Duration;
+use std::time::{Duration, Instant};
 
 pub(crate) struct Core {
     pub(crate) name: Box<str>,
@@ -31,6 +31,8 @@ pub(crate) struct Core {
     most: usize,
     clock: Arc<dyn Clock>,
     begun: Duration,
+    /// The same where the clock is the computer's.
+    begun_at: Option<Instant>,
     inner: Mutex<Inner>,
     /// Jobs that rest in a function that waits.
     resting: AtomicUsize,
@@ -48,8 +50,10 @@ impl Core {
     pub(crate) const TURN: usize = 64;
 
     pub(crate) fn new(name: Box<str>, spawn: Arc<dyn Spawn>, clock: Arc<dyn Clock>, room: u16) -> Result<Arc<Core>, Refusal> {
-        let (place, most, begun, inner) = (spawn.id(), spawn.parallelism().max(1), clock.now(), Mutex::new(Inner::new(room)?));
-        Ok(Arc::new(Core { name, spawn, place, most, clock, begun, inner, resting: AtomicUsize::new(0), has_helpers: AtomicBool::new(false) }))
+        let (place, most, inner) = (spawn.id(), spawn.parallelism().max(1), Mutex::new(Inner::new(room)?));
+        let (begun, begun_at) = if clock.is_system() { (Duration::ZERO, Some(Instant::now())) } else { (clock.now(), None) };
+        let (resting, has_helpers) = (AtomicUsize::new(0), AtomicBool::new(false));
+        Ok(Arc::new(Core { name, spawn, place, most, clock, begun, begun_at, inner, resting, has_helpers }))
     }
 
     /// No code of a user runs under the lock, so what a panic leaves behind it is whole.
@@ -74,7 +78,7 @@ impl Core {
         let mut after = After::nothing();
         let now = self.now();
         let mut inner = self.lock();
-        inner.ledger.now = now;
+        inner.ledger.record.go_on(now);
         let done = act(&mut inner, &mut after);
         inner.cancel_relays(&mut after);
         inner.hire(self.most(), false, &mut after);
@@ -88,11 +92,13 @@ impl Core {
         done
     }
 
-    /// Nanoseconds since the request began. A clock may be a user's, so it isn't asked under the lock, and one that panics tells nothing; the
-    /// record lets times rise.
+    /// Nanoseconds since the request began. A clock may be a user's, so it isn't asked under the lock, and one that panics tells nothing: the
+    /// time is that of the call before then.
     pub(crate) fn now(&self) -> u64 {
-        let told = catch_unwind(AssertUnwindSafe(|| self.clock.now())).unwrap_or_default();
-        let since = told.saturating_sub(self.begun);
+        let since = match self.begun_at {
+            Some(begun) => begun.elapsed(),
+            None => catch_unwind(AssertUnwindSafe(|| self.clock.now())).unwrap_or_default().saturating_sub(self.begun),
+        };
         since.as_secs().saturating_mul(1_000_000_000).saturating_add(u64::from(since.subsec_nanos()))
     }
 
@@ -101,6 +107,11 @@ impl Core {
     pub(crate) fn attach(self: &Arc<Core>, who: u8, form: Form, of: &[u16], call: Option<Call>, made: Made) -> Result<u16, Refusal> {
         let call = call.map(carried);
         self.change(|inner, after| inner.attach(who, form, of, call, made, after))
+    }
+
+    /// A stage that waits for all of these, or for one of them, whatever their number.
+    pub(crate) fn gather(self: &Arc<Core>, who: u8, form: cf_graph::Form, of: &[u16], made: Made) -> Result<u16, Refusal> {
+        self.change(|inner, after| inner.gather(who, form, of, made, after))
     }
 
     /// A composing stage, and right below it a source, the relay that stands in for a stage that is higher or elsewhere: a stage links to lower
@@ -191,36 +202,32 @@ impl Core {
         self.lock().names.insert(stage, name);
     }
 
-    /// Has the clock ring later, unless the stage is settled. The value stays here, and goes as soon as the stage is settled.
-    pub(crate) fn after(self: &Arc<Core>, wait: Duration, stage: u16, gives: Option<Val>) {
-        let mut inner = self.lock();
-        if inner.slot(stage).is_settled() {
-            drop(inner);
-            return drop(gives);
-        }
-        let gives = gives.map(|value| inner.keep_for(stage, value));
-        drop(inner);
-        self.clock.after(wait, Alarm { core: Arc::downgrade(self), stage, wait, gives });
-    }
-
-    /// Settles a stage at the moment of an alarm: with the value that was kept for that, or as timed out.
-    pub(crate) fn ring(self: &Arc<Core>, stage: u16, wait: Duration, gives: Option<u16>) {
-        let late = self.change(|inner, after| {
-            let with = match gives {
-                // A stage that is settled has none any more.
-                Some(number) => inner.kept_for(stage, number)?,
-                None => Err(Error::TimedOut(wait)),
-            };
-            inner.settle(CLOCK, stage, with, after).err()
-        });
+    /// Lets a stage time out after a while, or get this value, unless it is settled. The value goes as soon as the stage is settled.
+    pub(crate) fn limit(self: &Arc<Core>, stage: u16, wait: Duration, gives: Option<Val>) {
+        let late = self.change(|inner, after| inner.limit(stage, wait, gives, after));
         drop(late);
+        // The request asks for an alarm only where it has none that comes first.
+        try_again();
     }
 
-    /// Keeps what stops a timer, and drops it as soon as the stage is settled or the request goes.
+    /// It is the moment of an alarm.
+    pub(crate) fn rung(self: &Arc<Core>, alarm: u64) {
+        self.change(|inner, after| inner.rung(alarm, after));
+    }
+
+    /// The moment of an alarm never comes, since that was dropped.
+    pub(crate) fn never_rung(self: &Arc<Core>, alarm: u64) {
+        let is_awaited = self.lock().awaited.is_for(alarm);
+        if is_awaited {
+            self.change(|inner, after| inner.never_rung(alarm, after));
+        }
+    }
+
+    /// Keeps what stops the timer of an alarm, and drops it as soon as that isn't wanted any more or the request goes.
     #[cfg(feature = "tokio")]
-    pub(crate) fn keep_timer(&self, stage: u16, timer: Box<dyn std::any::Any + Send>) {
+    pub(crate) fn keep_timer(&self, alarm: u64, timer: Box<dyn std::any::Any + Send>) {
         let mut inner = self.lock();
-        let back = inner.keep_timer(stage, timer);
+        let back = if inner.awaited.is_for(alarm) { inner.awaited.timer.replace(timer) } else { Some(timer) };
         drop(inner);
         drop(back);
     }
@@ -260,7 +267,7 @@ impl Core {
         let old = match *place {
             Some(place) => inner.waiting.replace(place, waker),
             None => {
-                *place = Some(inner.waiting.keep(&mut inner.slots[usize::from(stage)].waits, waker));
+                *place = Some(inner.waiting.keep(stage, waker));
                 None
             }
         };
@@ -271,11 +278,9 @@ impl Core {
 
     /// Forgets the waker of a handle.
     pub(crate) fn forget(&self, stage: u16, place: u32) {
-        let mut held = self.lock();
-        let inner = &mut *held;
-        let slot = &mut inner.slots[usize::from(stage)];
-        let old = if slot.is_settled() { None } else { inner.waiting.forget(&mut slot.waits, place) };
-        drop(held);
+        let mut inner = self.lock();
+        let old = if inner.slot(stage).is_settled() { None } else { inner.waiting.forget(stage, place) };
+        drop(inner);
         drop(old);
     }
 
@@ -294,7 +299,7 @@ impl Core {
         loop {
             let now = self.now();
             let mut inner = self.lock();
-            inner.ledger.now = now;
+            inner.ledger.record.go_on(now);
             let next = match (ended.take(), left) {
                 (Some((stage, gave)), 0) => {
                     inner.finish(self, who, stage, gave, &mut after);
@@ -439,6 +444,9 @@ impl Core {
     }
 
     fn tell_all(self: &Arc<Core>, after: &mut After, panicked: &mut Option<Payload>) {
+        if let Some((number, wait)) = after.alarm.take() {
+            guarded(panicked, || self.clock.after(wait, Alarm { core: Arc::downgrade(self), number, wait }));
+        }
         for _ in 0..take(&mut after.jobs) {
             guarded(panicked, || self.spawn(Job::new(Turn::Work(Arc::clone(self)))));
         }

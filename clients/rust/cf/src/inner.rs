@@ -10,7 +10,7 @@ use crate::error::{Error, Refusal};
 use crate::ledger::{Hangs, Ledger};
 use crate::name::Made;
 use crate::slot::{Held, Slot};
-use crate::spawn::RELAY;
+use crate::spawn::{CLOCK, RELAY};
 use crate::task::Task;
 use crate::value::{Call, Gave, Given, Val};
 use crate::wakers::Wakers;
@@ -22,8 +22,10 @@ use std::borrow::Cow;
 use std::cell::RefCell;
 use std::collections::BTreeMap;
 use std::mem::{replace, take};
+use std::ops::Range;
 use std::sync::{Arc, Weak};
 use std::task::Waker;
+use std::time::Duration;
 
 /// How many stages a request's first memory is for, at most; it grows like any row.
 pub(crate) const SLOTS: u16 = 64;
@@ -31,6 +33,8 @@ pub(crate) const SLOTS: u16 = 64;
 pub(crate) struct Inner {
     pub(crate) ledger: Ledger,
     pub(crate) slots: Vec<Slot>,
+    /// What histories call stages that were given no name. Stages that were made one after another in the same way share one.
+    pub(crate) made: Vec<Made>,
     /// The names that were given to stages.
     pub(crate) names: BTreeMap<u16, Cow<'static, str>>,
     /// What histories tell of values and errors.
@@ -50,6 +54,56 @@ pub(crate) struct Inner {
     extras: BTreeMap<u16, Extra>,
     /// Relays that are of no use any more, and are to be cancelled before the lock is free.
     letting: Vec<u16>,
+    /// Deadlines, by their stages; those of one stage in the order in which they were set. Those of settled stages go once no other one is left.
+    limits: Vec<Limit>,
+    pub(crate) awaited: Awaited,
+}
+
+/// The alarm that the clock is to ring at the first of the machine's deadlines.
+pub(crate) struct Awaited {
+    /// The number of the last alarm for which the clock was asked.
+    number: u64,
+    /// Its moment, or [`NEVER`] where it isn't wanted any more.
+    moment: u64,
+    /// How many stages that aren't settled have deadlines.
+    stages: u16,
+    /// What stops its timer, once dropped.
+    #[cfg(feature = "tokio")]
+    pub(crate) timer: Option<Box<dyn Any + Send>>,
+}
+
+const NEVER: u64 = u64::MAX;
+
+impl Awaited {
+    fn nothing() -> Awaited {
+        Awaited {
+            number: 0,
+            moment: NEVER,
+            stages: 0,
+            #[cfg(feature = "tokio")]
+            timer: None,
+        }
+    }
+
+    /// Whether it is this alarm.
+    pub(crate) fn is_for(&self, number: u64) -> bool {
+        self.number == number && self.moment != NEVER
+    }
+
+    /// The alarm isn't wanted any more. Its moment.
+    fn stop(&mut self, _after: &mut After) -> u64 {
+        #[cfg(feature = "tokio")]
+        _after.dropped.extend(self.timer.take().map(Held::Timer));
+        replace(&mut self.moment, NEVER)
+    }
+}
+
+/// A deadline of a stage, and what the stage gets then: a value, or that its time ran out after this while.
+pub(crate) struct Limit {
+    stage: u16,
+    moment: u64,
+    wait: Duration,
+    gives: Option<Val>,
 }
 
 #[derive(Default)]
@@ -61,15 +115,10 @@ pub(crate) struct Extra {
     pub(crate) of: Option<(Weak<Core>, u16)>,
     /// Relays that are of no use once it is settled.
     lets_go: Vec<u16>,
-    /// Values that it gets by alarms, and their numbers.
-    values: Vec<(u16, Val)>,
-    /// What stops timers, once dropped.
-    #[cfg(feature = "tokio")]
-    timers: Vec<Box<dyn Any + Send>>,
 }
 
 /// What a request holds that may have other requests.
-pub(crate) struct Kept(#[allow(dead_code)] Vec<Slot>, #[allow(dead_code)] BTreeMap<u16, Extra>);
+pub(crate) struct Kept(#[allow(dead_code)] Vec<Slot>, #[allow(dead_code)] BTreeMap<u16, Extra>, #[allow(dead_code)] Vec<Limit>);
 
 impl Kept {
     pub(crate) fn is_empty(&self) -> bool {
@@ -91,6 +140,8 @@ pub(crate) struct After {
     /// A stage of another request, and the relay that is settled and stands for it.
     pub(crate) ends: Vec<(Weak<Core>, u16, u16)>,
     pub(crate) jobs: usize,
+    /// The alarm for which the clock is to be asked, and after which while it is to be rung.
+    pub(crate) alarm: Option<(u64, Duration)>,
 }
 
 /// A relay of another request, and what it is to be settled with.
@@ -121,7 +172,7 @@ impl After {
     #[inline]
     pub(crate) fn is_empty(&self) -> bool {
         let ends = self.tasks.is_empty() && self.feeds.is_empty() && self.links.is_empty() && self.ends.is_empty();
-        self.jobs == 0 && self.wakers.is_empty() && self.dropped.is_empty() && ends
+        self.jobs == 0 && self.wakers.is_empty() && self.dropped.is_empty() && ends && self.alarm.is_none()
     }
 }
 
@@ -130,6 +181,7 @@ impl Inner {
         Ok(Inner {
             ledger: Ledger::new(room)?,
             slots: Vec::with_capacity(usize::from(room.min(SLOTS))),
+            made: Vec::new(),
             names: BTreeMap::new(),
             describe: crate::describe::Describe::All,
             ending: None,
@@ -140,6 +192,8 @@ impl Inner {
             is_more: false,
             extras: BTreeMap::new(),
             letting: Vec::new(),
+            limits: Vec::new(),
+            awaited: Awaited::nothing(),
         })
     }
 
@@ -149,10 +203,11 @@ impl Inner {
     }
 
     pub(crate) fn name(&self, stage: u16) -> String {
-        self.names.get(&stage).map_or_else(|| self.slots[usize::from(stage)].made.to_string(), |name| name.to_string())
+        self.names.get(&stage).map_or_else(|| self.made[usize::from(self.slots[usize::from(stage)].made)].to_string(), |name| name.to_string())
     }
 
     pub(crate) fn extra(&mut self, stage: u16) -> &mut Extra {
+        self.slots[usize::from(stage)].has_extra = true;
         self.extras.entry(stage).or_default()
     }
 
@@ -201,10 +256,16 @@ impl Inner {
     // Changes.
 
     pub(crate) fn attach(&mut self, who: u8, form: Form, of: &[u16], call: Option<Call>, made: Made, after: &mut After) -> Result<u16, Refusal> {
+        // Nothing can come of a stage now that has no function, or sources none of which is settled.
+        let waits = match of {
+            [] => call.is_none(),
+            of => !of.iter().any(|source| self.slots[usize::from(*source)].is_settled()),
+        };
         match self.ledger.attach(who, form, of, call.is_some(), &mut after.told) {
             Ok(stage) => {
+                let made = self.made(made);
                 self.slots.push(Slot::new(made, call));
-                self.is_more |= of.is_empty() || of.iter().any(|source| self.slots[usize::from(*source)].is_settled());
+                self.is_more |= !waits;
                 self.show(after);
                 Ok(stage)
             }
@@ -213,6 +274,33 @@ impl Inner {
                 Err(why)
             }
         }
+    }
+
+    /// The place of what a stage is called, which may be that of one of the stages before.
+    #[inline]
+    fn made(&mut self, made: Made) -> u16 {
+        let lately = self.made.iter().enumerate().rev().take(4);
+        let at = lately.into_iter().find(|(_, other)| other.is(made)).map_or(self.made.len(), |(at, _)| at);
+        if at == self.made.len() {
+            self.made.push(made);
+        }
+        at as u16
+    }
+
+    /// Attaches a row of stages, of which the last is given. Each is attached by an event, which settles no other one.
+    pub(crate) fn gather(&mut self, who: u8, form: cf_graph::Form, of: &[u16], made: Made, after: &mut After) -> Result<u16, Refusal> {
+        let first = self.ledger.stages;
+        let root = self.ledger.gather(who, form, of, &mut after.told)?;
+        let (made, mut hangs, mut shown) = (self.made(made), Hangs::new(), 0);
+        for stage in first..=root {
+            self.slots.push(Slot::new(made, None));
+            self.ledger.gathered(stage);
+            if shown < after.told.len() && after.told.at(shown).0 == stage {
+                self.settled(stage, after.told.at(shown).1, &mut hangs, after);
+                shown += 1;
+            }
+        }
+        Ok(root)
     }
 
     pub(crate) fn settle(&mut self, who: u8, stage: u16, with: Result<Val, Error>, after: &mut After) -> Result<(), Result<Val, Error>> {
@@ -260,15 +348,21 @@ impl Inner {
         }
     }
 
-    /// Shows which stages the last call settled. A relay that follows is settled by the machine alone, by an event of its own, and is the lowest
-    /// stage that this settles.
+    /// Shows which stages the last call settled.
     #[inline]
     fn show(&mut self, after: &mut After) {
+        self.show_by(after, |_, _, _, _| false);
+    }
+
+    /// Shows which stages the last call settled. It has done an event more for each relay that follows, and for those stages of which this holds:
+    /// each is the lowest one that its event settles.
+    #[inline]
+    fn show_by(&mut self, after: &mut After, has_event: impl Fn(&mut Inner, u16, Outcome, &mut After) -> bool) {
         let mut hangs = Hangs::new();
         for at in 0..after.told.len() {
             let (stage, outcome) = after.told.at(at);
-            if self.ledger.followed(stage).is_some() {
-                self.ledger.relayed();
+            if self.slots[usize::from(stage)].follows || has_event(self, stage, outcome, after) {
+                self.ledger.settled();
             }
             self.settled(stage, outcome, &mut hangs, after);
         }
@@ -288,12 +382,10 @@ impl Inner {
         if let Held::Call(_) = slot.held {
             after.dropped.push(replace(&mut slot.held, Held::Nothing));
         }
-        if slot.waits > 0 {
-            self.waiting.take(&mut slot.waits, &mut after.wakers);
-        }
-        if !self.extras.is_empty() {
+        if slot.has_extra {
             self.settled_extra(stage, after);
         }
+        self.waiting.take(stage, &mut after.wakers);
     }
 
     /// From which stage the time-out or the bad answer came that this one is settled with, since the ledger has no code for it: from this one, where
@@ -313,11 +405,12 @@ impl Inner {
     }
 
     fn settled_extra(&mut self, stage: u16, after: &mut After) {
-        let extra = self.extras.remove(&stage).unwrap_or_default();
+        self.forget_limits(stage, after);
+        let extra = match self.extras.remove(&stage) {
+            Some(extra) => extra,
+            None => return,
+        };
         after.tasks.extend(extra.task);
-        after.dropped.extend(extra.values.into_iter().map(|(_, value)| Held::Value(value)));
-        #[cfg(feature = "tokio")]
-        after.dropped.extend(extra.timers.into_iter().map(Held::Timer));
         self.letting.extend(extra.lets_go);
         after.ends.extend(extra.of.map(|(of, number)| (of, number, stage)));
         for (to, relay) in extra.feeds {
@@ -328,6 +421,13 @@ impl Inner {
     /// Cancels relays that are of no use any more.
     #[inline]
     pub(crate) fn cancel_relays(&mut self, after: &mut After) {
+        if !self.letting.is_empty() {
+            self.cancel_all_relays(after);
+        }
+    }
+
+    #[cold]
+    fn cancel_all_relays(&mut self, after: &mut After) {
         while let Some(relay) = self.letting.pop() {
             if !self.slot(relay).is_settled() {
                 let _ = self.settle(RELAY, relay, Err(Error::Cancelled), after);
@@ -343,29 +443,100 @@ impl Inner {
         }
     }
 
-    /// Keeps a value that an alarm is to give. Its number.
-    pub(crate) fn keep_for(&mut self, stage: u16, value: Val) -> u16 {
-        let values = &mut self.extra(stage).values;
-        let number = values.last().map_or(0, |last| last.0 + 1);
-        values.push((number, value));
-        number
-    }
+    // Deadlines.
 
-    /// The value that an alarm is to give, unless the stage is settled.
-    pub(crate) fn kept_for(&mut self, stage: u16, number: u16) -> Option<Result<Val, Error>> {
-        let values = &mut self.extras.get_mut(&stage)?.values;
-        let at = values.iter().position(|value| value.0 == number)?;
-        Some(Ok(values.remove(at).1))
-    }
-
-    /// Keeps what stops a timer, or gives it back where the stage is settled.
-    #[cfg(feature = "tokio")]
-    pub(crate) fn keep_timer(&mut self, stage: u16, timer: Box<dyn Any + Send>) -> Option<Box<dyn Any + Send>> {
+    /// Sets a deadline of a stage. A value that it is to get then is given back where the stage is settled.
+    pub(crate) fn limit(&mut self, stage: u16, wait: Duration, gives: Option<Val>, after: &mut After) -> Option<Val> {
         if self.slot(stage).is_settled() {
-            return Some(timer);
+            return gives;
         }
-        self.extra(stage).timers.push(timer);
+        let moment = u64::try_from(wait.as_nanos()).map_or(NEVER, |wait| self.ledger.record.now().saturating_add(wait));
+        self.ledger.deadline(stage, moment, gives.is_some());
+        let others = self.limits_of(stage);
+        self.awaited.stages += u16::from(others.is_empty());
+        self.limits.insert(others.end, Limit { stage, moment, wait, gives });
+        self.slot(stage).has_extra = true;
+        self.await_alarm(moment, after);
         None
+    }
+
+    /// The places of a stage's deadlines.
+    fn limits_of(&self, stage: u16) -> Range<usize> {
+        let first = self.limits.partition_point(|limit| limit.stage < stage);
+        first..first + self.limits[first..].iter().take_while(|limit| limit.stage == stage).count()
+    }
+
+    /// A stage is settled, and needs none of its deadlines any more.
+    fn forget_limits(&mut self, stage: u16, after: &mut After) {
+        let limits = self.limits_of(stage);
+        if limits.is_empty() {
+            return;
+        }
+        after.dropped.extend(self.limits[limits].iter_mut().filter_map(|limit| limit.gives.take()).map(Held::Value));
+        self.awaited.stages -= 1;
+        if self.awaited.stages == 0 {
+            self.limits.clear();
+            self.awaited.stop(after);
+        }
+    }
+
+    /// Has the clock asked for an alarm at a moment, unless it is to ring one before.
+    fn await_alarm(&mut self, moment: u64, after: &mut After) {
+        if moment < self.awaited.moment {
+            self.awaited.stop(after);
+            self.awaited.number += 1;
+            self.awaited.moment = moment;
+            let wait = Duration::from_nanos(moment.saturating_sub(self.ledger.record.now()));
+            after.alarm = Some((self.awaited.number, wait));
+        }
+    }
+
+    /// An alarm is rung: time passes up to its moment. Then the next one is asked for.
+    pub(crate) fn rung(&mut self, alarm: u64, after: &mut After) {
+        if !self.awaited.is_for(alarm) {
+            return;
+        }
+        let moment = self.awaited.stop(after);
+        self.ledger.pass(moment, &mut after.told);
+        self.show_by(after, Inner::came_due);
+        if let Some(next) = self.ledger.next_deadline() {
+            self.await_alarm(next, after);
+        }
+    }
+
+    /// Whether a stage was settled by a deadline of its own, and not by what another stage has. Then what it got by that is held.
+    fn came_due(&mut self, stage: u16, outcome: Outcome, after: &mut After) -> bool {
+        let gives = match outcome {
+            Outcome::Value(Value::Int(number)) if number == i32::from(stage) => true,
+            Outcome::Fault { cause: Cause::TimedOut, wrapped: false } => false,
+            _ => return false,
+        };
+        let limits = self.limits_of(stage);
+        let of_its_kind = self.limits[limits].iter_mut().filter(|limit| limit.gives.is_some() == gives);
+        // The first of those that were set for one moment.
+        let held = of_its_kind.min_by_key(|limit| limit.moment).map(|limit| match limit.gives.take() {
+            Some(value) => Held::Value(value),
+            None => Held::Error(Box::new(Error::TimedOut(limit.wait))),
+        });
+        let came_due = held.is_some();
+        if let Some(held) = held {
+            self.hold(stage, held, after);
+        }
+        came_due
+    }
+
+    /// An alarm is never rung, so the stages fail that have deadlines.
+    pub(crate) fn never_rung(&mut self, alarm: u64, after: &mut After) {
+        if !self.awaited.is_for(alarm) {
+            return;
+        }
+        self.awaited.stop(after);
+        let limited: Vec<u16> = self.limits.iter().map(|limit| limit.stage).collect();
+        for stage in limited {
+            if !self.slot(stage).is_settled() {
+                let _ = self.settle(CLOCK, stage, Err(Refusal::NoClock.into()), after);
+            }
+        }
     }
 
     // Working.
@@ -520,6 +691,7 @@ impl Inner {
             return;
         }
         self.names.insert(target, format!("relay of {number}").into());
+        self.slot(target).follows = true;
         self.ledger.follow(target, number, &mut after.told);
         self.show(after);
     }
@@ -530,9 +702,12 @@ impl Inner {
     pub(crate) fn hire(&mut self, most: usize, begins: bool, after: &mut After) {
         let is_more = take(&mut self.is_more);
         let may_hire = self.jobs < most;
-        if !is_more && !begins || !may_hire && self.helpers.is_empty() {
-            return;
+        if (is_more || begins) && (may_hire || !self.helpers.is_empty()) {
+            self.hire_one(is_more, may_hire, after);
         }
+    }
+
+    fn hire_one(&mut self, is_more: bool, may_hire: bool, after: &mut After) {
         let ready = self.ledger.ready();
         if is_more && ready > 0 {
             after.wakers.append(&mut self.helpers);
@@ -546,7 +721,7 @@ impl Inner {
 
     /// All that may have other requests.
     pub(crate) fn kept(&mut self) -> Kept {
-        Kept(take(&mut self.slots), take(&mut self.extras))
+        Kept(take(&mut self.slots), take(&mut self.extras), take(&mut self.limits))
     }
 
     /// Forgets for which stage a relay stands, since that has let go of it.

@@ -214,7 +214,7 @@ impl Request {
     /// basket.all_of([&user as &dyn cf::AnyStage, &price]).wait().unwrap();
     /// ```
     pub fn all_of<'a>(&self, stages: impl IntoIterator<Item = &'a dyn AnyStage>) -> Stage<()> {
-        self.tree(Form::AllOf, stages.into_iter().map(|stage| stage.adopted(self)).collect(), Made::as_a(|| "all of"))
+        self.gathered(cf_graph::Form::AllOf, stages.into_iter().map(|stage| stage.adopted(self)).collect(), Made::as_a(|| "all of"))
     }
 
     /// What the first has that is settled, be it an error. Of no stages it is never settled. n stages take n - 1.
@@ -225,7 +225,7 @@ impl Request {
     /// assert_eq!(basket.first_of(&quotes).wait().unwrap(), 49);
     /// ```
     pub fn first_of<'a, T: Send + Sync + 'static>(&self, stages: impl IntoIterator<Item = &'a Stage<T>>) -> Stage<T> {
-        self.tree(Form::AnyOf, stages.into_iter().map(|stage| stage.adopted(self)).collect(), Made::as_a(|| "first of"))
+        self.gathered(cf_graph::Form::AnyOf, stages.into_iter().map(|stage| stage.adopted(self)).collect(), Made::as_a(|| "first of"))
     }
 
     /// The values of all, in this order; else as [`all_of`](Request::all_of). n stages take n.
@@ -277,21 +277,13 @@ impl Request {
         History::of(&self.0)
     }
 
-    /// A stage that is attached has at most two sources; a tree of them tells what one stage of all would.
-    fn tree<T: Send + Sync + 'static>(&self, form: Form, row: Vec<Adopted>, made: Made) -> Stage<T> {
+    /// A stage of this form behind all of these.
+    fn gathered<T: Send + Sync + 'static>(&self, form: cf_graph::Form, row: Vec<Adopted>, made: Made) -> Stage<T> {
         let relays = row.iter().filter(|it| it.is_relay).filter_map(|it| it.at.ok()).collect();
-        let attached = row.into_iter().map(|it| it.at).collect::<Result<Vec<u16>, Refusal>>().and_then(|mut row| {
-            let pair = |pair: &[u16]| match *pair {
-                [one] => Ok(one),
-                _ => self.0.attach(here(), form, pair, None, made),
-            };
-            while row.len() > 2 {
-                row = row.chunks(2).map(pair).collect::<Result<_, Refusal>>()?;
-            }
-            self.0.attach(here(), form, &row, None, made)
-        });
-        self.0.let_go(attached, relays);
-        Stage::new(&self.0, attached)
+        let of = row.into_iter().map(|it| it.at).collect::<Result<Vec<u16>, Refusal>>();
+        let root = of.and_then(|of| self.0.gather(here(), form, &of, made));
+        self.0.let_go(root, relays);
+        Stage::new(&self.0, root)
     }
 
     fn attach<U>(&self, form: Form, of: &[u16], call: Option<Call>, made: Made) -> Stage<U> {
@@ -316,7 +308,7 @@ impl fmt::Debug for Request {
     fn fmt(&self, f: &mut fmt::Formatter<'_>) -> fmt::Result {
         let inner = self.0.lock();
         let settled = inner.slots.iter().filter(|slot| slot.is_settled()).count();
-        let (stages, events) = (inner.slots.len(), inner.ledger.record.events);
+        let (stages, events) = (inner.slots.len(), inner.ledger.record.events());
         drop(inner);
         f.debug_struct("Request").field("name", &self.0.name).field("stages", &stages).field("settled", &settled).field("events", &events).finish()
     }

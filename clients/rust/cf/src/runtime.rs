@@ -108,18 +108,18 @@ impl Clock for TokioClock {
     }
 
     fn after(&self, wait: Duration, alarm: Alarm) {
-        let (core, stage) = (alarm.core.clone(), alarm.stage);
+        let (core, number) = (alarm.core.clone(), alarm.number);
         let task = self.runtime.spawn(async move {
             tokio::time::sleep(wait).await;
             alarm.ring();
         });
         if let Some(core) = core.upgrade() {
-            core.keep_timer(stage, Box::new(Stops(task)));
+            core.keep_timer(number, Box::new(Stops(task)));
         }
     }
 }
 
-/// Stops a timer whose stage is settled or gone.
+/// Stops a timer that nobody wants any more.
 struct Stops(JoinHandle<()>);
 
 impl Drop for Stops {
@@ -131,7 +131,7 @@ impl Drop for Stops {
 #[cfg(test)]
 mod tests {
     use super::*;
-    use crate::{Inline, Request, Stage};
+    use crate::{HandClock, Inline, Request, Stage};
     use std::sync::Arc;
     use std::task::{Context, Poll};
 
@@ -156,12 +156,33 @@ mod tests {
             let request = Request::with_clock("timers", Arc::new(Inline), clock);
             let stages: Vec<Stage<i32>> = (0..4).map(|_| request.promise().or_timeout(LONG).complete_on_timeout(1, LONG)).collect();
             tokio::task::yield_now().await;
-            assert_eq!(Arc::weak_count(&request.0), 8);
+            assert_eq!(Arc::weak_count(&request.0), 1, "one timer serves all");
             stages[0].complete(1).unwrap();
             assert!(stages[1].fail("no") && stages[2].cancel());
+            tokio::task::yield_now().await;
+            assert_eq!(Arc::weak_count(&request.0), 1);
             drop(stages[3].clone().or_timeout(Duration::from_millis(1)).await);
             no_timer_is_left(&request).await;
             drop(stages[3].clone().or_timeout(LONG));
+            no_timer_is_left(&request).await;
+        });
+    }
+
+    /// An earlier timeout has a timer in the place of the one before, and a later one gets its own once that is over.
+    #[test]
+    fn a_request_has_one_timer_at_a_time() {
+        let runtime = tokio::runtime::Builder::new_current_thread().enable_time().build().unwrap();
+        runtime.block_on(async {
+            let request = Request::with_clock("timers", Arc::new(Inline), Arc::new(TokioClock::new(Handle::current())));
+            let [late, early, next]: [Stage<i32>; 3] =
+                [LONG, Duration::from_millis(1), Duration::from_millis(20)].map(|wait| request.promise().or_timeout(wait));
+            tokio::task::yield_now().await;
+            assert_eq!(Arc::weak_count(&request.0), 1);
+            assert!(early.await.unwrap_err().is_timeout() && !next.is_settled());
+            assert!(next.await.unwrap_err().is_timeout());
+            tokio::task::yield_now().await;
+            assert_eq!(Arc::weak_count(&request.0), 1);
+            assert!(late.cancel());
             no_timer_is_left(&request).await;
         });
     }
@@ -172,14 +193,14 @@ mod tests {
         let runtime = tokio::runtime::Builder::new_current_thread().enable_time().build().unwrap();
         runtime.block_on(async {
             let alive = Arc::new(());
-            let request = Request::with_clock("gone", Arc::new(Inline), Arc::new(TokioClock::new(Handle::current())));
+            let request = Request::with_clock("gone", Arc::new(Inline), Arc::new(HandClock::new()));
             let held = Arc::clone(&alive);
             let task = tokio::spawn(async move {
                 let _held = held;
                 std::future::poll_fn(|_: &mut Context<'_>| Poll::<()>::Pending).await;
             });
-            let stage = request.promise::<i32>();
-            request.0.keep_timer(0, Box::new(Stops(task)));
+            let stage = request.promise::<i32>().or_timeout(LONG);
+            request.0.keep_timer(1, Box::new(Stops(task)));
             tokio::task::yield_now().await;
             assert_eq!(Arc::strong_count(&alive), 2);
             drop((stage, request));

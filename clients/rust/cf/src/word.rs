@@ -29,8 +29,6 @@ pub(crate) enum Form {
     Handle = 13,
     WhenComplete = 14,
     Exceptionally = 15,
-    AllOf = 16,
-    AnyOf = 17,
     ExceptionallyCompose = 18,
 }
 
@@ -58,6 +56,11 @@ pub(crate) const FORM_NAMES: [&str; 19] = [
 
 pub(crate) fn of(kind: u64, who: u8, stage: u16, tail: u64) -> u64 {
     kind | u64::from(who) << 48 | u64::from(stage) << 36 | tail
+}
+
+/// The word with another caller.
+pub(crate) fn by(who: u8, word: u64) -> u64 {
+    word & !(63 << 48) | u64::from(who) << 48
 }
 
 pub(crate) fn attach(who: u8, form: Form, of: &[u16], function: u16) -> u64 {

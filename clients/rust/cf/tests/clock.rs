@@ -79,14 +79,26 @@ fn a_waker_that_panics_ends_neither_the_clock_nor_a_pool() {
     assert_eq!(clocked.supply(|| 3).wait_timeout(LONG).expect("the pool stands").unwrap(), 3);
 }
 
+/// A moment that no number of nanoseconds says, or that no clock does.
 #[test]
 fn a_timeout_that_never_comes_leaves_the_stage() {
+    struct Beyond;
+    impl Clock for Beyond {
+        fn now(&self) -> Duration {
+            SystemClock.now()
+        }
+        fn after(&self, _wait: Duration, alarm: Alarm) {
+            SystemClock.after(Duration::MAX, alarm);
+        }
+    }
     let _alone = alone();
-    let clocked = Request::new("never", Inline);
-    let clocked_stage = clocked.promise::<i32>().or_timeout(Duration::MAX).complete_on_timeout(4, Duration::MAX);
+    let never = Request::new("never", Inline).promise::<i32>().or_timeout(Duration::MAX).complete_on_timeout(4, Duration::MAX);
+    let beyond = Request::with_clock("beyond", Arc::new(Inline), Arc::new(Beyond)).promise::<i32>().or_timeout(SHORT);
     goes_on();
-    assert!(!clocked_stage.is_settled());
-    assert!(clocked_stage.complete(1).is_ok());
+    for clocked_stage in [never, beyond] {
+        assert!(!clocked_stage.is_settled());
+        assert!(clocked_stage.complete(1).is_ok());
+    }
 }
 
 /// A value that a stage would get later goes with the stage's end, and doesn't wait for the alarm.

@@ -1,7 +1,7 @@
 //! Timeouts and alarms of stages: they settle, ring in their order, and are swept once they aren't needed.
 mod common;
 
-use cf::{Clock, HandClock, Inline, Pool, Request, Stage};
+use cf::{Alarm, Clock, HandClock, Inline, Pool, Request, Stage};
 use common::{comes_back, poll, LONG, SHORT};
 use std::panic::{catch_unwind, panic_any, AssertUnwindSafe};
 use std::sync::{Arc, Mutex};
@@ -36,6 +36,65 @@ fn alarms_ring_in_their_order() {
     assert_eq!(*order.lock().unwrap(), [1, 1, 2, 3]);
     let times: Vec<Duration> = timed.history().times().collect();
     assert_eq!(times.last(), Some(&Duration::from_secs(3)));
+    assert!(timed.history().comes_again());
+}
+
+/// Of several limits of one stage the first settles it, and of those of one moment the one that was set first.
+#[test]
+fn the_first_limit_of_a_stage_settles_it() {
+    let (clock, seconds) = (HandClock::new(), Duration::from_secs);
+    let timed = Request::with_clock("by hand", Arc::new(Inline), Arc::new(clock.clone()));
+    let given = timed.promise().or_timeout(seconds(3)).complete_on_timeout(1, seconds(4)).complete_on_timeout(2, seconds(2));
+    let late = timed.promise().complete_on_timeout(1, seconds(4)).or_timeout(seconds(5)).or_timeout(seconds(3));
+    let value_first = timed.promise().complete_on_timeout(1, seconds(3)).or_timeout(seconds(3)).complete_on_timeout(2, seconds(3));
+    let timeout_first = timed.promise().or_timeout(seconds(3)).complete_on_timeout(1, seconds(3));
+    let nothing = timed.promise().complete_on_timeout((), seconds(3));
+    let all = timed.all_of([&nothing as &dyn cf::AnyStage, &value_first]).complete_on_timeout((), seconds(3));
+    clock.turn(seconds(6));
+    assert_eq!((given.wait().unwrap(), value_first.wait().unwrap(), nothing.wait().unwrap(), all.wait().unwrap()), (2, 1, (), ()));
+    assert!(late.wait().unwrap_err().to_string().contains("after 3s") && timeout_first.wait().unwrap_err().is_timeout());
+    let history = timed.history();
+    assert_eq!(history.words().len(), 6 + 5, "a word for each stage that no other one settles: {history}");
+    assert!(history.comes_again());
+}
+
+/// One alarm at a time serves all limits of a request: it is asked for where an earlier one comes, and where one was rung.
+#[test]
+fn a_request_asks_for_one_alarm_at_a_time() {
+    #[derive(Clone, Default)]
+    struct Asked(Arc<Mutex<Vec<(Duration, Alarm)>>>);
+    impl Clock for Asked {
+        fn now(&self) -> Duration {
+            Duration::ZERO
+        }
+        fn after(&self, wait: Duration, alarm: Alarm) {
+            self.0.lock().unwrap().push((wait, alarm));
+        }
+    }
+    let (clock, seconds) = (Asked::default(), Duration::from_secs);
+    let timed = Request::with_clock("asked", Arc::new(Inline), Arc::new(clock.clone()));
+    let stages: Vec<Stage<i32>> = [5, 7, 6, 3, 4].into_iter().map(|wait| timed.promise().or_timeout(seconds(wait))).collect();
+    let waits = || clock.0.lock().unwrap().iter().map(|(wait, alarm)| (wait.as_secs(), alarm.is_wanted())).collect::<Vec<_>>();
+    assert_eq!(waits(), [(5, false), (3, true)]);
+    let settled = || stages.iter().map(|stage| u8::from(stage.is_settled())).collect::<Vec<_>>();
+    let ring = |at: usize| {
+        let alarm = clock.0.lock().unwrap().remove(at).1;
+        alarm.ring();
+    };
+    // One that isn't wanted any more does nothing, be it rung or dropped.
+    ring(0);
+    assert_eq!((settled(), waits()), (vec![0; 5], vec![(3, true)]));
+    ring(0);
+    assert_eq!((settled(), waits()), (vec![0, 0, 0, 1, 0], vec![(4, true)]));
+    ring(0);
+    assert_eq!((settled(), waits()), (vec![0, 0, 0, 1, 1], vec![(5, true)]));
+    // The clock's own time hasn't come so far.
+    let early = timed.promise::<i32>().or_timeout(seconds(1));
+    assert_eq!(waits(), [(5, false), (1, true)]);
+    ring(1);
+    assert!(early.wait().unwrap_err().is_timeout());
+    assert!(stages[0].cancel() && stages[1].complete(1).is_ok() && stages[2].cancel());
+    assert_eq!(waits(), [(5, false), (5, false)]);
     assert!(timed.history().comes_again());
 }
 

@@ -40,13 +40,13 @@ public final class History {
     /** What a machine answers that does the words once more; and of each stage what it ends in, and its number. */
     private int[] answers, numbers, ends;
 
-    /** Its request's lock is held. {@link #describe} is called once that is free. */
-    History(String name, Flow flow, Machine machine, String[] names, Object[] values, Throwable[] errors, String[] threads) {
+    /** Its request's lock is held. {@link #describe} is called once that is free. Where moments are null, they are the machine's. */
+    History(String name, Flow flow, Machine machine, String[] names, Object[] values, Throwable[] errors, String[] threads, long[] moments) {
         this.name = name;
         this.flow = flow;
         long[] kept = machine.kept();
         words = Arrays.copyOf(kept, machine.events());
-        times = Machine.times(kept, words.length);
+        times = moments != null ? moments : Machine.times(kept, words.length);
         began = Machine.began(kept, words.length);
         stages = machine.stages();
         witness = machine.witnessed();

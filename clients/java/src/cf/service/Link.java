@@ -1,6 +1,7 @@
 package cf.service;
 
 import cf.service.Faults.Fault;
+import cf.service.watch.Watch;
 import java.util.concurrent.CompletableFuture;
 import java.util.concurrent.CompletionStage;
 import java.util.concurrent.atomic.AtomicReference;
@@ -80,6 +81,12 @@ final class Link extends AtomicReference<Object> implements BiConsumer<Object, T
         Stage<?> taken = relay;
         relay = null;
         return taken;
+    }
+
+    /** Who runs the relay's request; null where nobody does, or the relay was taken. */
+    Watch watch() {
+        Stage<?> stage = relay;
+        return stage == null ? null : stage.request.watch;
     }
 
     /** It stands in a row now: that of a stage whose request's lock is held. */

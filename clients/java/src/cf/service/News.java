@@ -1,10 +1,14 @@
 package cf.service;
 
+import cf.service.watch.Watch;
+
 /**
  * What is to be told once the lock is free: stages that were settled; that are ready, for executors; functions that this thread has claimed.
  * They may be of several requests, so that a chain through many of them is no recursion.
  */
-final class News {
+final class News implements Watch.Turn {
+    /** Who decides when functions are called; null where this thread does. */
+    final Watch watch;
     private Stage<?> settled, lastSettled, handed, lastHanded;
     private Call calls, lastCall, free;
 
@@ -14,6 +18,19 @@ final class News {
 
     /** What kept a request from telling all. */
     Throwable failure;
+
+    /** What a function gave or has thrown that was called for a watch, until it is finished. */
+    private Object given;
+    private Throwable thrown;
+    private boolean isSettled;
+
+    News() {
+        this(null);
+    }
+
+    News(Watch watch) {
+        this.watch = watch;
+    }
 
     void settled(Stage<?> stage) {
         if (settled == null) {
@@ -107,5 +124,47 @@ final class News {
             call.next = null;
         }
         return call;
+    }
+
+    // As a watch does it.
+
+    @Override
+    public boolean next() {
+        while (relayed != null || settled != null || handed != null) {
+            Request.tellNext(this);
+            watch.happened();
+        }
+        return calls != null;
+    }
+
+    @Override
+    public Stage<?> stage() {
+        return calls.stage;
+    }
+
+    @Override
+    public void act() {
+        isSettled = calls.stage.told != null;
+        given = thrown = null;
+        try {
+            given = isSettled ? null : Carried.call(calls.form, calls.function, calls.first, calls.second);
+        } catch (Throwable error) {
+            if (watch.leaves(error)) {
+                throw error;
+            }
+            thrown = error;
+        }
+    }
+
+    @Override
+    public Throwable thrown() {
+        return thrown;
+    }
+
+    @Override
+    public void finish() {
+        Call call = pollCall();
+        call.request.finish(call.number, call.form, call.second, isSettled, given, thrown, this);
+        watch.happened();
     }
 }

@@ -1,8 +1,10 @@
 package cf.service;
 
 import cf.service.Faults.Fault;
+import cf.service.watch.Watch;
 import java.util.ArrayList;
 import java.util.Arrays;
+import java.util.Collections;
 import java.util.List;
 import java.util.Objects;
 import java.util.concurrent.CancellationException;
@@ -13,6 +15,7 @@ import java.util.concurrent.Future;
 import java.util.concurrent.TimeUnit;
 import java.util.concurrent.atomic.AtomicInteger;
 import java.util.function.Supplier;
+import java.util.stream.Collectors;
 
 /**
  * Stages that belong together, of which one history is kept. Any thread may use it.
@@ -124,8 +127,11 @@ public final class Request implements AutoCloseable {
 
     private static final Stage<?>[] NO_STAGES = {};
     private static final Link[] NO_LINKS = {};
+    private static final long[] NO_MOMENTS = {};
 
     final Service service;
+    /** Who runs it, as a test does; else null. */
+    final Watch watch;
     private final String name;
     /** It has one stage, and rests once that is settled. */
     private final boolean single;
@@ -157,12 +163,16 @@ public final class Request implements AutoCloseable {
     /** Up to where a recording has the words. */
     private int recorded;
     private boolean goesOn;
+    /** When events were, in a watch's time. */
+    private long[] moments = NO_MOMENTS;
+    private int stamped;
     /** Whether the service's hook was told that it has ended. */
     private boolean isTold;
     private volatile Request next;
 
     Request(Service service, String name, Flow flow, int room, Describe describe) {
         this.service = service;
+        watch = service.watch;
         this.name = name;
         this.flow = flow;
         single = false;
@@ -171,11 +181,15 @@ public final class Request implements AutoCloseable {
         machine = new Machine(flow == null ? null : flow.plan(), room);
         values = new Object[flow != null ? Math.max(flow.count(), 1) : 8];
         stages = flow == null && room > 0 ? new Stage<?>[room] : NO_STAGES;
+        if (watch != null) {
+            watch.opened(this);
+        }
     }
 
     /** A request of one stage. */
     private Request(Service service) {
         this.service = service;
+        watch = null;
         name = "one call";
         flow = null;
         single = true;
@@ -189,6 +203,9 @@ public final class Request implements AutoCloseable {
     /** A request of one stage that rests once that is settled. The executor's thread opens its machine, and gives it back. */
     static <U> Stage<U> oneCall(Service service, Supplier<U> supplier) {
         Objects.requireNonNull(supplier);
+        if (service.watch != null) {
+            return new Request(service, "one call", null, 1, service.describe()).supplyAsync(supplier);
+        }
         Request request = new Request(service);
         Object function = request.within == null ? supplier : new Carried(request.within, supplier);
         Stage<U> stage = new Stage<>(request, 0, Form.SUPPLY, function, service.executor());
@@ -198,7 +215,7 @@ public final class Request implements AutoCloseable {
     }
 
     /** What an executor is given. */
-    private static final class Task implements Runnable, CompletableFuture.AsynchronousCompletionTask {
+    private static final class Task implements Runnable, CompletableFuture.AsynchronousCompletionTask, Watch.Task {
         private final Stage<?> stage;
 
         Task(Stage<?> stage) {
@@ -208,6 +225,16 @@ public final class Request implements AutoCloseable {
         @Override
         public void run() {
             stage.request.work(stage);
+        }
+
+        @Override
+        public Stage<?> stage() {
+            return stage;
+        }
+
+        @Override
+        public Watch.Turn claim() {
+            return stage.request.claim(stage);
         }
     }
 
@@ -236,11 +263,12 @@ public final class Request implements AutoCloseable {
 
     /** The service's executor, which gets what it is handed after a time. */
     public Executor delayedExecutor(long delay, TimeUnit unit) {
-        return Service.delayedExecutor(delay, unit, service.executor());
+        return delayedExecutor(delay, unit, service.executor());
     }
 
     public Executor delayedExecutor(long delay, TimeUnit unit, Executor executor) {
-        return Service.delayedExecutor(delay, unit, executor);
+        return watch == null ? Service.delayedExecutor(delay, unit, executor)
+                : act -> watch.later(unit.toNanos(delay), () -> execute(executor, act));
     }
 
     /** What somebody completes: what {@code new CompletableFuture<>()} is. */
@@ -310,7 +338,10 @@ public final class Request implements AutoCloseable {
         Stage<U> relay = promise();
         relay.request.name(relay.number, "relay");
         links[at] = new Link(relay, null, wraps);
-        News news = new News();
+        if (watch != null) {
+            watch.linked(relay, of);
+        }
+        News news = new News(watch);
         Throwable thrown = hang(links[at], of, news);
         tell(news);
         if (thrown != null) {
@@ -360,6 +391,9 @@ public final class Request implements AutoCloseable {
 
     /** All that happened until now. Each text of it costs the doing again of all words, some microseconds. */
     public History history() {
+        if (watch != null) {
+            watch.looked(this);
+        }
         History history;
         synchronized (machine) {
             history = taken();
@@ -375,7 +409,7 @@ public final class Request implements AutoCloseable {
             names[k] = names[k] == null ? flow.name(k) : names[k];
         }
         return new History(name, flow, machine, names, Arrays.copyOf(values, valueCount), faults == null ? new Throwable[0] : faults.errors(),
-                Arrays.copyOf(threadNames, threadCount));
+                Arrays.copyOf(threadNames, threadCount), watch == null ? null : Arrays.copyOf(moments, machine.events()));
     }
 
     /**
@@ -459,6 +493,15 @@ public final class Request implements AutoCloseable {
         }
     }
 
+    /** What a stage was named, or else its form and number. */
+    String nameOf(Stage<?> stage) {
+        synchronized (machine) {
+            String given = names == null || names.length <= stage.number ? null : names[stage.number];
+            given = given == null && flow != null && stage.number < flow.count() ? flow.name(stage.number) : given;
+            return given != null ? given : stage.form.text + " " + stage.number;
+        }
+    }
+
     /** What a stage is called: by its name, or by its form. */
     String called(Stage<?> stage) {
         synchronized (machine) {
@@ -491,10 +534,15 @@ public final class Request implements AutoCloseable {
     }
 
     private void handStarted(Stage<?> stage) {
+        if (watch != null) {
+            watch.happened();
+            watch.ready(new Task(stage));
+            return;
+        }
         try {
             stage.executor.execute(new Task(stage));
         } catch (Throwable refused) {
-            News news = new News();
+            News news = new News(watch);
             refused(stage, refused, news);
             tell(news);
             Request.<RuntimeException>rethrow(refused);
@@ -564,7 +612,7 @@ public final class Request implements AutoCloseable {
                     if (machine.hasPlace(form.composes ? 2 : 1)) {
                         if (!waits(form, a, b)) {
                             checkDepth();
-                            news = new News();
+                            news = new News(watch);
                         }
                         stage = added(form, a, b, carried, executor, minimal, news);
                     }
@@ -583,6 +631,8 @@ public final class Request implements AutoCloseable {
         }
         if (news != null) {
             tell(news);
+        } else if (watch != null) {
+            watch.happened();
         }
         return stage;
     }
@@ -631,8 +681,12 @@ public final class Request implements AutoCloseable {
     private <U> Stage<U> added(Form form, Stage<?> a, Stage<?> b, Object function, Executor executor, boolean minimal, News news) {
         int who = who();
         if (form.composes) {
-            enter(new Stage<>(this, machine.stages(), Form.SOURCE, null, null));
+            Stage<?> relay = new Stage<>(this, machine.stages(), Form.SOURCE, null, null);
+            enter(relay);
             reserve(who);
+            if (watch != null) {
+                attached(relay, null, null);
+            }
         }
         int number = machine.stages();
         Stage<U> stage = minimal ? new MinimalStage<>(this, number, form, function, executor)
@@ -652,10 +706,18 @@ public final class Request implements AutoCloseable {
         if (b != null && b != a) {
             b.dependents++;
         }
+        if (watch != null) {
+            attached(stage, a, b);
+        }
         if (news != null) {
             publish(news, who);
         }
         return stage;
+    }
+
+    private void attached(Stage<?> stage, Stage<?> a, Stage<?> b) {
+        stamp();
+        watch.attached(stage, b != null ? Arrays.asList(a, b) : a != null ? Collections.singletonList(a) : Collections.emptyList());
     }
 
     private int reserve(int who) {
@@ -680,6 +742,9 @@ public final class Request implements AutoCloseable {
     void entered(Stage<?> stage) {
         synchronized (machine) {
             enter(stage);
+            if (watch != null) {
+                attached(stage, null, null);
+            }
         }
     }
 
@@ -700,8 +765,11 @@ public final class Request implements AutoCloseable {
     /** Makes a flow's request begin: its promises get values, in their order. */
     void begin(Object[] given) {
         checkDepth();
-        News news = new News();
+        News news = new News(watch);
         synchronized (machine) {
+            for (int k = 0; watch != null && k < flow.count(); k++) {
+                watch.attached(at(k), Arrays.stream(flow.at(k).of).mapToObj(this::at).collect(Collectors.toList()));
+            }
             int who = who(), count = Machine.MOST_READY;
             for (int from = 0; flow.startsReady() && count == Machine.MOST_READY;) {
                 count = machine.readyFrom(from);
@@ -734,7 +802,7 @@ public final class Request implements AutoCloseable {
     /** Does one word, and tells what came of it. Answers whether it settled the stage. */
     private boolean settle(int kind, int stage, Object given) {
         checkDepth();
-        News news = new News();
+        News news = new News(watch);
         boolean did;
         synchronized (machine) {
             int who = who();
@@ -760,6 +828,12 @@ public final class Request implements AutoCloseable {
 
     /** Has a stage settled after a time: with this value, or as timed out. */
     void limit(Stage<?> stage, long time, TimeUnit unit, boolean gives, Object value) {
+        if (watch != null) {
+            if (!stage.isDone()) {
+                watch.limit(stage, Math.max(0, unit.toNanos(time)), () -> passes(stage, gives, value));
+            }
+            return;
+        }
         long moment = Clock.moment(time, unit);
         synchronized (machine) {
             if (stage.told != null) {
@@ -808,7 +882,7 @@ public final class Request implements AutoCloseable {
      * has a thread of its own, which comes after this one has passed.
      */
     private void passes() {
-        News news = new News();
+        News news = new News(watch);
         long due = Long.MAX_VALUE;
         synchronized (machine) {
             long moment = alarmAt;
@@ -829,6 +903,15 @@ public final class Request implements AutoCloseable {
             }
         } catch (Throwable none) {
             news.failure = none;
+        }
+        tell(news);
+    }
+
+    /** Has a stage settled whose limit a watch lets pass. */
+    private void passes(Stage<?> stage, boolean gives, Object value) {
+        News news = new News(watch);
+        synchronized (machine) {
+            change(gives ? Words.complete(CLOCK, stage.number, number(value)) : Words.failAs(CLOCK, stage.number, Words.TIMED_OUT), who(), news);
         }
         tell(news);
     }
@@ -914,7 +997,7 @@ public final class Request implements AutoCloseable {
             Clock.elsewhere(() -> told(link, told));
             return;
         }
-        News news = new News();
+        News news = new News(link.watch());
         relayed(link, told, news);
         tell(news);
     }
@@ -976,6 +1059,9 @@ public final class Request implements AutoCloseable {
         machine.apply(word, who);
         boolean answer = machine.answer() == 1;
         publish(news, who);
+        if (watch != null) {
+            watch.changed(this, Words.stage(word), answer);
+        }
         return answer;
     }
 
@@ -992,19 +1078,43 @@ public final class Request implements AutoCloseable {
                 }
                 for (int k = 0; k < machine.claimed(); k++) {
                     granted(k, news);
+                    if (watch != null) {
+                        watch.became(this, machine.claimed(k));
+                    }
                 }
                 for (int k = 0; k < machine.ready(); k++) {
                     news.handed(at(machine.ready(k)));
+                    if (watch != null) {
+                        watch.became(this, machine.ready(k));
+                    }
                 }
             } while (machine.more(who));
         } catch (OutOfMemoryError refused) {
             news.failure = refused;
+        }
+        if (watch != null) {
+            stamp();
+        }
+    }
+
+    /** The events since the last time have this moment of the watch's. */
+    private void stamp() {
+        int events = machine.events();
+        if (events > stamped) {
+            moments = moments.length < events ? Arrays.copyOf(moments, 2 * events) : moments;
+            Arrays.fill(moments, stamped, events, watch.now(this));
+            stamped = events;
         }
     }
 
     /** Of a stage whose number is in the lowest 12 bits. */
     private void settled(int what, int number, News news) {
         int at = what & 0xfff;
+        if (watch != null) {
+            Object told = told(what, number);
+            boolean isFault = told instanceof Fault;
+            watch.settled(this, at, isFault || told == Stage.NIL ? null : told, isFault ? ((Fault) told).error : null);
+        }
         Stage<?> stage = at < stages.length ? stages[at] : null;
         if (stage == null && Recorder.hasStages()) {
             stage = at(at);
@@ -1070,10 +1180,19 @@ public final class Request implements AutoCloseable {
         news.claimed(call);
     }
 
+    private News claim(Stage<?> stage) {
+        News news = new News(watch);
+        synchronized (machine) {
+            claim(stage, who(), news);
+        }
+        watch.happened();
+        return news;
+    }
+
     /** Claims a stage for an executor's thread, calls its function, and goes on with what that thread is to call then. */
     void work(Stage<?> stage) {
         checkDepth();
-        News news = new News();
+        News news = new News(watch);
         synchronized (machine) {
             claim(stage, who(), news);
         }
@@ -1085,6 +1204,11 @@ public final class Request implements AutoCloseable {
      * here, as an Error may be, keeps nothing from the others, and is thrown in the end.
      */
     static void tell(News news) {
+        if (news.watch != null) {
+            news.watch.happened();
+            news.watch.tells(news);
+            return;
+        }
         Throwable first = null;
         for (boolean goesOn = true; goesOn;) {
             try {
@@ -1100,7 +1224,7 @@ public final class Request implements AutoCloseable {
     }
 
     /** Each of these takes what it is about first, so that it comes but once. */
-    private static boolean tellNext(News news) {
+    static boolean tellNext(News news) {
         Stage<?> stage;
         Link link;
         Call call;
@@ -1110,7 +1234,11 @@ public final class Request implements AutoCloseable {
             if (stage.more != null && stage.more.outside != null) {
                 news.relayed(stage.request.outside(stage), stage.told);
             }
-            stage.show();
+            if (news.watch != null && stage.hasJavas()) {
+                news.watch.user(stage::show);
+            } else {
+                stage.show();
+            }
             if (stage.unwritten > 0) {
                 stage.request.released();
             }
@@ -1136,13 +1264,17 @@ public final class Request implements AutoCloseable {
                 throw refused;
             }
             Stage<?> stage = ((Task) act).stage;
-            News news = new News();
+            News news = new News(stage.request.watch);
             stage.request.refused(stage, refused, news);
             tell(news);
         }
     }
 
     private void hand(Stage<?> stage, News news) {
+        if (watch != null) {
+            watch.ready(new Task(stage));
+            return;
+        }
         try {
             stage.executor.execute(new Task(stage));
         } catch (Throwable refusal) {
@@ -1174,9 +1306,14 @@ public final class Request implements AutoCloseable {
             given = isSettled ? null : Carried.call(form, function, first, second);
         } catch (Throwable error) {
             thrown = error;
-            if (form == Form.WHEN_COMPLETE && second != null && second != error) {
-                ((Throwable) second).addSuppressed(error);
-            }
+        }
+        finish(number, form, second, isSettled, given, thrown, news);
+    }
+
+    /** Finishes a stage with what its function gave or has thrown, unless it was settled before that was called. */
+    void finish(int number, Form form, Object second, boolean isSettled, Object given, Throwable thrown, News news) {
+        if (thrown != null && form == Form.WHEN_COMPLETE && second != null && second != thrown) {
+            ((Throwable) second).addSuppressed(thrown);
         }
         Link link = null;
         synchronized (machine) {
@@ -1189,8 +1326,14 @@ public final class Request implements AutoCloseable {
                 link = link(number, (CompletionStage<?>) given, who);
             }
             publish(news, who);
+            if (watch != null && (thrown != null || isSettled || !form.composes)) {
+                watch.finished(this, number, -1);
+            }
         }
         if (link != null) {
+            if (watch != null) {
+                watch.linked(at(number - 1), (CompletionStage<?>) given);
+            }
             hang(link, (CompletionStage<?>) given, news);
             link.untilSettled();
         }
@@ -1201,11 +1344,16 @@ public final class Request implements AutoCloseable {
         Stage<?> own = to instanceof Stage<?> && ((Stage<?>) to).request == this ? (Stage<?>) to : null;
         if (own != null && own.number < number) {
             machine.link(Words.finishLinking(who, number, own.number), -1, 0, who);
+            linked(number, own.number);
             return null;
         }
         Stage<?> relay = relayOf(number);
         name(relay.number, own == null ? "relay of what is elsewhere" : "relay of " + own.number);
         machine.link(Words.finishLinking(who, number, relay.number), own == null ? -1 : relay.number, own == null ? 0 : own.number, who);
+        linked(number, relay.number);
+        if (watch != null && own != null) {
+            watch.follows(this, relay.number, own.number);
+        }
         if (machine.answer() != History.WON) {
             return null;
         }
@@ -1217,6 +1365,12 @@ public final class Request implements AutoCloseable {
             holds(relay); // Also where the machine has just settled it, which is yet to be told.
         }
         return null;
+    }
+
+    private void linked(int number, int to) {
+        if (watch != null) {
+            watch.finished(this, number, to);
+        }
     }
 
     /** The source below a composing stage, which stands in for what its function makes. */
@@ -1253,6 +1407,9 @@ public final class Request implements AutoCloseable {
 
     /** The calling thread's number in words. */
     int who() {
+        if (watch != null) {
+            return who(watch.caller());
+        }
         long id = Thread.currentThread().getId();
         if (thread == id) {
             return FIRST_THREAD;
@@ -1265,7 +1422,21 @@ public final class Request implements AutoCloseable {
         return FIRST_THREAD + threadCount >= OTHER_THREADS ? OTHER_THREADS : entered(id);
     }
 
+    private int who(String name) {
+        for (int k = 0; k < threadCount; k++) {
+            if (threadNames[k].equals(name)) {
+                return FIRST_THREAD + k;
+            }
+        }
+        return FIRST_THREAD + threadCount >= OTHER_THREADS ? OTHER_THREADS : entered(threadCount, name);
+    }
+
     private int entered(long id) {
+        String name = Thread.currentThread().getName();
+        return entered(id, name.isEmpty() ? "thread " + id : name);
+    }
+
+    private int entered(long id, String name) {
         if (threadCount == 0) {
             thread = id;
         } else {
@@ -1277,8 +1448,7 @@ public final class Request implements AutoCloseable {
         if (threadCount == threadNames.length) {
             threadNames = Arrays.copyOf(threadNames, 2 * threadCount + 2);
         }
-        String name = Thread.currentThread().getName();
-        threadNames[threadCount] = name.isEmpty() ? "thread " + id : name;
+        threadNames[threadCount] = name;
         return FIRST_THREAD + threadCount++;
     }
 

@@ -1,5 +1,7 @@
 package cf.service;
 
+import cf.service.watch.Watch;
+import cf.service.watch.Watched;
 import java.util.Objects;
 import java.util.concurrent.CompletableFuture;
 import java.util.concurrent.Executor;
@@ -21,6 +23,12 @@ public final class Service {
     /** Null where nobody is told of ends. */
     private final Ends ends;
     private final AtomicLong requests;
+    /** Who runs it, as a test does; else null. */
+    final Watch watch;
+
+    static {
+        Watched.madeBy((executor, watch) -> new Service(executor, Describe.ALL, null, null, new AtomicLong(), watch));
+    }
 
     /** With the executor that {@link CompletableFuture} has where none is given. */
     public Service() {
@@ -28,20 +36,21 @@ public final class Service {
     }
 
     public Service(Executor executor) {
-        this(Objects.requireNonNull(executor), Describe.ALL, null, null, new AtomicLong());
+        this(Objects.requireNonNull(executor), Describe.ALL, null, null, new AtomicLong(), null);
     }
 
-    private Service(Executor executor, Describe describe, Contexts contexts, Ends ends, AtomicLong requests) {
+    private Service(Executor executor, Describe describe, Contexts contexts, Ends ends, AtomicLong requests, Watch watch) {
         this.executor = executor;
         this.describe = describe;
         this.contexts = contexts;
         this.ends = ends;
         this.requests = requests;
+        this.watch = watch;
     }
 
     /** One with the same executor, of whose requests it is told by this function what their values and exceptions are. */
     public Service describing(Describe describe) {
-        return new Service(executor, Objects.requireNonNull(describe), contexts, ends, requests);
+        return new Service(executor, Objects.requireNonNull(describe), contexts, ends, requests, watch);
     }
 
     /**
@@ -49,7 +58,7 @@ public final class Service {
      * functions those of the place where the request was opened.
      */
     public Service carrying(Contexts contexts) {
-        return new Service(executor, describe, Objects.requireNonNull(contexts), ends, requests);
+        return new Service(executor, describe, Objects.requireNonNull(contexts), ends, requests, watch);
     }
 
     /**
@@ -58,7 +67,7 @@ public final class Service {
      * the request was opened. What it throws is logged as a warning of {@code cf.service}.
      */
     public Service onEnd(Consumer<? super History> hook) {
-        return new Service(executor, describe, contexts, new Ends(Objects.requireNonNull(hook)), requests);
+        return new Service(executor, describe, contexts, new Ends(Objects.requireNonNull(hook)), requests, watch);
     }
 
     /** A request by this name, which histories tell. */

@@ -129,6 +129,11 @@ public class Stage<T> extends CompletableFuture<T> {
         return this;
     }
 
+    /** The name that it was given, or else its form and number. */
+    public String name() {
+        return request.nameOf(this);
+    }
+
     // Attaching.
 
     @Override
@@ -474,7 +479,7 @@ public class Stage<T> extends CompletableFuture<T> {
     @Override
     public T join() {
         Object told = seen();
-        return told != null ? joined(told) : super.join();
+        return told != null || request.watch != null ? joined(awaited(told, -1)) : super.join();
     }
 
     @Override
@@ -486,14 +491,28 @@ public class Stage<T> extends CompletableFuture<T> {
     @Override
     public T get() throws InterruptedException, ExecutionException {
         Object told = seen();
-        return told != null ? gotten(told) : super.get();
+        return told != null || request.watch != null ? gotten(awaited(told, -1)) : super.get();
     }
 
     @Override
     public T get(long timeout, TimeUnit unit) throws InterruptedException, ExecutionException, TimeoutException {
         Objects.requireNonNull(unit);
         Object told = seen();
+        if (told == null && request.watch != null) {
+            told = awaited(null, Math.max(0, unit.toNanos(timeout)));
+            if (told == null) {
+                throw new TimeoutException();
+            }
+        }
         return told != null ? gotten(told) : super.get(timeout, unit);
+    }
+
+    /** What it is settled with, for which a watch waits, if it wasn't known before. */
+    private Object awaited(Object told, long nanos) {
+        if (told == null) {
+            request.watch.await(this, nanos);
+        }
+        return told != null ? told : seen();
     }
 
     /** The value of a stage that has one, as of Java 19. */
@@ -587,11 +606,19 @@ public class Stage<T> extends CompletableFuture<T> {
      * anybody's that only asks, and mustn't call functions.
      */
     private Object seen() {
+        if (request.watch != null) {
+            request.watch.read(request, number);
+        }
         Object told = this.told;
         if (told != null && !super.isDone() && super.getNumberOfDependents() == 0) {
             inherit(told);
         }
         return told;
+    }
+
+    /** Whether Java's own classes have attached something, which nobody has told yet. */
+    boolean hasJavas() {
+        return !super.isDone() && super.getNumberOfDependents() > 0;
     }
 
     /** Tells all who hang on it, and the recording. */

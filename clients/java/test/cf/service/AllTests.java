@@ -1,5 +1,6 @@
 package cf.service;
 
+import cf.service.testing.OrdersTest;
 import java.util.Arrays;
 import java.util.LinkedHashSet;
 import java.util.Set;
@@ -93,6 +94,25 @@ public final class AllTests {
         test("hostile code", HostileTest::survived);
         test("virtual threads", FunctionsTest::virtualThreads);
         test("what can't be reached", FreeingTest::unreachable);
+        test("services with a fault of order", OrdersTest::plantedFaults);
+        test("sound services in every order", OrdersTest::soundServices);
+        test("what a failing order tells", OrdersTest::stories);
+        test("failing orders made smaller", OrdersTest::smaller);
+        test("orders as assertions", OrdersTest::assertions);
+        test("bounds of a search", OrdersTest::bounds);
+        test("orders by chance", OrdersTest::byChance);
+        test("functions that wait in a world", OrdersTest::waits);
+        test("choices in a world", OrdersTest::choices);
+        test("what blocks a search", OrdersTest::blocked);
+        test("faults of what is tried", OrdersTest::faults);
+        test("what isn't deterministic", OrdersTest::notDeterministic);
+        test("orders that are left out", OrdersTest::leftOut);
+        test("a relay that was let go", OrdersTest::letGo);
+        test("what functions and checks read", OrdersTest::read);
+        test("limits in a world", OrdersTest::limits);
+        test("cancels at any moment", OrdersTest::cancelled);
+        test("points within functions", OrdersTest::points);
+        test("flows in a world", OrdersTest::flows);
         if (chosen != null && !chosen.isEmpty()) {
             System.err.println("there are no tests " + chosen);
             System.exit(2);

@@ -134,7 +134,7 @@ final class MachineTest {
             machine.apply(word, Machine.NOBODY);
         }
         String[] threads = {"main"};
-        History history = new History("causes", null, machine, new String[3], new Object[0], new Throwable[0], threads);
+        History history = new History("causes", null, machine, new String[3], new Object[0], new Throwable[0], threads, null);
         is(history.script(), "{\"cf\":3,\"room\":3,\"stages\":[],\"steps\":[[\"attach\",{\"form\":\"source\"}],"
                 + "[\"attach\",{\"form\":\"handle\",\"of\":[0],\"fn\":{\"const\":1}}],[\"attach\",{\"form\":\"source\"}],"
                 + "[\"failAs\",0,\"badanswer\"],[\"claim\",2,1],[\"failAs\",2,\"timeout\"],[\"failAs\",2,\"badanswer\"]]}");

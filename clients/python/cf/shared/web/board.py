@@ -2,31 +2,33 @@
 import contextlib
 import dataclasses
 import logging
+import operator
 import threading
 import time
 from typing import Any, Dict, List, NamedTuple, Optional, Sequence, Tuple
 
 from ..glances import Queue, Seen, glance_of, read
-from ..rows import Broken, Glance, Gone, Open, Store, StoreError, Unknown
+from ..rows import Broken, Changes, Glance, Gone, Open, Store, StoreError, Unknown
 from ..view import Watcher
 from .reading import Readings
 
 LOGGER = logging.getLogger("cf.requests")
-LEAST_BETWEEN = 0.1  # seconds between two looks at the store
-OVERVIEWS = 0.4  # seconds between two lists of all open requests, or so many times what the last one took:
-SHARE = 4
+LEAST_BETWEEN = 0.1  # seconds between two looks at the store, or so many times what the last one took:
+SHARE = 2
 BEATS = 1.0  # seconds between two looks at sessions
 READING = 0.25  # seconds of a round in which rows are read whose glances are old
 WANTED = 5.0  # seconds for which a request counts as looked at
 RESTED = 0.5  # seconds without a new word, before a request is read that nobody looks at
 KEPT = 200  # glances that one put keeps
+LEAST_AHEAD = 0.2  # seconds by which the store's clock has to move against this one's
 RATED = 10.0  # seconds over which words a second are counted
 STATES = ("running", "gone", "ready", "waiting", "done", "broken", "unread")
 
 
 @dataclasses.dataclass
 class Line:
-    """An open request as lists have it. `glanced` is how many words `seen` is of; `why` is what it is broken by."""
+    """An open request as lists have it. `glanced` is how many words `seen` is of; `why` is what it is broken by;
+    `state` is one of `STATES`."""
 
     name: str
     number: int
@@ -36,7 +38,9 @@ class Line:
     glanced: int = -1
     seen: Optional[Seen] = None
     why: str = ""
+    state: str = "unread"
     changed: float = 0.0  # when its last word was noticed, by this process's monotonic clock
+    folded: str = ""  # its name, as it is looked for
 
 
 class Session(NamedTuple):
@@ -61,13 +65,15 @@ class Board:
     def __init__(self, store: Store, readings: Readings, lease: float, is_read_only: bool) -> None:
         self.store, self.readings, self.is_read_only = store, readings, is_read_only
         self.version = 0  # of all of this
+        self.is_known = False  # whether the store has told all its requests
+        self.many = 0  # how many there are, while it has told the first alone, or 0
         self.away: str = ""  # why the store can't be asked, or nothing
         self.away_since = 0.0
         self.unknown = 0  # how often it didn't answer
         self.words_put: Optional[int] = None
         self.ahead = 0.0  # seconds by which the store's clock is before this one's
         self._lines: Dict[str, Line] = {}
-        self._order: List[str] = []
+        self._order: List[Line] = []  # by name
         self._behind: Dict[str, None] = {}  # requests with more words than their glances have seen
         self._made: Dict[str, Glance] = {}  # glances that the store hasn't got
         self._wanted: Dict[str, float] = {}
@@ -77,7 +83,7 @@ class Board:
         self._rates: List[Tuple[float, int]] = []
         self._watcher, self._lease = Watcher(store, lease), lease
         self._mark: Any = None
-        self._next_overview = self._next_beats = self._next_put = 0.0
+        self._next_list = self._next_beats = self._next_put = 0.0
         self._change, self._stops = threading.Condition(), threading.Event()
         self._thread = threading.Thread(target=self._run, name="cf-board", daemon=True)
 
@@ -106,14 +112,13 @@ class Board:
 
     def soon(self) -> None:
         """Has all looked at anew: something was closed or dropped here."""
-        self._next_overview = 0.0
+        self._next_list = 0.0
 
     # What is known.
 
     def lines(self) -> List[Line]:
-        """All open requests, by name."""
-        with self._change:
-            return [self._lines[name] for name in self._order]
+        """All open requests, by name. The list stays as it is; what comes has another one."""
+        return self._order
 
     def line(self, name: str) -> Optional[Line]:
         """An open request."""
@@ -125,8 +130,7 @@ class Board:
         with self._change:
             self._wanted.update((name, now) for name in names)
 
-    def state(self, line: Line) -> str:
-        """One of `STATES`."""
+    def _state(self, line: Line) -> str:
         if line.why:
             return "broken"
         if line.seen is None:
@@ -193,60 +197,65 @@ class Board:
             self._change.notify_all()
 
     def _round(self) -> None:
-        now, is_other = time.monotonic(), False
-        if now >= self._next_overview:
-            is_other = self._take(self.store.overview())
-            took = time.monotonic() - now
-            self._next_overview = now + max(OVERVIEWS, SHARE * took)
-        else:
-            # (the first time all are told, which the list of all does better)
-            ends, self._mark = self.store.news(self._mark)
-            is_other = self._take_ends(ends)
-        if now >= self._next_beats:
-            self._next_beats = now + BEATS
-            is_other = self._look_at_sessions() or is_other
-        is_other = self._read_some() or is_other
-        if is_other:
-            self._changed()
+        now = time.monotonic()
+        if now >= self._next_list:
+            self._next_list = now
+            changes, mark = self.store.changes(self._mark)
+            self._say(self._take(changes))
+            self._mark = mark
+            self._next_list += SHARE * (time.monotonic() - now) if self.is_known else 0.0
+        self._say(self._read_some())
+        began = time.monotonic()
+        if began >= self._next_beats:
+            self._next_beats = began + BEATS  # (first: where a store is slow, rows are read all the same)
+            self._say(self._look_at_sessions())
+            self._next_beats += SHARE * (time.monotonic() - began)
         self._keep()
 
-    def _take(self, found: Sequence[Open]) -> bool:
-        """Takes over a list of all open requests, and says whether something is other than before."""
-        now, version = time.monotonic(), 0
+    def _say(self, is_other: bool) -> None:
+        if is_other:
+            self._changed()
+
+    def _take(self, changes: Changes) -> bool:
+        """Takes over what is other in the list of open requests, and says whether something is."""
+        now, is_other = time.monotonic(), not self.is_known
         with self._change:
-            names = {it.name for it in found}
-            for name in [name for name in self._lines if name not in names]:
-                version += 1
+            gone = [name for name in changes.gone if name in self._lines]
+            for name in gone:
                 self._forget(name)
-            for it in found:
+            has_new = False
+            for it in changes.opened:
                 line = self._lines.get(it.name)
                 if line is None or line.number != it.number:
-                    self._forget(it.name)
-                    line = self._lines[it.name] = Line(it.name, it.number, it.opened, it.flow, it.words, changed=now)
-                    version += 1
-                    self._behind[it.name] = None
-                if it.glance is not None and it.glance.words > line.glanced:
-                    seen = read(it.glance)
-                    if seen is not None:
-                        line.seen, line.glanced = seen, it.glance.words
-                        version += 1
-                version += self._grow(line, it.words, now)
-            if self._order != sorted(self._lines):
-                self._order = sorted(self._lines)
-        return bool(version)
+                    line, has_new = self._add(it, now), True
+                is_other = self._tell(line, it, now) or is_other
+            for name, words in changes.longer.items():
+                is_other = name in self._lines and self._grow(self._lines[name], words, now) or is_other
+            if gone or has_new:
+                self._order = sorted(self._lines.values(), key=operator.attrgetter("name"))
+            self.is_known, self.many = changes.many is None, changes.many or 0
+        return is_other or has_new or bool(gone)
+
+    def _add(self, it: Open, now: float) -> Line:
+        self._forget(it.name)
+        line = self._lines[it.name] = Line(it.name, it.number, it.opened, it.flow, it.words, changed=now,
+                                           folded=it.name.lower())
+        self._behind[it.name] = None
+        return line
+
+    def _tell(self, line: Line, it: Open, now: float) -> bool:
+        """Takes over what is told of a request, and says whether that is something new."""
+        seen = read(it.glance) if it.glance is not None and it.glance.words > line.glanced else None
+        if seen is not None and it.glance is not None:
+            line.seen, line.glanced = seen, it.glance.words
+            line.state = self._state(line)
+        return self._grow(line, it.words, now) or seen is not None
 
     def _forget(self, name: str) -> None:
         self._lines.pop(name, None)
         self._behind.pop(name, None)
         self._made.pop(name, None)
         self.readings.forget(name)
-
-    def _take_ends(self, ends: Dict[str, int]) -> bool:
-        """Notices what is new in requests that are known. (Others come with the next list of all.)"""
-        now = time.monotonic()
-        with self._change:
-            return any([self._grow(self._lines[name], many, now) for name, many in ends.items()
-                        if name in self._lines])
 
     def _grow(self, line: Line, words: int, now: float) -> bool:
         """Notices how many words a request has now."""
@@ -262,7 +271,9 @@ class Board:
     def _look_at_sessions(self) -> bool:
         beats, names, put = self.store.beats(), self.store.session_names(), self.store.words_put()
         self._watcher.look()
-        self.ahead = self.store.now() - time.time()
+        ahead = self.store.now() - time.time()
+        # (where it moves by less, what was told of times stays as it is, and isn't told again)
+        self.ahead = ahead if abs(ahead - self.ahead) > LEAST_AHEAD else self.ahead
         now, silences = time.monotonic(), self._watcher.silences()
         told = {}
         for session, count in beats.items():
@@ -278,7 +289,9 @@ class Board:
                 self._rates = [it for it in self._rates if now - it[0] <= RATED] + [(now, put)]
             is_other = gone != self._gone or {(it.session, it.is_there) for it in told.values()} != {
                 (it.session, it.is_there) for it in self._sessions.values()}
-            self._sessions, self._gone = told, gone
+            is_known, self._sessions, self._gone = gone == self._gone, told, gone
+            for line in [] if is_known else self._order:
+                line.state = self._state(line)
         return is_other
 
     # Rows whose glances are old.
@@ -321,6 +334,7 @@ class Board:
             if made is not None:
                 line.seen, line.glanced, line.words = read(made), made.words, max(line.words, made.words)
                 self._made[name] = made
+            line.state = self._state(line)
         return True
 
     def _keep(self) -> None:

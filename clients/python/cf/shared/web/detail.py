@@ -24,6 +24,12 @@ EVENTS = 200  # sentences of a page
 LONGEST = 200_000  # bytes of a payload
 SECONDS = 60  # for cf_look
 MOST = 8  # histories and pictures that are kept
+# What `cf_look page` shows beside its graph stands around the frame already, but for a verdict that is bad. (A row has
+# no times, so it also has no picture of who ran what when.)
+ALONE = (b"<style>body { height: 100vh !important; overflow: hidden !important; display: grid !important; "
+         b"grid-template: auto auto minmax(0, 1fr) / minmax(0, 1fr) !important } "
+         b"main { grid-row: 3; grid-template-columns: minmax(0, 1fr) !important } #view { height: auto !important } "
+         b"#split, #side, #lanes, body > header:not(:has(.not)) { display: none !important }</style></head>")
 KINDS = {IS_READY: "ready", IS_CLAIMED: "running", IS_LINKED: "linked", IS_PENDING: "waiting"}
 ENDS = {VALUE: "value", CANCELLED: "cancelled", TIMED_OUT: "timedout"}
 
@@ -81,7 +87,7 @@ class Details:
             return {**told, "state": "broken", "closed": line is None,
                     "why": escaped(f"place {error.place}: {error.why}")}
         is_open = line is not None and line.number == number
-        told.update(state=self.board.state(line) if line is not None and is_open else "closed", closed=not is_open,
+        told.update(state=line.state if line is not None and is_open else "closed", closed=not is_open,
                     picture=self.cf_look is not None, **self._sentences(history, before))
         return told
 
@@ -166,7 +172,7 @@ class Details:
         if known is None:
             done = subprocess.run([self.cf_look or "cf_look", "page"], input=account.encode(), stdout=subprocess.PIPE,
                                   stderr=subprocess.PIPE, check=True, timeout=SECONDS)
-            known = Picture(done.stdout, [_hash_of(it) for it in _scripts(done.stdout)])
+            known = Picture(done.stdout.replace(b"</head>", ALONE, 1), [_hash_of(it) for it in _scripts(done.stdout)])
             self._remember(self._pictures, key, known)
         return known
 

@@ -1,5 +1,7 @@
 """What the lists show: requests by filters, sessions, queues. All of it is known, so no row is read."""
+import itertools
 import time
+from collections import Counter
 from typing import Any, Dict, List, NamedTuple, Optional
 
 from ...service.history import escaped
@@ -37,37 +39,37 @@ def requests(board: Board, wanted: Filter) -> Dict[str, Any]:
     """A page of requests, and how many there are of each state."""
     if wanted.state == "closed":
         return closed(board, wanted)
-    counts, flows, total = dict.fromkeys(STATES, 0), set(), 0
-    found: List[Line] = []
-    part = wanted.part.lower()
-    for line in board.lines():
-        flows.add(line.flow)
-        if not _fits(line, wanted, part):
-            continue
-        state = board.state(line)
-        counts[state] += 1
-        if wanted.state in ("", state):
-            total += 1
-            if line.name > wanted.behind and len(found) <= PAGE:
-                found.append(line)
-    more, rows = len(found) > PAGE, found[:PAGE]
+    lines = board.lines()
+    flows, found = {line.flow for line in lines}, _fitting(lines, wanted)
+    counts = Counter([line.state for line in found])
+    if wanted.state:
+        found = [line for line in found if line.state == wanted.state]
+    page = list(itertools.islice((line for line in found if line.name > wanted.behind), PAGE + 1))
+    more, rows = len(page) > PAGE, page[:PAGE]
     board.want([line.name for line in rows])
-    return {"view": "requests", "rows": [row(board, line) for line in rows], "total": total, "counts": counts,
-            "flows": sorted(flows)[:MOST_FLOWS], "next": rows[-1].name if more else None, **about(board)}
+    return {"view": "requests", "rows": [row(board, line) for line in rows], "total": max(board.many, len(found)),
+            "counts": {state: counts[state] for state in STATES}, "flows": sorted(flows)[:MOST_FLOWS],
+            "next": rows[-1].name if more else None, **about(board)}
 
 
-def _fits(line: Line, wanted: Filter, part: str) -> bool:
-    if part and part not in line.name.lower() or wanted.flow is not None and line.flow != wanted.flow:
-        return False
-    claims = line.seen.claims if line.seen is not None else []
-    return wanted.session is None or any(it.session == wanted.session for it in claims)
+def _fitting(lines: List[Line], wanted: Filter) -> List[Line]:
+    """Those that a filter lets through, but for their states."""
+    if wanted.part:
+        part = wanted.part.lower()
+        lines = [line for line in lines if part in line.folded]
+    if wanted.flow is not None:
+        lines = [line for line in lines if line.flow == wanted.flow]
+    if wanted.session is not None:
+        lines = [line for line in lines if line.seen is not None
+                 and any(it.session == wanted.session for it in line.seen.claims)]
+    return lines
 
 
 def row(board: Board, line: Line) -> Dict[str, Any]:
     """A request as a list has it."""
     told: Dict[str, Any] = {"name": line.name, "said": escaped(line.name), "number": line.number, "words": line.words,
                             "flow": escaped(line.flow), "opened": line.opened - board.ahead,
-                            "state": board.state(line), "why": escaped(line.why)}
+                            "state": line.state, "why": escaped(line.why)}
     seen = line.seen
     if seen is not None:
         told.update(open=seen.open, stages=seen.stages, since=seen.since, tries=seen.tries,
@@ -108,5 +110,5 @@ def queues(board: Board) -> Dict[str, Any]:
 
 def about(board: Board) -> Dict[str, Any]:
     """What each page says of the store."""
-    return {"away": escaped(board.away), "awaySince": board.away_since if board.away else None,
+    return {"known": board.is_known, "away": escaped(board.away), "awaySince": board.away_since if board.away else None,
             "rate": None if board.rate() is None else round(board.rate() or 0.0), "now": time.time()}

@@ -25,7 +25,7 @@ def _metrics(board: Board) -> "Iterator[Tuple[str, str, List[Sample]]]":
     now, lines, queues = time.time(), board.lines(), board.queues()
     states: Any = dict.fromkeys(STATES, 0)
     for line in lines:
-        states[board.state(line)] += 1
+        states[line.state] += 1
     sessions = [it.is_there for it in board.sessions()]
     yield "cf_store_up", "gauge", [([], float(not board.away))]
     yield "cf_open_requests", "gauge", [([("state", state)], many) for state, many in states.items()]

@@ -31,6 +31,7 @@ MOST_LIVE = 64  # pages that are sent what changes
 BETWEEN = 0.25  # seconds between two sends to a page
 ALIVE = 10.0  # seconds after which a page is told that the server is there
 STILL = 1.0  # seconds after which a page is asked for anew even where nothing is known to have changed
+MOMENT = ("now", "rate")  # what is other at each moment, and isn't sent by itself
 Answer = Dict[str, Any]
 Asked = Mapping[str, str]
 
@@ -121,7 +122,7 @@ class Handler(BaseHTTPRequestHandler):
     """Answers one browser's requests."""
 
     server: Server
-    protocol_version, timeout = "HTTP/1.1", 60
+    protocol_version, timeout, disable_nagle_algorithm = "HTTP/1.1", 60, True
     server_version, sys_version = "cf", ""
 
     def do_GET(self) -> None:
@@ -150,7 +151,7 @@ class Handler(BaseHTTPRequestHandler):
             self._say(404, TEXTS["unknown_page"])
         elif self.server.is_read_only:
             self._say(403, TEXTS["read_only"])
-        elif not length.isdigit() or int(length) > LARGEST:
+        elif not length.isdecimal() or int(length) > LARGEST:
             self._say(413, TEXTS["too_large"])
         else:
             self._act(self.rfile.read(int(length)))
@@ -254,16 +255,17 @@ class Handler(BaseHTTPRequestHandler):
             self.server.live.release()
 
     def _send_changes(self, given: Asked) -> None:
-        board, version, sent, sent_at = self.server.board, -1, b"", 0.0
+        board, version, sent, sent_at = self.server.board, -1, "", 0.0
         while not board.is_stopped:
             version = board.wait(version, STILL)
             began = time.monotonic()
             told: List[Answer] = []
             status, why = self._tried(lambda: told.append(self.server.asked(given)))
-            now = {"view": "failed", "status": status, "said": why} if why else told[0]
-            data = json.dumps({key: it for key, it in now.items() if key not in ("now", "rate")}).encode()
+            now = {"view": "failed", "status": status, "said": why, "now": time.time()} if why else told[0]
+            data = json.dumps({key: it for key, it in now.items() if key not in MOMENT})
             if data != sent:
-                self.wfile.write(b"data: " + json.dumps(now).encode() + b"\n\n")
+                moment = json.dumps({key: now[key] for key in MOMENT if key in now})
+                self.wfile.write(f"data: {data[:-1]}, {moment[1:]}\n\n".encode())
                 sent, sent_at = data, began
             elif began - sent_at > ALIVE:
                 self.wfile.write(b": here\n\n")

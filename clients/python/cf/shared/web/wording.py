@@ -72,7 +72,7 @@ PAGE: Dict[str, Any] = {
     "search": "Find by name  ( / )", "searchLabel": "Find requests by a part of their name",
     "allFlows": "all flows", "noFlow": "(no flow)", "allSessions": "all sessions", "closedChip": "closed",
     "flowLabel": "Requests of which flow", "sessionLabel": "Requests of which session",
-    "count": "{0} of {1}", "countAll": "{0}", "prev": "◀ Back", "next": "More ▶",
+    "count": "{0} of {1}", "countAll": "all {0}", "prev": "◀ Back", "next": "More ▶",
     "none": "No request is like that.", "noSessions": "No session has said that it is there.",
     "noQueues": "Nothing is ready: no function waits for a worker.",
     "live": "live", "lost": "This page has lost its server, and tries again.",

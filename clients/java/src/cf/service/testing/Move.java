@@ -1,0 +1,142 @@
+package cf.service.testing;
+
+import java.util.ArrayList;
+import java.util.List;
+import java.util.Locale;
+
+/**
+ * A move: a word and numbers.
+ *
+ * <pre>
+ * begin r s     a ready function is claimed for an executor: stage s of request r
+ * call r s      a function is called. With all that it does, up to where it waits, this is one move
+ * go r s        a function that waited goes on
+ * choose r s k  a function that waits for a choice goes on with its kth way
+ * end r s       a function that was called is finished with what it gave or threw
+ * come n k      arrival n comes, in its way k
+ * by n k        caller n makes its call k
+ * limit r s k   the next limit of request r passes, which was the kth
+ * stop          no limit passes any more
+ * </pre>
+ *
+ * <p>Where a function is no stage's, {@code main}, {@code caller} or {@code job} stands for r.
+ */
+final class Move {
+    enum Word {
+        BEGIN(2), CALL(2), GO(2), CHOOSE(3), END(2), COME(2), BY(2), LIMIT(3), STOP(0);
+
+        final int count;
+
+        Word(int count) {
+            this.count = count;
+        }
+    }
+
+    /** What stands for a request. */
+    static final int MAIN = -1, CALLER = -2, JOB = -3, OUTSIDE = -4;
+
+    private static final String[] NAMES = {"", "main", "caller", "job", "outside"};
+
+    final Word word;
+    final int a, b, c;
+
+    Move(Word word, int a, int b, int c) {
+        this.word = word;
+        this.a = a;
+        this.b = b;
+        this.c = c;
+    }
+
+    Move(Word word, long place) {
+        this(word, (int) (place >> 32), (int) place, 0);
+    }
+
+    /** A stage, or another function, by two numbers. */
+    static long place(int a, int b) {
+        return (long) a << 32 | b;
+    }
+
+    long place() {
+        return place(a, b);
+    }
+
+    /** Who makes it. */
+    Object actor() {
+        switch (word) {
+            case BEGIN:
+            case CALL:
+            case GO:
+            case CHOOSE:
+            case END:
+                return place();
+            case STOP:
+                return word;
+            default:
+                return word + " " + a;
+        }
+    }
+
+    @Override
+    public boolean equals(Object other) {
+        if (!(other instanceof Move)) {
+            return false;
+        }
+        Move move = (Move) other;
+        return word == move.word && a == move.a && b == move.b && c == move.c;
+    }
+
+    @Override
+    public int hashCode() {
+        return ((word.ordinal() * 31 + a) * 31 + b) * 31 + c;
+    }
+
+    @Override
+    public String toString() {
+        int[] numbers = {a, b, c};
+        StringBuilder text = new StringBuilder(word.toString().toLowerCase(Locale.ROOT));
+        for (int k = 0; k < word.count; k++) {
+            text.append('.').append(numbers[k] < 0 ? NAMES[-numbers[k]] : String.valueOf(numbers[k]));
+        }
+        return text.toString();
+    }
+
+    /** The moves as a text, which {@link #moves} reads. */
+    static String row(List<Move> moves) {
+        StringBuilder text = new StringBuilder();
+        for (Move move : moves) {
+            text.append(text.length() == 0 ? "" : " ").append(move);
+        }
+        return text.toString();
+    }
+
+    static List<Move> moves(String row) {
+        List<Move> moves = new ArrayList<>();
+        for (String text : row.trim().isEmpty() ? new String[0] : row.trim().split("\\s+")) {
+            moves.add(move(text));
+        }
+        return moves;
+    }
+
+    private static Move move(String text) {
+        String[] parts = text.split("\\.");
+        try {
+            Word word = Word.valueOf(parts[0].toUpperCase(Locale.ROOT));
+            int[] numbers = new int[3];
+            for (int k = 0; k < word.count; k++) {
+                numbers[k] = number(parts[k + 1]);
+            }
+            return new Move(word, numbers[0], numbers[1], numbers[2]);
+        } catch (IllegalArgumentException | IndexOutOfBoundsException none) {
+            throw new IllegalArgumentException("there is no move " + text, none);
+        }
+    }
+
+    private static int number(String text) {
+        for (int k = 1; k < NAMES.length; k++) {
+            if (NAMES[k].equals(text)) {
+                return -k;
+            }
+        }
+        return Integer.parseInt(text);
+    }
+}
