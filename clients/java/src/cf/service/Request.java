@@ -113,6 +113,10 @@ public final class Request implements AutoCloseable {
      * before anything is done; one of a flow becomes one as it is claimed (`granted`). `closed` sees to it that a hook of the
      * service's is told of the request once, by `Ends`, as soon as the stages that it has then are settled.
      *
+     * Watches. A service may have a Watch, as cf.service.testing makes it, which takes the place of executors and the clock. It is told of each
+     * word under the lock, and has `tell` hand it the News, which it works off as a Turn, one function at a time. Tasks, limits and waits are the
+     * watch's, and histories have its time and its callers.
+     *
      * Which methods call user code, all without a lock: those that `tell` calls, which are `show` (what Java's own methods
      * have attached; Describe, for a recording), `hand` (Executor.execute) and `call` (a stage's function); handStarted and
      * `execute`, which call an executor; `history`, which calls Describe; Link.hang, which calls whenComplete of

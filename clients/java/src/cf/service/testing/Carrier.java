@@ -10,7 +10,8 @@ import java.util.concurrent.TimeUnit;
  * back once the function waits or has ended.
  */
 final class Carrier implements Runnable {
-    private static final int LOOKS = 4, MILLIS = 250;
+    /** It blocks where so many looks, so long apart, find it waiting. */
+    private static final int LOOKS = 8, MILLIS = 250;
     /** Those that are idle, which runs use again. */
     private static final Deque<Carrier> IDLE = new ArrayDeque<>();
 
@@ -64,10 +65,10 @@ final class Carrier implements Runnable {
         turn.release();
         try {
             for (int looks = 0; !back.tryAcquire(MILLIS, TimeUnit.MILLISECONDS);) {
-                Thread.State state = thread.getState();
-                looks = state == Thread.State.WAITING || state == Thread.State.BLOCKED ? looks + 1 : 0;
+                String where = blockedAt();
+                looks = where == null ? 0 : looks + 1;
                 if (looks == LOOKS) {
-                    return where(thread.getStackTrace());
+                    return where;
                 }
             }
             return null;
@@ -77,14 +78,20 @@ final class Carrier implements Runnable {
         }
     }
 
-    /** The innermost call that isn't the JDK's. */
-    private static String where(StackTraceElement[] stack) {
-        for (StackTraceElement each : stack) {
-            if (!each.getClassName().startsWith("java.") && !each.getClassName().startsWith("jdk.") && !each.getClassName().startsWith("sun.")) {
-                return new StackTraceElement(each.getClassName(), each.getMethodName(), each.getFileName(), each.getLineNumber()).toString();
+    /** The innermost call that isn't the JDK's, where the thread waits. Null where it doesn't, or has yet to notice its turn. */
+    private String blockedAt() {
+        Thread.State state = thread.getState();
+        if (state != Thread.State.WAITING && state != Thread.State.BLOCKED) {
+            return null;
+        }
+        for (StackTraceElement each : thread.getStackTrace()) {
+            String name = each.getClassName();
+            if (!name.startsWith("java.") && !name.startsWith("jdk.") && !name.startsWith("sun.")) {
+                return name.equals(Carrier.class.getName()) ? null
+                        : new StackTraceElement(name, each.getMethodName(), each.getFileName(), each.getLineNumber()).toString();
             }
         }
-        return "its first call";
+        return null;
     }
 
     /** Called by the function: gives the turn back, and waits for the next one. */

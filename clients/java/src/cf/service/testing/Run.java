@@ -481,6 +481,9 @@ final class Run implements Watch, Executor {
             }
         }
         requests.forEach(Request::close);
+        if (outside != null) {
+            outside.close();
+        }
     }
 
     /** The history of each request. */

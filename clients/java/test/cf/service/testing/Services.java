@@ -39,7 +39,7 @@ final class Services {
         }
 
         Orders orders() {
-            return options.apply(Orders.of(scenario).seconds(10));
+            return options.apply(Orders.of(scenario).seconds(60));
         }
     }
 
