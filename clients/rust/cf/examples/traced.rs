@@ -1,5 +1,5 @@
 //! Adds the spans of each request that is over to a file, and prints them.
-use cf::{Ends, Pool, Request, SpanFile};
+use cf::{Ends, Inline, Request, SpanFile};
 use std::time::Duration;
 
 fn charge(cents: &u32) -> Result<u32, String> {
@@ -13,7 +13,7 @@ fn main() {
         history.spans().iter().for_each(|span| println!("{}: {:?}", span.name, span.status));
         file.add(history).unwrap();
     });
-    let request = Request::new("order 17", Pool::new(4)).on_end(&ends);
+    let request = Request::new("order 17", Inline).on_end(&ends);
     let _ = request.supply(|| 4900).named("load").and_then(charge).wait();
     drop(request);
     ends.flush(Duration::from_secs(5));
