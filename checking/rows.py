@@ -105,11 +105,17 @@ def rows_of_requests(tools: Tools, made: Path) -> List[Row]:
 def rows_of_rust(tools: Tools, made: Path) -> List[Row]:
     """Without the crates of others, so that nothing but the project's own is built, and once over Debian's."""
     python, offline, needs = tools["python3"], "clients/rust/offline", ["library", "cargo", "python3"]
+    testing = [python, offline, "run", "-q", "-p", "cf", "--features", "testing", "--example"]
     return [
         Row("Rust's tests", needs, [[python, offline, "test", "-q", "--lib", "--tests", "--examples"]]),
         Row("Rust's tests under tokio, rayon, serde and tracing", [*needs, DEBIANS],
             [[python, offline, "--debian", "test", "-q", "-p", "cf", "--features", "tokio,rayon,serde,tracing", "--lib", "--tests"]]),
-        Row("the examples of Rust's pages", needs, [[python, offline, "test", "-q", "--doc"]]),
+        Row("services of Rust's in every order", needs, [[python, offline, "test", "-q", "-p", "cf", "--features", "testing", "--lib", "--test", "orders"]]),
+        Row("Rust's order that charges twice", needs, [[*testing, "twice"]], ("docs/TESTING.md", "twice.rs")),
+        Row("Rust's orders that charge once", needs, [[*testing, "once"]], ("docs/TESTING.md", "once.rs")),
+        Row("random orders of Rust's requests beside explore", [*needs, "cf_look"],
+            [[python, "conformance/clients/rust-orders", "short", "0", "100", tools["cf_look"]]]),
+        Row("the examples of Rust's pages", needs, [[python, offline, "test", "-q", "--doc", "--features", "cf/testing"]]),
         Row("Rust's spans", needs, [[python, offline, "run", "-q", "-p", "cf", "--example", "traced"]], ("clients/rust", "traced.rs")),
         Row("Rust's first program", needs, [[python, offline, "run", "-q", "-p", "cf", "--example", "first"]], ("clients/rust", "first.rs")),
         Row("random requests of Rust's crate", [*needs, "cf", "cf_look"],

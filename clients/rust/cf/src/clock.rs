@@ -93,7 +93,7 @@ impl Alarm {
     }
 
     /// Lets it be that this moment never comes.
-    fn never(mut self) {
+    pub(crate) fn never(mut self) {
         self.core = Weak::new();
     }
 

@@ -38,6 +38,9 @@ pub(crate) struct Core {
     resting: AtomicUsize,
     /// Whether a worker that waits may be to be woken by a future that is to be polled.
     has_helpers: AtomicBool,
+    /// Who is told what is done to it.
+    #[cfg(feature = "testing")]
+    pub(crate) watch: Option<crate::testing::Watch>,
 }
 
 /// How often a thread looks whether the lock is free before it sleeps, and how long it pauses at most between two looks. A hold is some hundred
@@ -52,8 +55,23 @@ impl Core {
     pub(crate) fn new(name: Box<str>, spawn: Arc<dyn Spawn>, clock: Arc<dyn Clock>, room: u16) -> Result<Arc<Core>, Refusal> {
         let (place, most, inner) = (spawn.id(), spawn.parallelism().max(1), Mutex::new(Inner::new(room)?));
         let (begun, begun_at) = if clock.is_system() { (Duration::ZERO, Some(Instant::now())) } else { (clock.now(), None) };
-        let (resting, has_helpers) = (AtomicUsize::new(0), AtomicBool::new(false));
-        Ok(Arc::new(Core { name, spawn, place, most, clock, begun, begun_at, inner, resting, has_helpers }))
+        let core = Arc::new(Core {
+            name,
+            spawn,
+            place,
+            most,
+            clock,
+            begun,
+            begun_at,
+            inner,
+            resting: AtomicUsize::new(0),
+            has_helpers: AtomicBool::new(false),
+            #[cfg(feature = "testing")]
+            watch: crate::testing::Watch::of(place),
+        });
+        #[cfg(feature = "testing")]
+        core.watched(|watch| watch.opened(&core));
+        Ok(core)
     }
 
     /// No code of a user runs under the lock, so what a panic leaves behind it is whole.
@@ -73,8 +91,17 @@ impl Core {
         self.inner.lock().unwrap_or_else(PoisonError::into_inner)
     }
 
+    /// Lets who watches it be told something.
+    #[cfg(feature = "testing")]
+    #[inline]
+    pub(crate) fn watched(&self, tell: impl FnOnce(&crate::testing::Watch)) {
+        if let Some(watch) = &self.watch {
+            tell(watch);
+        }
+    }
+
     /// Lets something be done under the lock at this moment, and what comes of it be told behind it.
-    fn change<T>(self: &Arc<Core>, act: impl FnOnce(&mut Inner, &mut After) -> T) -> T {
+    pub(crate) fn change<T>(self: &Arc<Core>, act: impl FnOnce(&mut Inner, &mut After) -> T) -> T {
         let mut after = After::nothing();
         let now = self.now();
         let mut inner = self.lock();
@@ -89,12 +116,18 @@ impl Core {
         if let Some(payload) = panicked {
             resume_unwind(payload);
         }
+        #[cfg(feature = "testing")]
+        self.watched(|watch| watch.changed());
         done
     }
 
     /// Nanoseconds since the request began. A clock may be a user's, so it isn't asked under the lock, and one that panics tells nothing: the
     /// time is that of the call before then.
     pub(crate) fn now(&self) -> u64 {
+        #[cfg(feature = "testing")]
+        if let Some(watch) = &self.watch {
+            return watch.now();
+        }
         let since = match self.begun_at {
             Some(begun) => begun.elapsed(),
             None => catch_unwind(AssertUnwindSafe(|| self.clock.now())).unwrap_or_default().saturating_sub(self.begun),
@@ -152,6 +185,8 @@ impl Core {
 
     /// Lets a relay of another request be settled as a stage of this one is.
     pub(crate) fn feed(self: &Arc<Core>, stage: u16, to: Arc<Core>, relay: u16) {
+        #[cfg(feature = "testing")]
+        self.watched(|watch| watch.linked(stage, &to, relay));
         let mut own = self.lock();
         match own.told(stage) {
             Some(told) => {

@@ -62,6 +62,7 @@
 //! | `rayon` | a `rayon::ThreadPool` is a [`Spawn`] | rayon 1 |
 //! | `serde` | a [`History`] is `Serialize`, as its account | serde 1 |
 //! | `tracing` | a function, and its future, has the span of tracing that was current where it was attached | tracing 0.1 |
+//! | `testing` | `testing`: a service's own code is tried in every order, by its tests | |
 //!
 //! Without features it needs `libcf` and `std` alone, and Rust 1.63.
 //!
@@ -97,6 +98,8 @@ mod spans;
 mod spawn;
 mod stage;
 mod task;
+#[cfg(feature = "testing")]
+pub mod testing;
 mod value;
 mod wakers;
 mod word;

@@ -262,6 +262,7 @@ impl Request {
     /// assert!(price.wait().unwrap_err().is_cancelled());
     /// ```
     pub fn cancel_all(&self) {
+        self.looks();
         self.0.cancel_all(here());
     }
 
@@ -274,7 +275,14 @@ impl Request {
     /// ```
     #[must_use]
     pub fn history(&self) -> History {
+        self.looks();
         History::of(&self.0)
+    }
+
+    /// Lets who watches it be told that somebody looks at all of its stages.
+    fn looks(&self) {
+        #[cfg(feature = "testing")]
+        self.0.watched(|watch| watch.looked(self.0.lock().slots.len()));
     }
 
     /// A stage of this form behind all of these.

@@ -59,6 +59,18 @@ impl Job {
         Job(Some(turn))
     }
 
+    /// What it is to do.
+    #[cfg(feature = "testing")]
+    pub(crate) fn turn(&self) -> Option<&Turn> {
+        self.0.as_ref()
+    }
+
+    /// Takes over what it is to do.
+    #[cfg(feature = "testing")]
+    pub(crate) fn into_turn(mut self) -> Option<Turn> {
+        self.0.take()
+    }
+
     /// Does it. A function that panics makes its stage fail. Only a waker or a `Drop` of somebody's that panics gets through.
     ///
     /// ```
@@ -279,15 +291,20 @@ pub(crate) fn here() -> u8 {
 
 /// Does something as a worker.
 pub(crate) fn as_worker<T>(act: impl FnOnce(u8) -> T) -> T {
+    let who = worker();
+    as_caller(who, || act(who))
+}
+
+/// Does something as the caller of this number.
+pub(crate) fn as_caller<T>(who: u8, act: impl FnOnce() -> T) -> T {
     struct Back(u8);
     impl Drop for Back {
         fn drop(&mut self) {
             HERE.with(|here| here.set(self.0));
         }
     }
-    let who = worker();
     let _back = Back(HERE.with(|here| here.replace(who)));
-    act(who)
+    act()
 }
 
 /// Lets it be known that this thread runs functions of a request, by a job that is counted or otherwise, until what is given back is dropped.

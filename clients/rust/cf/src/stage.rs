@@ -166,10 +166,19 @@ impl<T> Stage<T> {
     /// assert!(!request.promise::<u32>().is_settled());
     /// ```
     pub fn is_settled(&self) -> bool {
+        self.reads();
         self.at.map_or(true, |number| self.core.lock().slot(number).is_settled())
     }
 
+    /// Lets who watches the request be told that somebody reads the stage.
+    #[inline]
+    fn reads(&self) {
+        #[cfg(feature = "testing")]
+        self.at.into_iter().for_each(|number| self.core.watched(|watch| watch.read(number)));
+    }
+
     fn told(&self) -> Option<Result<Val, Error>> {
+        self.reads();
         match self.at {
             Ok(number) => self.core.peek(number),
             Err(why) => Some(Err(why.into())),
@@ -239,21 +248,28 @@ impl<T> Stage<T> {
     /// assert_eq!(told.blamed(), price.number());
     /// ```
     pub fn blamed(&self) -> Option<u16> {
+        self.reads();
         self.core.lock().slot(self.at.ok()?).blamed()
     }
 
     pub(crate) fn poll_value(&mut self, cx: &mut Context<'_>) -> Poll<Result<Val, Error>> {
+        self.reads();
         match self.at {
             Ok(number) => self.core.poll(number, &mut self.key, cx.waker()),
             Err(why) => Poll::Ready(Err(why.into())),
         }
     }
 
-    fn wait_value(&self, until: Option<Instant>) -> Option<Result<Val, Error>> {
+    fn wait_value(&self, wait: Option<Duration>) -> Option<Result<Val, Error>> {
         if let Some(told) = self.told() {
             return Some(told);
         }
         let stage = self.at.ok()?;
+        #[cfg(feature = "testing")]
+        if self.core.watch.as_ref().map_or(false, |watch| watch.wait(&self.core, stage, wait)) {
+            return self.told();
+        }
+        let until = wait.and_then(|wait| Instant::now().checked_add(wait));
         let parked = Arc::new(Parked { thread: thread::current(), is_woken: AtomicBool::new(false) });
         let waker = Waker::from(Arc::clone(&parked));
         let mut waiting = self.clone();
@@ -643,7 +659,7 @@ impl<T: Clone + Send + Sync + 'static> Stage<T> {
     /// ```
     #[must_use = "None says that it isn't settled"]
     pub fn wait_timeout(&self, wait: Duration) -> Option<Result<T, Error>> {
-        self.wait_value(Instant::now().checked_add(wait)).map(cloned)
+        self.wait_value(Some(wait)).map(cloned)
     }
 }
 

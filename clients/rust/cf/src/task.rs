@@ -89,6 +89,10 @@ impl Polling {
         let ended = held.take();
         drop(held);
         quietly(|| drop(ended));
+        #[cfg(feature = "testing")]
+        if let Some(watch) = &core.watch {
+            return watch.gave(task.stage, gave);
+        }
         core.end(task.who, task.stage, gave);
     }
 
@@ -102,6 +106,12 @@ impl Polling {
         let core = Arc::clone(&self.core);
         core.spawn(Job::new(Turn::Poll(self)));
         core.wake_helpers();
+    }
+
+    /// Whose future it is.
+    #[cfg(feature = "testing")]
+    pub(crate) fn of(&self) -> (&Arc<Core>, u16) {
+        (&self.core, self.task.stage)
     }
 
     /// Lets its stage fail, since nobody polls it any more.

@@ -1,0 +1,148 @@
+//! Threads that carry code which may wait. One thread of a run goes on at a time: the search hands it the turn, and gets it back once the code waits
+//! or has ended.
+use std::panic::resume_unwind;
+use std::sync::{Arc, Condvar, Mutex, MutexGuard, PoisonError};
+use std::thread::{self, JoinHandle};
+
+use crate::spawn::quietly;
+
+/// What user code panics with where it is to be left, which nobody prints.
+pub(crate) struct Leaves;
+
+/// Leaves user code. Where that is left already, what is dropped goes on.
+pub(crate) fn leave() {
+    if !thread::panicking() {
+        resume_unwind(Box::new(Leaves));
+    }
+}
+
+pub(crate) type Act = Box<dyn FnOnce() + Send>;
+
+enum Turn {
+    Idle,
+    Begins(Act),
+    Runs,
+    Rests,
+    GoesOn,
+    /// What rests is to end.
+    Ends,
+    /// The thread is to end.
+    Quits,
+}
+
+/// A thread that carries one function at a time.
+pub(crate) struct Carrier {
+    turn: Mutex<Turn>,
+    changed: Condvar,
+}
+
+impl Carrier {
+    fn lock(&self) -> MutexGuard<'_, Turn> {
+        self.turn.lock().unwrap_or_else(PoisonError::into_inner)
+    }
+
+    fn until<'a>(&self, turn: MutexGuard<'a, Turn>, is_there: impl Fn(&Turn) -> bool) -> MutexGuard<'a, Turn> {
+        let waited = self.changed.wait_while(turn, |turn| !is_there(turn));
+        waited.unwrap_or_else(PoisonError::into_inner)
+    }
+
+    /// Hands the turn over, and waits for it. Whether the code has ended.
+    fn hand(&self, turn: Turn) -> bool {
+        let mut held = self.lock();
+        *held = turn;
+        self.changed.notify_all();
+        let held = self.until(held, |turn| matches!(turn, Turn::Idle | Turn::Rests));
+        matches!(*held, Turn::Idle)
+    }
+
+    /// Lets code go until it waits or has ended. Whether it has ended.
+    pub(crate) fn begin(&self, act: Act) -> bool {
+        self.hand(Turn::Begins(act))
+    }
+
+    /// Lets code that waits go on. Whether it has ended.
+    pub(crate) fn resume(&self) -> bool {
+        self.hand(Turn::GoesOn)
+    }
+
+    /// Called by the code: gives the turn back, and waits for the next one.
+    pub(crate) fn pause(&self) {
+        if thread::panicking() {
+            return;
+        }
+        let mut held = self.lock();
+        *held = Turn::Rests;
+        self.changed.notify_all();
+        let mut held = self.until(held, |turn| matches!(turn, Turn::GoesOn | Turn::Ends));
+        let ends = matches!(*held, Turn::Ends);
+        *held = Turn::Runs;
+        drop(held);
+        if ends {
+            leave();
+        }
+    }
+
+    /// Ends code that waits. Whether it has ended: some may wait again and again.
+    pub(crate) fn end(&self) -> bool {
+        (0..100).any(|_| self.hand(Turn::Ends))
+    }
+
+    fn serve(&self) {
+        loop {
+            let mut held = self.until(self.lock(), |turn| matches!(turn, Turn::Begins(_) | Turn::Quits));
+            let act = match std::mem::replace(&mut *held, Turn::Runs) {
+                Turn::Begins(act) => act,
+                _ => return,
+            };
+            drop(held);
+            quietly(act);
+            *self.lock() = Turn::Idle;
+            self.changed.notify_all();
+        }
+    }
+}
+
+/// Those that are idle, which runs use again.
+#[derive(Default)]
+pub(crate) struct Carriers {
+    idle: Vec<Arc<Carrier>>,
+    threads: Vec<(Arc<Carrier>, JoinHandle<()>)>,
+}
+
+impl Carriers {
+    /// One that is idle.
+    ///
+    /// # Panics
+    ///
+    /// Where the system starts no thread.
+    pub(crate) fn take(&mut self) -> Arc<Carrier> {
+        self.idle.pop().unwrap_or_else(|| {
+            let carrier = Arc::new(Carrier { turn: Mutex::new(Turn::Idle), changed: Condvar::new() });
+            let serves = Arc::clone(&carrier);
+            let thread = thread::Builder::new().name("cf testing".into()).spawn(move || serves.serve()).expect("a thread for what waits");
+            self.threads.push((Arc::clone(&carrier), thread));
+            carrier
+        })
+    }
+
+    /// Gives back one that is idle.
+    pub(crate) fn give(&mut self, carrier: Arc<Carrier>) {
+        self.idle.push(carrier);
+    }
+}
+
+impl Drop for Carriers {
+    /// A thread whose code doesn't end is left.
+    fn drop(&mut self) {
+        for (carrier, thread) in self.threads.drain(..) {
+            let mut turn = carrier.lock();
+            let is_idle = matches!(*turn, Turn::Idle);
+            *turn = Turn::Quits;
+            drop(turn);
+            carrier.changed.notify_all();
+            if is_idle {
+                drop(thread.join());
+            }
+        }
+    }
+}

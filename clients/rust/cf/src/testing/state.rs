@@ -1,0 +1,353 @@
+//! What a run consists of, and what its moves touch.
+//!
+//! What happened to requests isn't told by anybody: behind each move their machines are asked for the words that came, with what these were
+//! answered and settled, and for what is ready ([`State::scan`]).
+use super::carrier::Carrier;
+use super::footprint::{Behind, Footprint, How, Thing};
+use super::moves::{Place, Who};
+use crate::clock::Alarm;
+use crate::core::Core;
+use crate::error::Error;
+use crate::ledger::done_again;
+use crate::task::Polling;
+use crate::value::{Call, Gave, Given, Val};
+use crate::word::{self, ATTACH, CLAIM, FINISH, LINKS};
+use cf_graph::{Finished, Reply};
+use std::collections::{BTreeMap, BTreeSet, VecDeque};
+use std::sync::Arc;
+use std::time::Duration;
+
+/// How runs go.
+#[derive(Clone, Copy, Debug)]
+pub(crate) struct Settings {
+    /// How many functions may go on at a time; 0 is any number.
+    pub(crate) workers: usize,
+    /// Limits need not pass, and those of settled stages pass like others, as `cf_look explore` has it.
+    pub(crate) free_clock: bool,
+    /// A function lets others go on at each change that it makes.
+    pub(crate) fine: bool,
+    /// What comes to the same is left out.
+    pub(crate) reduce: bool,
+    /// What a function panics with is its stage's error, and no fault.
+    pub(crate) panics: bool,
+    /// Functions are called on threads of their own, since one waits.
+    pub(crate) has_threads: bool,
+}
+
+/// A request of the run.
+pub(crate) struct Opened {
+    pub(crate) core: Arc<Core>,
+    /// Whether something was done to it since it was looked at.
+    pub(crate) is_dirty: bool,
+    pub(crate) ready: Vec<u16>,
+    /// The moment of its clock, in nanoseconds.
+    pub(crate) now: u64,
+    pub(crate) timers_made: u32,
+    /// How many events, settled stages and relays were looked at.
+    seen: (usize, usize),
+}
+
+/// What may come from outside.
+pub(crate) struct Arrival {
+    pub(crate) core: Arc<Core>,
+    pub(crate) place: Place,
+    pub(crate) ways: Vec<Way>,
+    pub(crate) is_never: bool,
+}
+
+#[derive(Clone)]
+pub(crate) enum Way {
+    Value(Val),
+    Error(Error),
+    Never,
+}
+
+/// Another caller, and the calls that it has yet to make.
+pub(crate) struct Caller {
+    pub(crate) name: String,
+    pub(crate) calls: VecDeque<(Box<dyn FnOnce() + Send>, bool)>,
+    pub(crate) called: u16,
+    pub(crate) all: u16,
+}
+
+/// What has to hold, and what holds then.
+pub(crate) struct Check {
+    pub(crate) text: String,
+    pub(crate) holds: Box<dyn FnMut() -> bool + Send>,
+}
+
+/// A function that goes on: that of a stage, a caller's call, or the test itself.
+pub(crate) struct Flight {
+    pub(crate) name: String,
+    /// The claim of a stage's function.
+    pub(crate) claim: Option<Claim>,
+    pub(crate) wait: Option<Wait>,
+    /// Tells its waits apart.
+    pub(crate) waits: u32,
+    /// The time for which it waits is over.
+    pub(crate) is_late: bool,
+    pub(crate) chosen: u16,
+    pub(crate) carrier: Option<Arc<Carrier>>,
+    /// What it shares with others, with each move.
+    pub(crate) shares: Vec<Thing>,
+}
+
+pub(crate) struct Claim {
+    pub(crate) who: u8,
+    pub(crate) call: Option<(Call, Given)>,
+    /// What the function gave.
+    pub(crate) gave: Option<Gave>,
+    /// It gave a future, which was woken.
+    pub(crate) woken: Option<Arc<Polling>>,
+}
+
+/// What a flight waits for.
+pub(crate) struct Wait {
+    pub(crate) name: String,
+    pub(crate) until: Until,
+}
+
+pub(crate) enum Until {
+    Settled(Arc<Core>, Place),
+    /// Its turn.
+    Now,
+    /// One of these ways is chosen.
+    Chosen(Vec<String>),
+}
+
+impl Wait {
+    pub(crate) fn is_over(&self) -> bool {
+        match &self.until {
+            Until::Settled(core, (_, stage)) => core.lock().slot(*stage).is_settled(),
+            Until::Now => true,
+            Until::Chosen(_) => false,
+        }
+    }
+}
+
+/// What is due.
+pub(crate) struct Timer {
+    pub(crate) due: u64,
+    pub(crate) number: u32,
+    pub(crate) place: Place,
+    pub(crate) rings: Rings,
+}
+
+pub(crate) enum Rings {
+    Alarm(Alarm),
+    /// The wait of a flight, which is the so-manyth of it, and how long it is.
+    Wait(Who, u32, Duration),
+}
+
+/// Something that the test gave back: says what it is called, where it isn't settled.
+pub(crate) type Open = Box<dyn Fn() -> Option<String> + Send>;
+
+pub(crate) struct State {
+    pub(crate) settings: Settings,
+    pub(crate) requests: Vec<Opened>,
+    pub(crate) flights: Vec<(Who, Flight)>,
+    pub(crate) outside: Vec<Arrival>,
+    pub(crate) callers: Vec<Caller>,
+    pub(crate) timers: Vec<Timer>,
+    /// The stages of timers that passed, or that nobody wants any more.
+    pub(crate) passed: Vec<Place>,
+    pub(crate) checks: Vec<Check>,
+    pub(crate) at_end: Vec<Check>,
+    /// What the end is.
+    pub(crate) end: Option<Box<dyn FnOnce() -> String + Send>>,
+    pub(crate) awaited: Vec<Open>,
+    /// What functions share that were marked.
+    pub(crate) marks: BTreeMap<Place, Vec<&'static str>>,
+    /// In how many ways workers could have been chosen.
+    pub(crate) weight: u128,
+    /// It fails.
+    pub(crate) why: String,
+    pub(crate) needs_threads: bool,
+    pub(crate) is_stopped: bool,
+    /// Nothing comes any more.
+    pub(crate) is_over: bool,
+    /// Nobody looks any more.
+    pub(crate) is_closed: bool,
+    pub(crate) footprint: Option<Footprint>,
+    /// What the last move settled.
+    pub(crate) settled: Vec<Place>,
+    behind: Behind,
+    /// Relays of stages, also those that were let go.
+    relays: BTreeMap<Place, Vec<Place>>,
+    are_settled: BTreeSet<Place>,
+}
+
+impl State {
+    pub(crate) fn new(settings: Settings) -> State {
+        State {
+            settings,
+            requests: Vec::new(),
+            flights: Vec::new(),
+            outside: Vec::new(),
+            callers: Vec::new(),
+            timers: Vec::new(),
+            passed: Vec::new(),
+            checks: Vec::new(),
+            at_end: Vec::new(),
+            end: None,
+            awaited: Vec::new(),
+            marks: BTreeMap::new(),
+            weight: 1,
+            why: String::new(),
+            needs_threads: false,
+            is_stopped: false,
+            is_over: false,
+            is_closed: false,
+            footprint: None,
+            settled: Vec::new(),
+            behind: Behind::default(),
+            relays: BTreeMap::new(),
+            are_settled: BTreeSet::new(),
+        }
+    }
+
+    /// This move touches a thing.
+    pub(crate) fn touch(&mut self, thing: Thing, how: How) {
+        if let Some(footprint) = &mut self.footprint {
+            footprint.touch(thing, how);
+        }
+    }
+
+    /// This order fails.
+    pub(crate) fn fail(&mut self, why: impl Into<String>) {
+        if self.why.is_empty() {
+            self.why = why.into();
+        }
+    }
+
+    pub(crate) fn open(&mut self, core: Arc<Core>) {
+        self.touch(Thing::Open, How::Changes);
+        self.requests.push(Opened { core, is_dirty: false, ready: Vec::new(), now: 0, timers_made: 0, seen: (0, 0) });
+    }
+
+    pub(crate) fn request(&mut self, number: u16) -> &mut Opened {
+        &mut self.requests[usize::from(number)]
+    }
+
+    pub(crate) fn flight(&mut self, who: Who) -> Option<&mut Flight> {
+        self.flights.iter_mut().find(|it| it.0 == who).map(|it| &mut it.1)
+    }
+
+    pub(crate) fn take_flight(&mut self, who: Who) -> Option<Flight> {
+        let at = self.flights.iter().position(|it| it.0 == who)?;
+        Some(self.flights.remove(at).1)
+    }
+
+    /// What a stage's function shares with others.
+    pub(crate) fn shares(&self, place: Place) -> Vec<Thing> {
+        let marks = self.marks.get(&place);
+        marks.map_or_else(|| vec![Thing::User], |names| names.iter().map(|name| Thing::Named(name)).collect())
+    }
+
+    pub(crate) fn add_timer(&mut self, place: Place, wait: Duration, rings: Rings) {
+        self.touch(Thing::Clock(place.0), How::Changes);
+        let request = self.request(place.0);
+        request.timers_made += 1;
+        let (due, number) = (request.now.saturating_add(u64::try_from(wait.as_nanos()).unwrap_or(u64::MAX)), request.timers_made);
+        self.timers.push(Timer { due, number, place, rings });
+    }
+
+    /// Whether nobody wants a timer any more.
+    pub(crate) fn is_lost(&self, timer: &Timer) -> bool {
+        match &timer.rings {
+            Rings::Alarm(alarm) => !alarm.is_wanted(),
+            Rings::Wait(who, waits, _) => {
+                let flight = self.flights.iter().find(|it| it.0 == *who).map(|it| &it.1);
+                flight.map_or(true, |flight| flight.waits != *waits || flight.wait.as_ref().map_or(true, Wait::is_over))
+            }
+        }
+    }
+
+    /// A relay stands for a stage of another request.
+    pub(crate) fn linked(&mut self, relay: Place, of: Place) {
+        self.relays.entry(of).or_default().push(relay);
+    }
+
+    /// Looks at what was done to requests since it was looked: what that touches, and what is ready.
+    pub(crate) fn scan(&mut self) {
+        for number in 0..self.requests.len() {
+            if std::mem::take(&mut self.requests[number].is_dirty) {
+                self.scan_request(number as u16);
+            }
+        }
+    }
+
+    fn scan_request(&mut self, number: u16) {
+        let (events, relays) = self.request(number).seen;
+        let core = Arc::clone(&self.request(number).core);
+        let mut inner = core.lock();
+        let words = inner.ledger.words();
+        let stages = inner.slots.len() as u16;
+        let followed = inner.ledger.relays[relays..].to_vec();
+        let ready: Vec<u16> = std::iter::successors(inner.ledger.lowest_ready(0), |stage| inner.ledger.lowest_ready(stage + 1)).collect();
+        drop(inner);
+        self.request(number).seen = (words.len(), relays + followed.len());
+        followed.iter().for_each(|(relay, stage)| self.linked((number, *relay), (number, *stage)));
+        let mut news = Vec::new();
+        let replies = if words.len() > events { done_again(&words, stages).expect("memory for a ledger") } else { Vec::new() };
+        for (word, reply, told) in replies.into_iter().skip(events) {
+            self.follows(&std::mem::take(&mut news));
+            self.event(number, word, reply, &mut news);
+            for (stage, _) in told {
+                self.are_settled.insert((number, stage));
+                self.settled.push((number, stage));
+                news.push((number, stage));
+            }
+        }
+        let before = std::mem::replace(&mut self.request(number).ready, ready.clone());
+        news.extend(ready.into_iter().filter(|stage| !before.contains(stage)).map(|stage| (number, stage)));
+        self.follows(&news);
+    }
+
+    /// What an event touches.
+    fn event(&mut self, number: u16, word: u64, reply: Reply, news: &mut Vec<Place>) {
+        let parts = word::parts(word);
+        let place = (number, parts.stage);
+        match (parts.kind, reply) {
+            (ATTACH, Reply::Attached(Some(stage))) => {
+                let stage = (number, stage);
+                for of in parts.attached().1 {
+                    self.behind.add(stage, (number, of));
+                    self.touch(Thing::Stage((number, of)), How::Reads);
+                }
+                self.touch(Thing::Attach(number), How::Changes);
+                self.touch(Thing::Stage(stage), How::Changes);
+            }
+            (CLAIM, _) => self.touch(Thing::Stage(place), How::Changes),
+            (FINISH, _) => {
+                self.touch(Thing::Stage(place), How::Changes);
+                if parts.tag == LINKS && reply == Reply::Finished(Finished::Won) {
+                    let target = (number, parts.low as u16);
+                    self.behind.add(place, target);
+                    self.touch(Thing::Stage(target), How::Reads);
+                    news.push(place);
+                }
+                self.dropped(place);
+            }
+            (_, reply) => self.touch(Thing::Stage(place), if reply == Reply::Flag(true) { How::Changes } else { How::Reads }),
+        }
+    }
+
+    /// A claim is finished. A future whose stage was settled otherwise was dropped then, with what it has.
+    fn dropped(&mut self, place: Place) {
+        if let Some(flight) = self.take_flight(Who::Function(place)) {
+            flight.shares.iter().for_each(|thing| self.touch(*thing, How::Changes));
+        }
+    }
+
+    /// What is touched by what changed: what stands behind it, and relays, which it would settle.
+    fn follows(&mut self, news: &[Place]) {
+        if self.footprint.is_none() || news.is_empty() {
+            return;
+        }
+        let mut touched: Vec<(Place, How)> = news.iter().map(|place| (*place, How::Changes)).collect();
+        self.behind.reached(news, |place| self.are_settled.contains(&place), |place, how| touched.push((place, how)));
+        touched.extend(news.iter().flat_map(|place| self.relays.get(place).into_iter().flatten()).map(|relay| (*relay, How::Reads)));
+        touched.into_iter().for_each(|(place, how)| self.touch(Thing::Stage(place), how));
+    }
+}
