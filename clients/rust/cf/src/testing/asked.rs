@@ -1,7 +1,7 @@
 //! Questions of `cf_look explore`, asked of a request in a world: what conformance/clients/rust-orders compares.
 //!
 //! `CF_QUESTIONS` names a file with a line for each question, and `CF_ANSWERS` where a line is written for each: the orders, the runs that were cut
-//! short, whether that is all, how many orders failed, the microseconds, and each end with its number of orders.
+//! short, whether that is all, how many orders failed, and each end with its number of orders.
 use super::{Calls, Orders, Report, World};
 use crate::core::Core;
 use crate::error::Error;
@@ -72,7 +72,7 @@ fn value(word: &str) -> Option<i32> {
 
 impl Said {
     fn of(words: &[&str]) -> Said {
-        let of = words[1].split(',').filter(|word| *word != "-").map(number).collect();
+        let of = words[1].split('+').filter(|word| *word != "-").map(number).collect();
         Said { form: words[0].into(), of, function: words[2].into() }
     }
 }
@@ -292,8 +292,7 @@ fn asked(question: &Question, world: &World) {
 
 fn told(report: &Report) -> String {
     let ends = report.ends.iter().map(|(end, orders)| format!("\t{end}\t{orders}")).collect::<String>();
-    let (failed, micros) = (report.failed.len(), report.took.as_micros());
-    format!("{} {} {} {failed} {micros}{ends}\n", report.orders, report.cut, report.whole)
+    format!("{} {} {} {}{ends}\n", report.orders, report.cut, report.whole, report.failed.len())
 }
 
 fn answered(line: &str) -> String {

@@ -16,6 +16,8 @@ use std::time::{Duration, Instant};
 const AT_FIRST: u64 = 100;
 /// One of so many is by chance, and so much of the time.
 const PART: u32 = 10;
+/// In place of a time that no clock can tell.
+const LONG: Duration = Duration::from_secs(1_000_000_000);
 /// Failures that are made smaller.
 const MOST_TOLD: usize = 20;
 
@@ -51,10 +53,7 @@ pub fn orders<A: Awaited>(test: impl Fn(&World) -> A + Send + Sync + 'static) ->
 /// Where an order fails, and as [`Orders::run`].
 ///
 /// ```
-/// #[test]
-/// fn an_order_is_paid() {
-///     cf::testing::every_order(|world| world.request("order 17").supply(|| 49));
-/// }
+/// cf::testing::every_order(|world| world.request("order 17").supply(|| 49));
 /// ```
 pub fn every_order<A: Awaited>(test: impl Fn(&World) -> A + Send + Sync + 'static) {
     Orders::new().every_order(test);
@@ -164,7 +163,7 @@ impl Orders {
     /// Runs a test, once for each order. It has to make all that it uses anew, and to do the same each time. What it gives back has to be settled in
     /// the end. A fault in the test itself is an order that fails.
     ///
-    /// An order of ten moves takes some ten microseconds, and some hundred where functions wait.
+    /// Each order is a run of the test from its start. Where functions wait, each move hands the turn from one thread to another.
     ///
     /// # Panics
     ///
@@ -202,7 +201,7 @@ impl Orders {
     }
 
     fn search(&self, runner: &mut Runner, begun: Instant) -> Report {
-        let (mut report, until) = (Report::default(), begun + self.time);
+        let (mut report, until) = (Report::default(), begun.checked_add(self.time).unwrap_or(begun + LONG));
         if let Some(row) = &self.row {
             let moves = moves_of(row).unwrap_or_else(|word| panic!("a row has no move {word:?}"));
             let ran = runner.again(&moves);
@@ -237,7 +236,8 @@ impl Orders {
         }
         let now = Instant::now();
         let part = now + until.saturating_duration_since(now) / PART;
-        Chance::new(self.seed).go(runner, report, self.most / u64::from(PART), part, self.failures);
-        tree.go(runner, report, self.most - report.by_chance - at_first, until, self.failures);
+        let left = self.most - at_first;
+        Chance::new(self.seed).go(runner, report, left.min(self.most / u64::from(PART)), part, self.failures);
+        tree.go(runner, report, left - report.by_chance, until, self.failures);
     }
 }

@@ -2,7 +2,7 @@
 mod made;
 mod services;
 
-use cf::testing::{every_order, orders, Orders, Report, World};
+use cf::testing::{every_order, Orders, Report, World};
 use cf::{Clock, Error, Request, Spawn, Stage};
 use services::{charged_twice, overdrawn, GivesWay, Shared, SERVICES};
 use std::panic::{catch_unwind, AssertUnwindSafe};
@@ -11,8 +11,14 @@ use std::sync::Arc;
 use std::time::Duration;
 
 const SECOND: Duration = Duration::from_secs(1);
-/// Within which each planted fault has to be found.
-const LIMIT: Duration = Duration::from_secs(10);
+/// Longer than a machine at its limit takes. On one at rest each planted fault is found within milliseconds.
+const LIMIT: Duration = Duration::from_secs(80);
+/// By which order each planted fault has to be found.
+const SOON: u64 = 20;
+
+fn orders<A: cf::testing::Awaited>(test: impl Fn(&World) -> A + Send + Sync + 'static) -> Report {
+    Orders::new().time(LIMIT).run(test)
+}
 
 fn is_sound(report: &Report) {
     assert!(report.whole && report.failed.is_empty(), "{report}");
@@ -38,7 +44,7 @@ fn each_planted_fault_is_found() {
     assert_eq!(SERVICES.len(), 20);
     for service in SERVICES {
         let report = (service.run)(Orders::new().time(LIMIT), false);
-        assert!(!report.failed.is_empty() && report.took < LIMIT, "{} is missed: {report}", service.name);
+        assert!(!report.failed.is_empty() && report.orders + report.cut <= SOON, "{} is missed: {report}", service.name);
         assert!(report.failed[0].why.contains(service.why), "{}: {report}", service.name);
     }
 }
@@ -46,7 +52,7 @@ fn each_planted_fault_is_found() {
 #[test]
 fn each_failing_order_fails_again_alone() {
     for service in SERVICES {
-        let failure = (service.run)(Orders::new(), false).failed.remove(0);
+        let failure = (service.run)(Orders::new().time(LIMIT), false).failed.remove(0);
         let again = (service.run)(Orders::new().row(&failure.row()), false);
         assert_eq!((again.orders, &again.failed[0].why, again.failed[0].row()), (1, &failure.why, failure.row()), "{}", service.name);
     }
@@ -112,8 +118,10 @@ fn several_are_told() {
 
 #[test]
 fn orders_bound_a_search() {
-    let report = Orders::new().most(5).run(|world| overdrawn(world, true));
-    assert!(report.orders + report.cut <= 5 && !report.whole, "{report}");
+    for most in [5, 101] {
+        let report = Orders::new().time(LIMIT).all().most(most).run(|world| overdrawn(world, true));
+        assert!(report.orders + report.cut <= most && !report.whole, "{report}");
+    }
 }
 
 #[test]
@@ -142,7 +150,7 @@ fn a_part_of_the_orders_is_by_chance() {
         }
         world.at_end("the first doesn't come last", move || *came.get() != 0);
     };
-    let report = Orders::new().most(3_000).run(seven);
+    let report = Orders::new().time(LIMIT).most(3_000).run(seven);
     assert!(!report.failed.is_empty() && report.by_chance > 0, "{report}");
 }
 
@@ -368,7 +376,7 @@ fn what_outlives_a_run_is_told() {
 
 /// How many orders are tried with and without what is left out.
 fn counts<A: cf::testing::Awaited>(test: impl Fn(&World) -> A + Clone + Send + Sync + 'static) -> (u64, u64) {
-    let (reduced, all) = (orders(test.clone()), Orders::new().all().run(test));
+    let (reduced, all) = (orders(test.clone()), Orders::new().time(LIMIT).all().run(test));
     is_sound(&reduced);
     is_sound(&all);
     (reduced.orders, all.orders)
@@ -454,10 +462,7 @@ fn a_relay_that_was_let_go() {
 fn what_a_check_reads() {
     let report = orders(|world| {
         let request = world.request("order");
-        let [one, two] = [request.promise::<()>(), request.promise::<()>()];
-        let (first, second) = (one.clone(), two.clone());
-        world.calls("one", move || first.cancel()).pure();
-        world.calls("two", move || second.cancel()).pure();
+        let [one, two] = [(); 2].map(|()| world.arrives(request.promise(), ()));
         world.check("one before two", move || one.is_settled() || !two.is_settled());
     });
     assert!(!report.failed.is_empty());
