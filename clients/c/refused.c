@@ -13,7 +13,8 @@ static const uint16_t NEVER = UINT16_MAX;
 /* What calls write. Each is filled with one byte before, and has to be so afterwards. */
 static struct {
   cf_reply reply; cf_task task; cf_outcome outcome; cf_now now; cf_record record; cf_event event; cf_stage stage; cf_step step;
-  cf_applied applied; cf_request_gathering gathering; cf_request_step turn; cf_told told[2]; cf_deadline deadline; cf_request_done done; cf_request_call call;
+  cf_applied applied; cf_request_gathering gathering; cf_request_composing composing; cf_request_linking linking;
+  cf_request_step turn; cf_told told[2]; cf_deadline deadline; cf_request_done done; cf_request_call call;
   cf_news news[2]; uint64_t words[2]; uint16_t stages[2]; uint8_t text[TEXT]; uint16_t number; uint8_t small; uint32_t calls; uint64_t word;
   size_t n;
 } out;
@@ -108,6 +109,8 @@ static void ledger_calls(cf_handle *h, uint32_t wanted) {
 static void request_calls(cf_handle *h, uint32_t wanted) {
   ROW(cf_request_apply(h, 1, 0, &out.applied, out.told, 2), wanted);
   ROW(cf_request_gather(h, &out.gathering, &of, 1, out.told, 2), wanted);
+  ROW(cf_request_compose(h, &out.composing, out.told, 2), wanted);
+  ROW(cf_request_link(h, &out.linking, &out.task, out.told, 2), wanted);
   ROW(cf_request_next(h, &out.turn, &out.task, out.told, 2), wanted);
   ROW(cf_request_follow(h, SOURCE, TWICE, out.told, 2, &out.n), wanted);
   ROW(cf_request_deadline(h, SOURCE, 1, CF_TIMEOUT, value), wanted);
@@ -319,6 +322,11 @@ static void by_pointers(void) {
   ROW(cf_request_gather(asked, &out.gathering, NULL, 1, out.told, 2), CF_NULL);
   ROW(cf_request_gather(asked, NULL, &of, 1, out.told, 2), CF_NULL);
   ROW(cf_request_gather(asked, &out.gathering, &of, 1, NULL, 2), CF_NULL);
+  ROW(cf_request_compose(asked, NULL, out.told, 2), CF_NULL);
+  ROW(cf_request_compose(asked, &out.composing, NULL, 2), CF_NULL);
+  ROW(cf_request_link(asked, NULL, &out.task, out.told, 2), CF_NULL);
+  ROW(cf_request_link(asked, &out.linking, NULL, out.told, 2), CF_NULL);
+  ROW(cf_request_link(asked, &out.linking, &out.task, NULL, 2), CF_NULL);
   ROW(cf_request_next(asked, NULL, &out.task, out.told, 2), CF_NULL);
   ROW(cf_request_next(asked, &out.turn, NULL, out.told, 2), CF_NULL);
   ROW(cf_request_next(asked, &out.turn, &out.task, NULL, 2), CF_NULL);
@@ -450,6 +458,8 @@ static void by_other_numbers(void) {
   cf_step step = {.who = 64};
   cf_request_step turn = {.who = 64};
   cf_request_gathering gathering = {.who = 64, .form = CF_APPLY};
+  cf_request_composing composing = {.who = 64, .lane = 2, .form = CF_APPLY, .source = STAGES, .function = 4096};
+  cf_request_linking linking = {.who = 64, .relay = TWICE, .stage = SOURCE};
   cf_request_call calls[] = {{.call = CF_DO_PASS}, {.call = 7}};
   cf_request_done done;
   cf_handle *asked = &held[REQUEST];
@@ -509,6 +519,27 @@ static void by_other_numbers(void) {
   ROW(cf_request_gather(asked, &gathering, many_of, 3, out.told, 2), CF_NO_STAGE);
   ROW(cf_request_gather(asked, &gathering, (uint16_t[]){SOURCE, TWICE, SOURCE}, 3, out.told, 2), CF_NO_ROOM);
   HOLDS(gathering.root == 0 && gathering.told == 0);
+  ROW(cf_request_compose(asked, &composing, out.told, 2), CF_NO_LANE);
+  composing.lane = 1;
+  ROW(cf_request_compose(asked, &composing, out.told, 2), CF_NO_SUCH_NUMBER);
+  composing.form = CF_COMPOSE;
+  ROW(cf_request_compose(asked, &composing, out.told, 2), CF_NO_WORD);
+  composing.who = 0;
+  ROW(cf_request_compose(asked, &composing, out.told, 2), CF_NO_WORD);
+  composing.function = 4095;
+  ROW(cf_request_compose(asked, &composing, out.told, 2), CF_NO_STAGE);
+  composing.source = SOURCE;
+  ROW(cf_request_compose(asked, &composing, out.told, 2), CF_NO_ROOM);
+  HOLDS(composing.relay == 0 && composing.stage == 0 && composing.told == 0);
+  ROW(cf_request_link(asked, &linking, &(cf_task){.stage = TWICE}, out.told, 2), CF_NOT_HELD);
+  ROW(cf_request_link(asked, &linking, &task, out.told, 2), CF_NO_WORD);
+  linking.who = 0;
+  ROW(cf_request_link(asked, &linking, &task, out.told, 2), CF_NO_STAGE); /* the relay isn't below the compose */
+  linking.relay = SOURCE, linking.stage = STAGES;
+  ROW(cf_request_link(asked, &linking, &task, out.told, 2), CF_NO_STAGE);
+  linking.stage = SOURCE;
+  ROW(cf_request_link(asked, &linking, &task, out.told, 2), CF_NOT_HELD);
+  HOLDS(linking.told == 0 && task.held == 1);
   ROW(cf_request_refuse(asked, 2, 1, out.told, 2, &out.n), CF_NO_LANE);
   ROW(cf_request_ready(asked, 2, &out.number), CF_NO_LANE);
   ROW(cf_request_cancel_all(asked, 64, out.told, 2, &out.n), CF_NO_WORD);

@@ -14,7 +14,8 @@ Answer = Tuple[Any, ...]
 Reply = Tuple[Any, ...]
 Stage = Tuple[Tuple[Any, ...], Optional[int]]
 GATHERING = ["allOf", "anyOf"]
-MOST_CALLERS, MOST_LANES, MOST_STAGES, MOST_EDGES = 64, 16, 4096, 16384
+COMPOSING = ["compose", "exceptionallyCompose"]
+MOST_CALLERS, MOST_FUNCTIONS, MOST_LANES, MOST_STAGES, MOST_EDGES = 64, 4096, 16, 4096, 16384
 LEAST_GROWTH = 16
 
 
@@ -57,6 +58,13 @@ class Next(NamedTuple):
 
     finished: Optional[str]
     taken: Optional[Taken]
+
+
+class Composed(NamedTuple):
+    """A compose, and its relay below it."""
+
+    relay: int
+    stage: int
 
 
 class Gathered(NamedTuple):
@@ -262,11 +270,41 @@ class Machine:
         self.see_gathered(-1)
         return root
 
-    def attach(self, who: int, form: str, sources: Sequence[int]) -> int:
-        """Attaches a stage without a function, and answers its number. No stage but that one settles."""
-        self.do(("attach", who, form, list(sources), None))
-        self.lanes.append(0)
+    def attach(self, who: int, form: str, sources: Sequence[int], function: Optional[int] = None, lane: int = 0) -> int:
+        """Attaches a stage, and answers its number. No stage but that one settles."""
+        self.do(("attach", who, form, list(sources), function))
+        self.lanes.append(lane)
         return self.stages() - 1
+
+    def compose(self, who: int, form: str, source: int, function: int, lane: int) -> Composed:
+        """Attaches a relay, which is a source, and above it a compose of another stage."""
+        self.check_lane(lane)
+        if form not in COMPOSING:
+            raise Refused("NO_SUCH_NUMBER")
+        self.check_caller(who)
+        if function >= MOST_FUNCTIONS:
+            raise Refused("NO_WORD")
+        self.check_stages(source)
+        if self.state.room < 2:
+            raise Refused("NO_ROOM")
+        relay = self.attach(who, "source", [], None, lane)
+        return Composed(relay, self.attach(who, form, [source], function, lane))
+
+    def link(self, who: int, relay: int, held: Optional[int], stage: int) -> str:
+        """Finishes the compose that the caller holds with any stage: the relay follows that one, and the compose is linked to the relay.
+        It answers how the finish went."""
+        if held is None:
+            raise Refused("NOT_HELD")
+        self.check_caller(who)
+        self.check_stages(held, stage)
+        if relay >= held:
+            raise Refused("NO_STAGE")
+        if self.state.claims[held] != who:
+            raise Refused("NOT_HELD")
+        self.follow(relay, stage)
+        finished: str = self.do(("finish", who, held, ("link", relay)))[1]
+        self.settle_relays(self.own)
+        return finished
 
     def next(self, who: int, lane: int, held: Optional[Tuple[int, Answer]]) -> Next:
         """Finishes what the caller holds, settles relays, and claims the lowest ready stage of the lane."""

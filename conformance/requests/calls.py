@@ -13,8 +13,8 @@ import random_runs
 
 Request = Any  # a `machine.Machine`, or what has the same methods: a `library.Library`
 KINDS = {"next": 36.0, "apply": 26, "pass_to": 5, "deadline": 6, "follow": 8, "rest": 2, "refuse": 2, "ready": 1, "cancel_all": 0.5,
-         "restart": 0.5, "grow": 1, "do_all": 6, "gather": 4}
-OFTEN = ["next", "apply", "pass_to", "deadline", "follow", "rest", "refuse", "gather"]  # one of these comes more often by a seed
+         "restart": 0.5, "grow": 1, "do_all": 6, "gather": 4, "compose": 5, "link": 5}
+OFTEN = ["next", "apply", "pass_to", "deadline", "follow", "rest", "refuse", "gather", "compose", "link"]  # one of these comes more often by a seed
 EVENTS = {"complete": 9, "fail": 2, "failAs": 1.5, "cancel": 1.5, "claim": 2, "finish": 1.5, "tick": 1, "attach": 11, "word": 0.7}
 IN_ONE = {"next": 3, "apply": 5, "follow": 1, "deadline": 1, "pass_to": 0.5, "refuse": 0.1, "cancel_all": 0.05}  # calls of a `do_all`
 FORMS = model.FORMS + ["compose", "compose", "exceptionallyCompose"]  # so that more stages link
@@ -155,6 +155,21 @@ class Draws:
         form = self.rng.choice(FORMS if self.seldom() else machine.GATHERING)
         return who, form, [self.rng.randrange(self.plain.stages()) if self.rng.random() < 0.1 else self.stage() for _ in range(count)]
 
+    def composed(self, who: int) -> Tuple[int, str, int, int, int]:
+        """Who attaches a compose, its form, mostly an open source, its function and its lane."""
+        form = self.rng.choice(FORMS if self.seldom() else machine.COMPOSING)
+        return who, form, self.stage(), self.rng.choice([4095, 4096, 65535]) if self.seldom() else self.rng.randrange(9), self.lane()
+
+    def linked(self, who: int) -> Tuple[int, int, Optional[int], int]:
+        """Who links which compose to which stage, mostly one that it holds, by the source below it, to one that is open and often higher."""
+        forms = [stage.form for stage in self.plain.state.plan.stages]
+        own = [i for i, claimant in enumerate(self.plain.state.claims) if claimant == who]
+        composes = [i for i in own if i and forms[i] in machine.COMPOSING and forms[i - 1] == "source"]
+        if self.seldom():
+            return who, self.stage(), None if self.seldom() else self.stage(), self.stage()
+        held = self.rng.choice(composes or own) if composes or own else self.stage()
+        return who, max(0, held - 1) if self.rng.random() < 0.9 else self.stage(), held, held if self.seldom() else self.stage()
+
     def event(self, who: int) -> Union[int, machine.Event]:
         kind = self.one_of(EVENTS)
         if kind == "word":
@@ -192,6 +207,10 @@ class Draws:
             return who, self.lane(), self.held(who)
         if kind == "gather":
             return self.gathered(who)
+        if kind == "compose":
+            return self.composed(who)
+        if kind == "link":
+            return self.linked(who)
         if kind == "apply":
             return self.event(who), self.lane()
         if kind == "follow":

@@ -17,7 +17,7 @@ sys.path.insert(1, str(Path(__file__).resolve().parents[2] / "clients/python"))
 from cf._library import (CAnswer, CArgs, CHandle, COutcome, CReply, CStage, CTask, CValue, GOT, INT, NIL, NO_FUNCTION,  # noqa: E402
                          PENDING, STRUCTURES, THROWN, VALUE)
 
-TELLING = ["apply", "gather", "next", "follow", "pass_to", "refuse", "cancel_all", "do_all"]  # calls with a row for told stages
+TELLING = ["apply", "gather", "compose", "link", "next", "follow", "pass_to", "refuse", "cancel_all", "do_all"]  # calls with a row for told stages
 LONGEST = 64  # row of told stages
 MARK = 0xA5  # what a row is filled with before a call
 CAUSES = {3: "cancelled", 4: "timeout", 5: "badanswer"}
@@ -43,6 +43,15 @@ class CRequestGathering(c.Structure):
     _fields_ = [("who", c.c_uint8), ("form", c.c_uint32), ("root", c.c_uint16), ("told", c.c_size_t)]
 
 
+class CRequestComposing(c.Structure):
+    _fields_ = [("who", c.c_uint8), ("lane", c.c_uint8), ("form", c.c_uint32), ("source", c.c_uint16), ("function", c.c_uint16),
+                ("relay", c.c_uint16), ("stage", c.c_uint16), ("told", c.c_size_t)]
+
+
+class CRequestLinking(c.Structure):
+    _fields_ = [("who", c.c_uint8), ("relay", c.c_uint16), ("stage", c.c_uint16), ("told", c.c_size_t)]
+
+
 class CRequestStep(c.Structure):
     _fields_ = [("who", c.c_uint8), ("lane", c.c_uint8), ("told", c.c_size_t)]
 
@@ -62,7 +71,7 @@ class CDone(c.Structure):
 
 
 OWN = {"cf_request_sizes": CSizes, "cf_told": CTold, "cf_applied": CApplied, "cf_request_gathering": CRequestGathering,
-       "cf_request_step": CRequestStep, "cf_deadline": CDeadline, "cf_request_call": CCall, "cf_request_done": CDone}
+       "cf_request_composing": CRequestComposing, "cf_request_linking": CRequestLinking, "cf_request_step": CRequestStep, "cf_deadline": CDeadline, "cf_request_call": CCall, "cf_request_done": CDone}
 IN_ONE = ["apply", "next", "follow", "deadline", "pass_to", "refuse", "cancel_all"]  # the calls of cf_request_do by their numbers
 H, P, U8, U16, U32, U64, SIZE = c.POINTER(CHandle), c.POINTER, c.c_uint8, c.c_uint16, c.c_uint32, c.c_uint64, c.c_size_t
 TOLD = [P(CTold), SIZE]
@@ -78,6 +87,8 @@ CALLS: Dict[str, List[Any]] = {
     "cf_request_new": [H, P(CSizes), P(U8), SIZE, H],
     "cf_request_apply": [H, U64, U8, P(CApplied), *TOLD],
     "cf_request_gather": [H, P(CRequestGathering), P(U16), SIZE, *TOLD],
+    "cf_request_compose": [H, P(CRequestComposing), *TOLD],
+    "cf_request_link": [H, P(CRequestLinking), P(CTask), *TOLD],
     "cf_request_next": [H, P(CRequestStep), P(CTask), *TOLD],
     "cf_request_follow": [H, U16, U16, *TOLD, P(SIZE)],
     "cf_request_deadline": [H, U16, U64, U32, CValue],
@@ -306,6 +317,22 @@ class Library:
         before = bytes(step)
         self.checked(C.cf_request_gather(self.request, step, of, len(sources), *self.mark(room)), (step, before))
         return step.root, self.told(step.told, room)
+
+    def compose(self, room: int, who: int, form: str, source: int, function: int, lane: int) -> Tuple[Any, machine.Told]:
+        step = CRequestComposing(who=who, lane=lane, form=histories.FORMS.index(form), source=source, function=function)
+        before = bytes(step)
+        self.checked(C.cf_request_compose(self.request, step, *self.mark(room)), (step, before))
+        return machine.Composed(step.relay, step.stage), self.told(step.told, room)
+
+    def link(self, room: int, who: int, relay: int, held: Optional[int], stage: int) -> Tuple[Any, machine.Told]:
+        step, task = CRequestLinking(who=who, relay=relay, stage=stage), CTask()
+        if held is not None:
+            task = CTask(held=1, stage=held, answer=answer_in(("throw", 7)))
+        before = (step, bytes(step)), (task, bytes(task))
+        self.checked(C.cf_request_link(self.request, step, task, *self.mark(room)), *before)
+        if task.held or task.stage != held:
+            raise Difference("a task doesn't say that its compose is finished")
+        return FINISHES[task.finished], self.told(step.told, room)
 
     def next(self, room: int, who: int, lane: int, held: Optional[Tuple[int, machine.Answer]]) -> Tuple[Any, machine.Told]:
         step, task = CRequestStep(who=who, lane=lane), CTask()

@@ -2,7 +2,7 @@
 from typing import Any, List, Optional, Sequence, Tuple, Union
 
 import model
-from machine import LEAST_GROWTH, Answer, Deadline, Event, Follow, Machine, Next, Outcome, Reply, Taken, Told
+from machine import LEAST_GROWTH, Answer, Composed, Deadline, Event, Follow, Machine, Next, Outcome, Reply, Taken, Told
 
 
 class TheHighestIsTaken(Machine):
@@ -42,6 +42,61 @@ class OneStageFindsNoRoom(Machine):
     def gather(self, who: int, form: str, sources: Sequence[int]) -> int:
         self.check_caller(who)
         return super().gather(who, form, sources[:self.state.room + 1])
+
+
+class NoRelayIsAttached(Machine):
+    def compose(self, who: int, form: str, source: int, function: int, lane: int) -> Composed:
+        composed = super().compose(who, form, source, function, lane)
+        return composed._replace(relay=composed.stage)
+
+
+class AComposeFindsNoRoom(Machine):
+    def compose(self, who: int, form: str, source: int, function: int, lane: int) -> Composed:
+        if self.state.room > 1:
+            return super().compose(who, form, source, function, lane)
+        self.make_room(1)
+        try:
+            return super().compose(who, form, source, function, lane)
+        finally:
+            self.make_room(-1)
+
+
+class AComposeLosesItsLane(Machine):
+    def compose(self, who: int, form: str, source: int, function: int, lane: int) -> Composed:
+        composed = super().compose(who, form, source, function, lane)
+        self.lanes[-1] = 0
+        return composed
+
+
+class TheComposeIsFollowed(Machine):
+    def link(self, who: int, relay: int, held: Optional[int], stage: int) -> str:
+        return super().link(who, relay, held, stage if held is None or self.is_settled(stage) else held)
+
+
+class NobodyFollows(Machine):
+    def link(self, who: int, relay: int, held: Optional[int], stage: int) -> str:
+        follows = list(self.follows)
+        finished = super().link(who, relay, held, stage)
+        self.follows = follows
+        return finished
+
+
+class AnyRelayWillDo(Machine):
+    def link(self, who: int, relay: int, held: Optional[int], stage: int) -> str:
+        return super().link(who, 0 if held is not None and relay >= held else relay, held, stage)
+
+
+class ARefusedLinkFollows(Machine):
+    def link(self, who: int, relay: int, held: Optional[int], stage: int) -> str:
+        if max(relay, stage) < self.stages():
+            self.follow(relay, stage)
+        return super().link(who, relay, held, stage)
+
+
+class ALinkFinishesForAnother(Machine):
+    def link(self, who: int, relay: int, held: Optional[int], stage: int) -> str:
+        claimant = self.state.claims[held] if held is not None and held < self.stages() and who < 64 else None
+        return super().link(who if claimant is None else claimant, relay, held, stage)
 
 
 class RelaysRestBehindAnEvent(Machine):

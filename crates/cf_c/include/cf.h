@@ -60,9 +60,9 @@
  * answer CF_NO_MEMORY if it is refused: cf_builder_new, cf_builder_stage, cf_builder_limit, cf_build, cf_graph_new,
  * cf_plan_of, cf_desk_open, cf_desk_open_with, cf_desk_notice, cf_close_begin, cf_ledger_new, cf_ledger_of,
  * cf_ledger_apply, cf_ledger_step, cf_ledger_apply_all, cf_ledger_grow, cf_request_new, cf_request_apply,
- * cf_request_gather, cf_request_next, cf_request_follow, cf_request_deadline, cf_request_pass, cf_request_refuse,
- * cf_request_cancel_all, cf_request_grow, cf_request_do, cf_history_new, cf_history_times, cf_history_say,
- * cf_history_text and cf_run_script. No other call takes any.
+ * cf_request_gather, cf_request_compose, cf_request_link, cf_request_next, cf_request_follow,
+ * cf_request_deadline, cf_request_pass, cf_request_refuse, cf_request_cancel_all, cf_request_grow, cf_request_do,
+ * cf_history_new, cf_history_times, cf_history_say, cf_history_text and cf_run_script. No other call takes any.
  *
  * Codes. Each call answers a cf_code, except cf_free and the last four calls of this header. The code is CF_OK (0)
  * if the call did what it was asked. The comments list the other codes of each call. If several apply, the call
@@ -1020,6 +1020,55 @@ typedef struct { uint8_t who; uint32_t form; uint16_t root; size_t told; } cf_re
  *   - CF_NO_MEMORY. */
 uint32_t cf_request_gather(cf_handle *request, cf_request_gathering *step, const uint16_t *sources, size_t n, cf_told *told, size_t room);
 
+/* What cf_request_compose is asked, and what it has attached.
+ *   - who: the caller, 0 to 63. Your program writes it.
+ *   - lane: the lane of the compose. Your program writes it.
+ *   - form: CF_COMPOSE or CF_EXCEPTIONALLY_COMPOSE. Your program writes it.
+ *   - source: the stage whose value or fault the compose's function takes. Your program writes it.
+ *   - function: the number of the compose's function, 0 to 4095. Your program writes it.
+ *   - relay, stage: get the numbers of the relay and of the compose.
+ *   - told: gets how many stages there were to tell. */
+typedef struct { uint8_t who; uint8_t lane; uint32_t form; uint16_t source; uint16_t function; uint16_t relay; uint16_t stage; size_t told; } cf_request_composing;
+
+/* Attaches a compose whose function may answer any stage of the request, also one that is attached later. A finish links
+ * to a lower stage only. So this call attaches two stages: a source, which is the compose's relay, and right above it
+ * the compose. cf_request_next claims the compose as any other stage. If its function answers a stage that isn't lower,
+ * finish it by cf_request_link. With any other answer finish it by cf_request_next. The relay stays open then,
+ * and needs nothing.
+ *   - step: as said above.
+ *   - told, room: a row, as said above.
+ *
+ * Codes. Both stages are attached, or none is and nothing changes:
+ *   - CF_NO_LANE: there is no such lane.
+ *   - CF_NO_SUCH_NUMBER: the form is another.
+ *   - CF_NO_WORD: step->who is above 63, or step->function above 4095.
+ *   - CF_NO_STAGE: the source isn't there.
+ *   - CF_NO_ROOM: there isn't room for two stages.
+ *   - CF_NO_MEMORY. */
+uint32_t cf_request_compose(cf_handle *request, cf_request_composing *step, cf_told *told, size_t room);
+
+/* What cf_request_link is asked, and how many stages there were to tell.
+ *   - who: the caller, 0 to 63. Your program writes it.
+ *   - relay: the relay of the compose. Your program writes it.
+ *   - stage: the stage that the compose's function answered. Your program writes it.
+ *   - told: gets how many stages there were to tell. */
+typedef struct { uint8_t who; uint16_t relay; uint16_t stage; size_t told; } cf_request_linking;
+
+/* Finishes the compose that the task holds with a stage of the request, whichever it is. From now on the relay follows
+ * that stage, as by cf_request_follow, and the compose is linked to the relay. A compose that is finished with itself
+ * stays open, and so do composes that are finished with each other.
+ *   - step: as said above.
+ *   - task: it holds the compose. The answer in it isn't looked at. It gets in `finished` how the finish went, and holds
+ *     nothing then.
+ *   - told, room: a row, as said above.
+ *
+ * Codes. All of it is done, or nothing is and nothing changes:
+ *   - CF_NOT_HELD: the task holds nothing, or the caller has no open claim of the stage that it holds.
+ *   - CF_NO_WORD: step->who is above 63.
+ *   - CF_NO_STAGE: the relay, the compose or the stage isn't there, or the relay isn't below the compose.
+ *   - CF_NO_MEMORY. */
+uint32_t cf_request_link(cf_handle *request, cf_request_linking *step, cf_task *task, cf_told *told, size_t room);
+
 /* What cf_request_next is asked, and how many stages there were to tell.
  *   - who: the caller, 0 to 63. Your program writes it.
  *   - lane: the lane in which it works. Your program writes it.
@@ -1241,13 +1290,13 @@ uint32_t cf_code_text(uint32_t code, uint8_t *text, size_t room, size_t *length)
 /* The version of this header. A library of a later version with the same first number has all that stands here,
  * unchanged. */
 #define CF_VERSION_MAJOR 1
-#define CF_VERSION_MINOR 7
+#define CF_VERSION_MINOR 8
 #define CF_VERSION_PATCH 0
 
 /* None of the next four calls answers a cf_code. The texts that they answer are static and end in a zero byte. Your
  * program doesn't free them. */
 
-/* Answers the version of the library, such as "1.7.0". */
+/* Answers the version of the library, such as "1.8.0". */
 const char *cf_version(void);
 
 /* Answers whether a program that was written for this version of the header runs with the library. */

@@ -2,6 +2,7 @@
 ghost use Rattle.cf_c_handles.specs.Building.{kind_of};
 ghost use Rattle.cf_c_handles.specs.Handles.{HandleDoes, HandleOpens, HandleTells, HandleWrites};
 ghost use Rattle.cf_c_handles.specs.RequestCalls.{AppliesIn, CancelsIn, FollowsIn, GoesOnIn, GrowsIn, OfRequest, PassesIn, RefusesIn, RestartsIn, SetsDeadlineIn, TellsIn, TellsNextIn, TellsReadyOf};
+ghost use Rattle.cf_c_handles.specs.RequestComposes.{ComposesIn, LinksIn};
 ghost use Rattle.cf_c_handles.specs.RequestGathers.{GathersIn};
 ghost use Rattle.cf_c_handles.specs.RequestRows.{DoesCallsIn};
 ghost use Rattle.cf_c_handles.specs.Requests.{RequestOf};
@@ -10,11 +11,12 @@ use crate::handle::{ask, tell};
 use cf_c_handles::code::Code;
 use cf_c_handles::handle::{CfHandle, fill};
 use cf_c_handles::plan::kind_of;
-use cf_c_handles::request::{asking, doing, gathering, request_of, row};
+use cf_c_handles::request::{asking, composing, doing, gathering, request_of, row};
 use cf_c_handles::values::CfValue;
 use cf_c_handles::values::call::{CfRequestCall, CfRequestDone};
 use cf_c_handles::values::request::{
-    CfApplied, CfDeadline, CfRequestGathering, CfRequestSizes, CfRequestStep, CfTold,
+    CfApplied, CfDeadline, CfRequestComposing, CfRequestGathering, CfRequestLinking,
+    CfRequestSizes, CfRequestStep, CfTold,
 };
 use cf_c_handles::values::task::CfTask;
 use cf_request::Deadline;
@@ -68,6 +70,33 @@ pub extern "C" fn cf_request_gather(
     ensures { HandleWrites (GathersIn sources.now) h.old h.new result (step.old, told.old) (step.new, told.new) }
 {
     ask!(alloc, h, held => gathering::gather(&mut held, step, sources, told))
+}
+
+/// Attaches a compose with its relay. Then it tells the stages that are settled.
+#[unsafe(no_mangle)]
+pub extern "C" fn cf_request_compose(
+    alloc: Global,
+    h: &mut CfHandle,
+    step: &mut CfRequestComposing,
+    told: &mut [CfTold],
+) -> u32
+    ensures { HandleWrites ComposesIn h.old h.new result (step.old, told.old) (step.new, told.new) }
+{
+    ask!(alloc, h, held => composing::compose(&mut held, step, told))
+}
+
+/// Finishes the compose that a task holds with any stage. Then it tells the stages that are settled.
+#[unsafe(no_mangle)]
+pub extern "C" fn cf_request_link(
+    alloc: Global,
+    h: &mut CfHandle,
+    step: &mut CfRequestLinking,
+    task: &mut CfTask,
+    told: &mut [CfTold],
+) -> u32
+    ensures { HandleWrites LinksIn h.old h.new result (step.old, task.old, told.old) (step.new, task.new, told.new) }
+{
+    ask!(alloc, h, held => composing::link(&mut held, step, task, told))
 }
 
 /// Finishes what a task holds with the answer in it. Then claims the next ready stage of the lane, gives it to the task, and tells the

@@ -18,6 +18,7 @@ pub mod Plans
 pub mod Records
 pub mod Replies
 pub mod RequestCalls
+pub mod RequestComposes
 pub mod RequestGathers
 pub mod RequestRows
 pub mod Requests

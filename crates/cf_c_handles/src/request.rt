@@ -7,6 +7,7 @@ ghost use Rattle.cf_c_handles.specs.RequestCalls.{machine_code};
 ghost use Rattle.cf_c_handles.specs.Requests.{AreBelow, AreLanes, RequestOf, TellsInto, told_in};
 
 pub mod asking;
+pub mod composing;
 pub mod doing;
 pub mod gathering;
 pub mod row;

@@ -1,4 +1,5 @@
 //! Tests of the machine of a request, by its public calls alone. A test is a table of steps, which one loop takes.
 
+mod composes;
 mod machines;
 mod steps;

@@ -1,7 +1,7 @@
 -- Stages that gather others.
-use Rattle.std.proofs.Common.{◌≡◌, ℕ, zero, suc, ◌+◌, ◌-◌, ◌<◌, ◌≤◌, ◌∙◌, ◌&&◌, Bool, cond, true, false, Option, Some, None, List, [], ◌∷◌, ◌++◌, All, drop, get_or, length, length-append, length-drop, map, min, refl, ap, sym, arith, subst, append_assoc, append-nil, replicate, take, take-append-drop}
+use Rattle.std.proofs.Common.{◌≡◌, ℕ, zero, suc, ◌+◌, ◌<◌, ◌≤◌, ◌∙◌, ◌&&◌, Bool, cond, true, false, Option, Some, None, List, [], ◌∷◌, ◌++◌, All, drop, get_or, length, length-drop, map, min, refl, ap, sym, arith, subst, append_assoc, append-nil, replicate, take, take-append-drop}
 use Rattle.std.specs.Prelude.{is_some, option_and_then}
-use Rattle.std.proofs.Math.Nat.{max-eq_left, min-eq_right}
+use Rattle.std.proofs.Math.Nat.{min-eq_right}
 use Rattle.std.specs.List.{list_all}
 use Rattle.std.specs.Option.{option_map}
 use Rattle.std.proofs.lemmas.List.{drop_more, get_or-drop}
@@ -15,40 +15,24 @@ use Rattle.cf_forms.specs.declared.forms.Form.TheVariants as forms
 use Rattle.cf_forms.specs.Forms.{due_of_first, first_fault, first_there}
 use Rattle.cf_forms.specs.declared.forms.Of.{Of}
 use Rattle.cf_forms.specs.declared.forms.Of.TheVariants.{None as NoSource, One, Two}
-use Rattle.cf_forms.specs.Plans.{PlannedStage, attached_stage, fits_form, sources_of}
-use Rattle.cf_forms.proofs.ListLemmas.{slice_get-front, slice_get-seam}
-use Rattle.cf_model.specs.declared.events.Event.{Event}
-use Rattle.cf_model.specs.declared.events.Reply.{Reply}
-use Rattle.cf_model.specs.declared.events.Reply.TheVariants.{Attach as ToldAttach}
-use Rattle.cf_model.specs.declared.replies.Attached.{Attached}
-use Rattle.cf_model.specs.declared.replies.Attached.TheVariants.{At}
+use Rattle.cf_forms.specs.Plans.{fits_form, sources_of}
+use Rattle.cf_forms.proofs.ListLemmas.{slice_get-seam}
 use Rattle.cf_model.specs.declared.stage.Stage.{Stage}
 use Rattle.cf_model.specs.declared.stage.Stage.TheVariants.{Pending}
-use Rattle.cf_model.specs.Events.{answered, attached_by}
 use Rattle.cf_model.specs.Ranges.{EventFits}
-use Rattle.cf_model.specs.States.{State, appended, due_state, flowed, new_states, next_of, outcome_in, outcome_of}
-use Rattle.cf_model.proofs.Closed.{reached_closed, reached_length}
-use Rattle.cf_event.specs.Decoding.{event_of}
-use Rattle.cf_event.specs.Words.{IsEvent, word_of}
-use Rattle.cf_ledger.specs.Ledgers.{HasRoomFor, IsShort, Ledger, LedgerRefuses, state_of}
-use Rattle.cf_ledger.specs.declared.faults.LedgerFault.{LedgerFault}
-use Rattle.cf_ledger.specs.declared.faults.LedgerFault.TheVariants.{NoMemory, NoEvent, NoStage, NoRoom}
-use Rattle.cf_request.specs.Gathering.{GathersAsOne, GathersAtOnce, TellsAttach, TellsAttaches, attaches, first_two, form_of, gathered, gathers, joined, joins, stages_for}
-use Rattle.cf_request.specs.Ready.{with_lane}
-use Rattle.cf_request.specs.Telling.{Teller, Tells, with_memory}
+use Rattle.cf_model.specs.States.{State, due_state, next_of, outcome_in, outcome_of}
+use Rattle.cf_model.proofs.Closed.{reached_length}
+use Rattle.cf_event.specs.Words.{IsEvent}
+use Rattle.cf_ledger.specs.Ledgers.{state_of}
+use Rattle.cf_request.specs.Attaching.{TellsAttach, TellsAttaches}
+use Rattle.cf_request.specs.Gathering.{GathersAsOne, GathersAtOnce, attaches, first_two, form_of, gathered, gathers, joined, joins, stages_for}
+use Rattle.cf_request.specs.Telling.{Teller, with_memory}
 use Rattle.cf_request.specs.declared.gathering.Gathering.{Gathering}
 use Rattle.cf_request.specs.declared.gathering.Gathering.TheVariants.{AllOf, AnyOf}
-use Rattle.cf_request.specs.Machines.{AppliesWord, IsMachine, Machine, free_in, state_in, waiting_in}
-use Rattle.cf_request.specs.Relays.{AreRelays, AreThere, IsRelayDue, NoneBehind, waiting_of}
-use Rattle.cf_request.specs.Rows.{AreCalls, IsCall, nothing}
-use Rattle.cf_request.specs.Rows.IsCall.{applies, is_refused}
-use Rattle.cf_request.specs.declared.deadlines.Deadline.{Deadline}
-use Rattle.cf_request.specs.declared.relays.Follow.{Follow}
-use Rattle.cf_request.proofs.Behind.{stay_word}
-use Rattle.cf_request.proofs.Machines.{free_found, kept_memory, relays_later}
-use Rattle.cf_request.proofs.Memory.{few_relays, relays_stay, spends_word}
-use Rattle.cf_request.proofs.Telling.{next_is}
-use Rattle.cf_request.proofs.Turns.{StaySettled, dues_none, follows_word, keeps_memory, limits_word}
+use Rattle.cf_request.specs.Machines.{Machine, state_in, waiting_in}
+use Rattle.cf_request.specs.Relays.{AreThere, NoneBehind}
+use Rattle.cf_request.specs.Rows.{AreCalls, nothing}
+use Rattle.cf_request.proofs.Attached.{AreAttaches, AttachesRow, attaches_one, calls_attach, outcome_stays, row_of, stages_attached}
 
 -- ---- one stage
 
@@ -63,63 +47,6 @@ event_is who how (Two a b) stages caller few there = (caller, (let l = there 0 0
 
 pub event_fits : (who : ℕ) (how : Gathering) (of : Of) (stages : ℕ) → All (λ i. i < stages) (sources_of of) → EventFits stages (attaches who how of)
 event_fits who how of stages there = (fits how of, there)
-
--- nothing stands against it
-pub none_refused : (s : State) (word free : ℕ) (e : Event) (why : LedgerFault) → event_of word ≡ Some e → EventFits (length s.plan.stages) e → HasRoomFor s e → 0 < free → LedgerRefuses s word why → IsShort free why → ⊥
-none_refused s word free e NoMemory read fit room some refused short = absurd (omega (arith, some, short))
-none_refused s word free e NoEvent read fit room some refused short = cc
-none_refused s word free e NoStage read fit room some (d, is, not) short = not (let same : e ≡ d = cc in subst (λ (x : Event). EventFits (length s.plan.stages) x) same fit)
-none_refused s word free e NoRoom read fit room some (d, is, fits, not) short = not (let same : e ≡ d = cc in subst (λ (x : Event). HasRoomFor s x) same room)
-
-attached_now : (room : ℕ) (s : State) (new : PlannedStage) → 0 < room → attached_by room s new ≡ (At (length s.plan.stages), flowed (appended s new))
-attached_now zero s new l = absurd (omega (arith, l))
-attached_now (suc room) s new l = refl
-
--- the reply and the state that attaching leaves
-answers : (s : State) (who : ℕ) (how : Gathering) (of : Of) → 0 < s.plan.room → let p = attached_stage (form_of how) of None in
-    answered s (attaches who how of) ≡ (ToldAttach (At (length s.plan.stages)), flowed (appended s p))
-answers s who how of l = let p = attached_stage (form_of how) of None in ap (λ (x : Attached × State). (ToldAttach x.0, x.1)) (attached_now s.plan.room s p l)
-
-pub tells_attach : (who : ℕ) (how : Gathering) (of : Of) (word : ℕ) (old new : Teller) (reply : Reply) → word ≡ word_of (attaches who how of) → event_of word ≡ Some (attaches who how of) → 0 < (state_of old.ledger).plan.room →
-    Tells word old reply new → new.lanes ≡ with_lane (length (state_of new.ledger).plan.stages) 0 old.lanes → TellsAttach (attaches who how of) old new
-tells_attach who how of word old new reply is read room tells lanes =
-    let e = attaches who how of in
-    let s = state_of old.ledger in
-    let same : tells.does.event ≡ e = (let was = tells.does.read in cc) in
-    let told : reply ≡ ToldAttach (At (length s.plan.stages)) = ap (λ p. p.0) (tells.does.told ∙ ap (answered s) same ∙ answers s who how of room) in
-    record {
-      read = ap event_of (sym is) ∙ read;
-      tells = subst (λ (w : ℕ). Tells w old (ToldAttach (At (length s.plan.stages))) new) is (subst (λ (r : Reply). Tells word old r new) told tells);
-      lanes = lanes;
-    }
-
--- the state once a stage is attached
-pub state_attached : (who : ℕ) (how : Gathering) (of : Of) (old new : Teller) → 0 < (state_of old.ledger).plan.room → TellsAttach (attaches who how of) old new →
-    state_of new.ledger ≡ flowed (appended (state_of old.ledger) (attached_stage (form_of how) of None))
-state_attached who how of old new room h =
-    let e = attaches who how of in
-    let s = state_of old.ledger in
-    let same : h.tells.does.event ≡ e = (let was = h.tells.does.read in let read = h.read in cc) in
-    next_is old.ledger new.ledger (word_of e) (ToldAttach (At (length s.plan.stages))) h.tells.does ∙ ap (λ (d : Event). (answered s d).1) same ∙ ap (λ p. p.1) (answers s who how of room)
-
--- there is one stage more, and room and memory for one less
-pub record AttachesOne (old new : Teller) : Type 0 where
-  pub count : length (state_of new.ledger).plan.stages ≡ length (state_of old.ledger).plan.stages + 1
-  pub room : (state_of new.ledger).plan.room + 1 ≡ (state_of old.ledger).plan.room
-  pub free : new.ledger.free ≡ old.ledger.free - 1
-
-pub attaches_one : (who : ℕ) (how : Gathering) (of : Of) (old new : Teller) → 0 < (state_of old.ledger).plan.room → TellsAttach (attaches who how of) old new → AttachesOne old new
-attaches_one who how of old new room h =
-    let s = state_of old.ledger in
-    let p = attached_stage (form_of how) of None in
-    let next = state_attached who how of old new room h in
-    let one = length-append s.plan.stages (p ∷ []) in
-    let less = ap (λ (t : State). t.plan.room) next in
-    record {
-      count = ap (λ (t : State). length t.plan.stages) next ∙ one;
-      room = omega (arith, less, room);
-      free = spends_word (word_of (attaches who how of)) old new (ToldAttach (At (length s.plan.stages))) h.tells;
-    }
 
 -- ---- the first two
 
@@ -165,57 +92,19 @@ rest_is (a ∷ []) k is = subst (λ (n : ℕ). drop n (a ∷ []) ≡ drop 2 (a �
 rest_is (a ∷ b ∷ sources) k is = ap (λ (n : ℕ). drop n (a ∷ b ∷ sources)) (is ∙ min-eq_right (omega arith))
 
 -- one source more is joined
-pub joins_then : (who : ℕ) (how : Gathering) (next before : ℕ) (sources : List ℕ) (k : ℕ) (old between end : Teller) → k < length sources → TellsAttach (attaches who how (Two before (get_or sources k 0))) old between →
-    TellsAttaches (joins who how (next + 1) next (drop (k + 1) sources)) between end → TellsAttaches (joins who how next before (drop k sources)) old end
+pub joins_then : (who : ℕ) (how : Gathering) (next before : ℕ) (sources : List ℕ) (k : ℕ) (old between end : Teller) → k < length sources → TellsAttach 0 (attaches who how (Two before (get_or sources k 0))) old between →
+    TellsAttaches 0 (joins who how (next + 1) next (drop (k + 1) sources)) between end → TellsAttaches 0 (joins who how next before (drop k sources)) old end
 joins_then who how next before sources k old between end l first rest =
-    subst (λ (xs : List ℕ). TellsAttaches (joins who how next before xs) old end) (sym (drop_more sources k 0 l)) (between, first, rest)
-
--- ---- the stages that were there stay as they are
-
-push_state : (below : List Stage) (plan : List PlannedStage) (xs : List Stage) (p : PlannedStage) (x : Stage) → length xs ≡ length plan →
-    new_states below (plan ++ p ∷ []) (xs ++ x ∷ []) ≡ new_states below plan xs ++ next_of (below ++ new_states below plan xs) p.form p.sources x ∷ []
-push_state below [] [] p x l = ap (λ b. next_of b p.form p.sources x ∷ []) (sym (append-nil below))
-push_state below [] (y ∷ xs) p x l = absurd (omega arith)
-push_state below (q ∷ plan) [] p x l = absurd (omega arith)
-push_state below (q ∷ plan) (y ∷ xs) p x l =
-    let new = next_of below q.form q.sources y in
-    let rest = push_state (below ++ new ∷ []) plan xs p x (omega arith) in
-    ap (λ r. new ∷ r) (rest ∙ ap (λ b. new_states (below ++ new ∷ []) plan xs ++ next_of b p.form p.sources x ∷ []) (append_assoc below (new ∷ []) (new_states (below ++ new ∷ []) plan xs)))
-
--- one more stage stands behind them, which takes what its sources give
-pub stages_attached : (who : ℕ) (how : Gathering) (of : Of) (old new : Teller) → 0 < (state_of old.ledger).plan.room → TellsAttach (attaches who how of) old new →
-    (state_of new.ledger).stages ≡ (state_of old.ledger).stages ++ next_of (state_of old.ledger).stages (form_of how) (sources_of of) Pending ∷ []
-stages_attached who how of old new room h =
-    let s = state_of old.ledger in
-    let p = attached_stage (form_of how) of None in
-    let closed : new_states [] s.plan.stages s.stages ≡ s.stages = reached_closed old.ledger.plan old.ledger.events in
-    ap (λ (t : State). t.stages) (state_attached who how of old new room h)
-    ∙ push_state [] s.plan.stages s.stages p Pending (reached_length old.ledger.plan old.ledger.events)
-    ∙ ap (λ (xs : List Stage). xs ++ next_of xs p.form p.sources Pending ∷ []) closed
-
-outcome_front : (xs ys : List Stage) (i : ℕ) → i < length xs → outcome_in (xs ++ ys) i ≡ outcome_in xs i
-outcome_front xs ys i l = ap (option_and_then outcome_of) (slice_get-front xs ys i l)
-
-pub outcome_stays : (who : ℕ) (how : Gathering) (of : Of) (old new : Teller) (i : ℕ) → 0 < (state_of old.ledger).plan.room → TellsAttach (attaches who how of) old new → i < length (state_of old.ledger).plan.stages →
-    outcome_in (state_of new.ledger).stages i ≡ outcome_in (state_of old.ledger).stages i
-outcome_stays who how of old new i room h l =
-    let s = state_of old.ledger in
-    let all = reached_length old.ledger.plan old.ledger.events in
-    ap (λ (xs : List Stage). outcome_in xs i) (stages_attached who how of old new room h) ∙ outcome_front s.stages (next_of s.stages (form_of how) (sources_of of) Pending ∷ []) i (omega (arith, all, l))
+    subst (λ (xs : List ℕ). TellsAttaches 0 (joins who how next before xs) old end) (sym (drop_more sources k 0 l)) (between, first, rest)
 
 -- ---- a row of stages
 
--- each event attaches a stage so
-abbrev AreAttaches : ℕ → Gathering → List Event → Type 0
-AreAttaches who how [] = Unit {0}
-AreAttaches who how (e ∷ events) = (of : Of) × (e ≡ attaches who how of) × AreAttaches who how events
-
-joins_are : (who : ℕ) (how : Gathering) (next gathered : ℕ) (sources : List ℕ) → AreAttaches who how (joins who how next gathered sources)
+joins_are : (who : ℕ) (how : Gathering) (next gathered : ℕ) (sources : List ℕ) → AreAttaches (joins who how next gathered sources)
 joins_are who how next gathered [] = tt
-joins_are who how next gathered (a ∷ sources) = (Two gathered a, refl, joins_are who how (next + 1) next sources)
+joins_are who how next gathered (a ∷ sources) = (who, form_of how, Two gathered a, None, refl, joins_are who how (next + 1) next sources)
 
-gathers_are : (who : ℕ) (how : Gathering) (next : ℕ) (sources : List ℕ) → AreAttaches who how (gathers who how next sources)
-gathers_are who how next sources = (first_two sources, refl, joins_are who how (next + 1) next (drop 2 sources))
+gathers_are : (who : ℕ) (how : Gathering) (next : ℕ) (sources : List ℕ) → AreAttaches (gathers who how next sources)
+gathers_are who how next sources = (who, form_of how, first_two sources, None, refl, joins_are who how (next + 1) next (drop 2 sources))
 
 joins_count : (who : ℕ) (how : Gathering) (next gathered : ℕ) (sources : List ℕ) → length (joins who how next gathered sources) ≡ length sources
 joins_count who how next gathered [] = refl
@@ -224,127 +113,21 @@ joins_count who how next gathered (a ∷ sources) = ap suc (joins_count who how 
 pub gathers_count : (who : ℕ) (how : Gathering) (next : ℕ) (sources : List ℕ) → length (gathers who how next sources) ≡ stages_for sources
 gathers_count who how next sources = let size = length-drop 2 sources in let rest = joins_count who how (next + 1) next (drop 2 sources) in omega (arith, size, rest)
 
--- what a row of them does: nothing but that
-pub record AttachesRow (events : List Event) (old new : Teller) : Type 0 where
-  pub count : length (state_of new.ledger).plan.stages ≡ length (state_of old.ledger).plan.stages + length events
-  pub free : old.ledger.free ≤ new.ledger.free + length events
-  pub stays : (i : ℕ) → i < length (state_of old.ledger).plan.stages → outcome_in (state_of new.ledger).stages i ≡ outcome_in (state_of old.ledger).stages i
-  pub settled : StaySettled (state_of old.ledger).stages (state_of new.ledger).stages
-  pub events_are : new.ledger.events ≡ old.ledger.events ++ events
-
-row_same : (t : Teller) → AttachesRow [] t t
-row_same t = record { count = omega arith; free = omega arith; stays = λ i l. refl; settled = λ i h. h; events_are = sym (append-nil t.ledger.events) }
-
-row_of : (who : ℕ) (how : Gathering) (events : List Event) (old new : Teller) → AreAttaches who how events → length events ≤ (state_of old.ledger).plan.room → TellsAttaches events old new → AttachesRow events old new
-row_of who how [] old new are room same = subst (λ (t : Teller). AttachesRow [] old t) (sym same) (row_same old)
-row_of who how (e ∷ events) old new (of, is, are) room (between, first, rest) =
-    let some : 0 < (state_of old.ledger).plan.room = omega (arith, room) in
-    let done = subst (λ (x : Event). TellsAttach x old between) is first in
-    let one = attaches_one who how of old between some done in
-    let left = one.room in
-    let more = row_of who how events between new are (omega (arith, room, left)) rest in
-    let now = one.count in
-    let then = more.count in
-    let spent = one.free in
-    let free = more.free in
-    let same : first.tells.does.event ≡ e = (let was = first.tells.does.read in let read = first.read in cc) in
-    record {
-      count = omega (arith, now, then);
-      free = omega (arith, spent, free);
-      stays = λ i l. more.stays i (omega (arith, l, now)) ∙ outcome_stays who how of old between i some done l;
-      settled = λ i h. more.settled i (stay_word old between (word_of e) (ToldAttach (At (length (state_of old.ledger).plan.stages))) first.tells i h);
-      events_are = more.events_are ∙ ap (λ (l : Ledger). l.events ++ events) first.tells.does.written ∙ ap (λ (x : Event). (old.ledger.events ++ x ∷ []) ++ events) same ∙ append_assoc old.ledger.events (e ∷ []) events;
-    }
-
-pub row_gathers : (who : ℕ) (how : Gathering) (next : ℕ) (sources : List ℕ) (old new : Teller) → stages_for sources ≤ (state_of old.ledger).plan.room → TellsAttaches (gathers who how next sources) old new →
+pub row_gathers : (who : ℕ) (how : Gathering) (next : ℕ) (sources : List ℕ) (old new : Teller) → stages_for sources ≤ (state_of old.ledger).plan.room → TellsAttaches 0 (gathers who how next sources) old new →
     AttachesRow (gathers who how next sources) old new
 row_gathers who how next sources old new room tells =
     let count = gathers_count who how next sources in
-    row_of who how (gathers who how next sources) old new (gathers_are who how next sources) (omega (arith, room, count)) tells
-
--- ---- a machine that gathers
-
--- none is behind where none was
-none_row : (follows : List Follow) (events : List Event) (old new : Teller) → AttachesRow events old new → AreThere (state_of old.ledger) follows → NoneBehind follows (state_of old.ledger).stages →
-    NoneBehind follows (state_of new.ledger).stages
-none_row follows events old new row there none = λ k d l on.
-    let f = get_or follows k d in
-    let relay = row.stays f.relay ((there k d l).0) in
-    let stage = row.stays f.stage ((there k d l).1) in
-    ap is_some relay ∙ none k d l (sym (ap is_some stage) ∙ on)
-
-pub kept_gather : (words : ℕ) (a r b : Teller) (events : List Event) (follows : List Follow) (deadlines : List Deadline) (own : ℕ) (flags : List Bool) (waiting : ℕ) → r ≡ with_memory words a → AttachesRow events r b →
-    IsMachine a follows deadlines own → NoneBehind follows (state_of a.ledger).stages → AreRelays (state_of a.ledger).stages follows flags waiting →
-    IsMachine b follows deadlines own × NoneBehind follows (state_of b.ledger).stages × AreRelays (state_of b.ledger).stages follows flags waiting
-kept_gather words a r b events follows deadlines own flags waiting found row machine none relays =
-    let was = kept_memory words a r follows deadlines own found machine in
-    let count = row.count in
-    let more : length (state_of r.ledger).plan.stages ≤ length (state_of b.ledger).plan.stages = omega (arith, count) in
-    let none_open : NoneBehind follows (state_of r.ledger).stages = subst (λ (t : Teller). NoneBehind follows (state_of t.ledger).stages) (sym found) none in (
-      record { relays = follows_word r.ledger b.ledger follows more was.relays; limits = limits_word r.ledger b.ledger deadlines more was.limits; caller = was.caller },
-      none_row follows events r b row was.relays none_open,
-      relays_later (state_of r.ledger).stages (state_of b.ledger).stages follows flags waiting row.settled (relays_later (state_of a.ledger).stages (state_of r.ledger).stages follows flags waiting (keeps_memory words a r found).settled relays),
-    )
-
--- ---- as calls
-
--- finding memory that is there finds none
-found_none : (t : Teller) (words : ℕ) → words ≤ t.ledger.free → t ≡ with_memory words t
-found_none t words l = sym (ap (λ (n : ℕ). let x : Teller = record t { ledger = record t.ledger { free = n } } in x) (max-eq_left l))
-
--- a stage is attached as by its word alone
-applies_attach : (who : ℕ) (how : Gathering) (of : Of) (m : Machine) (between : Teller) → TellsAttach (attaches who how of) m.teller between → waiting_in m ≤ free_in m → NoneBehind m.follows (state_of between.ledger).stages →
-    AppliesWord (word_of (attaches who how of)) 0 m (ToldAttach (At (length (state_in m).plan.stages))) (record m { teller = between })
-applies_attach who how of m between done enough none =
-    let few = few_relays (state_in m).stages m.follows in
-    record {
-      found = m.teller;
-      finds = record { words = waiting_in m; enough = omega arith; few = omega (arith, few); is = found_none m.teller (waiting_in m) enough };
-      between = between;
-      tells = done.tells;
-      lanes = done.lanes;
-      catches_up = record { settles = dues_none (IsRelayDue m.follows) m.own between; none = none };
-      same = refl;
-    }
-
--- relays that are open
-waiting_less : (follows : List Follow) (old new : Teller) → StaySettled (state_of old.ledger).stages (state_of new.ledger).stages → length (waiting_of (state_of new.ledger).stages follows) ≤ length (waiting_of (state_of old.ledger).stages follows)
-waiting_less follows old new stay = relays_stay follows (state_of old.ledger).stages (state_of new.ledger).stages stay
-
-calls_row : (who : ℕ) (how : Gathering) (events : List Event) (m : Machine) (end : Teller) → AreAttaches who how events → length events ≤ (state_in m).plan.room → length events + waiting_in m ≤ free_in m → AreThere (state_in m) m.follows →
-    NoneBehind m.follows (state_in m).stages → TellsAttaches events m.teller end → AreCalls m (replicate (length events) nothing) (record m { teller = end })
-calls_row who how [] m end are room enough there none same = ap (λ (t : Teller). let x : Machine = record m { teller = t } in x) same
-calls_row who how (e ∷ events) m end (of, is, are) room enough there none (between, first, rest) =
-    let some : 0 < (state_in m).plan.room = omega (arith, room) in
-    let done = subst (λ (x : Event). TellsAttach x m.teller between) is first in
-    let one = attaches_one who how of m.teller between some done in
-    let left = one.room in
-    let spent = one.free in
-    let row = row_of who how (e ∷ []) m.teller between (of, is, tt) (omega (arith, some)) (between, first, refl) in
-    let now = row.count in
-    let none_open = none_row m.follows (e ∷ []) m.teller between row there none in
-    let fewer = waiting_less m.follows m.teller between row.settled in
-    let next : Machine = record m { teller = between } in
-    let call : IsCall m nothing next = applies (word_of (attaches who how of)) 0 (ToldAttach (At (length (state_in m).plan.stages))) refl (applies_attach who how of m between done (omega (arith, enough)) none_open) in
-    (next, call, calls_row who how events next end are (omega (arith, room, left)) (omega (arith, enough, spent, fewer)) (follows_word m.teller.ledger between.ledger m.follows (omega (arith, now)) there) none_open rest)
+    row_of 0 (gathers who how next sources) old new (gathers_are who how next sources) (omega (arith, room, count)) tells
 
 -- memory is found, and then each stage is attached by a call
 pub calls_gather : (who : ℕ) (how : Gathering) (sources : List ℕ) (old : Machine) (found end : Teller) (words : ℕ) → found ≡ with_memory words old.teller → stages_for sources + waiting_in old ≤ found.ledger.free → stages_for sources ≤ (state_in old).plan.room →
-    AreThere (state_in old) old.follows → NoneBehind old.follows (state_in old).stages → TellsAttaches (gathers who how (length (state_in old).plan.stages) sources) found end →
+    AreThere (state_in old) old.follows → NoneBehind old.follows (state_in old).stages → TellsAttaches 0 (gathers who how (length (state_in old).plan.stages) sources) found end →
     AreCalls old (nothing ∷ replicate (stages_for sources) nothing) (record old { teller = end })
 calls_gather who how sources old found end words is enough room there none tells =
     let n = length (state_in old).plan.stages in
-    let events = gathers who how n sources in
     let count = gathers_count who how n sources in
-    let m : Machine = record old { teller = found } in
-    let same : state_in m ≡ state_in old = ap (λ (t : Teller). state_of t.ledger) is in
-    let waits : waiting_in m ≡ waiting_in old = ap (λ (s : State). length (waiting_of s.stages old.follows)) same in
-    let place = ap (λ (s : State). s.plan.room) same in
-    let more = free_found words old.teller found is in
-    let first : IsCall old nothing m = is_refused refl (record { found = more; same = ap (λ (t : Teller). let x : Machine = record old { teller = t } in x) is ∙ sym (ap (λ (k : ℕ). let x : Machine = record old { teller = record old.teller { ledger = record old.teller.ledger { free = k } } } in x) (ap (λ (t : Teller). t.ledger.free) is)) }) in
-    let rest = calls_row who how events m end (gathers_are who how n sources) (omega (arith, count, room, place)) (omega (arith, count, enough, waits)) (subst (λ (s : State). AreThere s old.follows) (sym same) there)
-    (subst (λ (s : State). NoneBehind old.follows s.stages) (sym same) none) tells in
-    (m, first, subst (λ (k : ℕ). AreCalls m (replicate k nothing) (record old { teller = end })) count rest)
+    subst (λ (k : ℕ). AreCalls old (nothing ∷ replicate k nothing) (record old { teller = end })) count
+    (calls_attach 0 (gathers who how n sources) old found end words (gathers_are who how n sources) is (omega (arith, count, enough)) (omega (arith, count, room)) there none tells)
 
 -- ---- as one stage
 
@@ -415,30 +198,30 @@ gathers_as_one how q = joined_all how (take 2 q) (drop 2 q) ∙ ap (gathered how
 outcome_last : (xs : List Stage) (y : Stage) (n : ℕ) → length xs ≡ n → outcome_in (xs ++ y ∷ []) n ≡ outcome_of y
 outcome_last xs y n is = subst (λ (k : ℕ). outcome_in (xs ++ y ∷ []) k ≡ outcome_of y) is (ap (option_and_then outcome_of) (slice_get-seam xs y []))
 
-new_outcome : (who : ℕ) (how : Gathering) (of : Of) (old new : Teller) → 0 < (state_of old.ledger).plan.room → TellsAttach (attaches who how of) old new →
+new_outcome : (who : ℕ) (how : Gathering) (of : Of) (old new : Teller) → 0 < (state_of old.ledger).plan.room → TellsAttach 0 (attaches who how of) old new →
     outcome_in (state_of new.ledger).stages (length (state_of old.ledger).plan.stages) ≡ gathered how (map (outcome_in (state_of old.ledger).stages) (sources_of of))
 new_outcome who how of old new room h =
     let s = state_of old.ledger in
     let y = next_of s.stages (form_of how) (sources_of of) Pending in
     let n = length s.plan.stages in
-    ap (λ (xs : List Stage). outcome_in xs n) (stages_attached who how of old new room h) ∙ outcome_last s.stages y n (reached_length old.ledger.plan old.ledger.events)
+    ap (λ (xs : List Stage). outcome_in xs n) (stages_attached who (form_of how) of None 0 old new room h) ∙ outcome_last s.stages y n (reached_length old.ledger.plan old.ledger.events)
 
 -- the sources have now what they had at first
 record SameFirst (first : List Stage) (count : ℕ) (t : Teller) : Type 0 where
   few : count ≤ length (state_of t.ledger).plan.stages
   same : (i : ℕ) → i < count → outcome_in (state_of t.ledger).stages i ≡ outcome_in first i
 
-first_attach : (who : ℕ) (how : Gathering) (of : Of) (first : List Stage) (count : ℕ) (old new : Teller) → 0 < (state_of old.ledger).plan.room → TellsAttach (attaches who how of) old new → SameFirst first count old → SameFirst first count new
+first_attach : (who : ℕ) (how : Gathering) (of : Of) (first : List Stage) (count : ℕ) (old new : Teller) → 0 < (state_of old.ledger).plan.room → TellsAttach 0 (attaches who how of) old new → SameFirst first count old → SameFirst first count new
 first_attach who how of first count old new room h f =
-    let more = (attaches_one who how of old new room h).count in
+    let more = (attaches_one who (form_of how) of None 0 old new room h).count in
     let few = f.few in
     record {
       few = omega (arith, more, few);
-      same = λ i l. outcome_stays who how of old new i room h (omega (arith, l, few)) ∙ f.same i l;
+      same = λ i l. outcome_stays who (form_of how) of None 0 old new i room h (omega (arith, l, few)) ∙ f.same i l;
     }
 
 join_has : (who : ℕ) (how : Gathering) (next before : ℕ) (sources : List ℕ) (first : List Stage) (count root : ℕ) (v : Option Outcome) (a end : Teller) → next ≡ length (state_of a.ledger).plan.stages → before + 1 ≡ next →
-    outcome_in (state_of a.ledger).stages before ≡ v → All (λ i. i < count) sources → SameFirst first count a → length sources ≤ (state_of a.ledger).plan.room → TellsAttaches (joins who how next before sources) a end →
+    outcome_in (state_of a.ledger).stages before ≡ v → All (λ i. i < count) sources → SameFirst first count a → length sources ≤ (state_of a.ledger).plan.room → TellsAttaches 0 (joins who how next before sources) a end →
     root + 1 ≡ length (state_of end.ledger).plan.stages → outcome_in (state_of end.ledger).stages root ≡ joined how v (map (outcome_in first) sources)
 join_has who how next before [] first count root v a end at last has there f room same is =
     let now = ap (λ (t : Teller). length (state_of t.ledger).plan.stages) same in
@@ -447,7 +230,7 @@ join_has who how next before [] first count root v a end at last has there f roo
 join_has who how next before (x ∷ sources) first count root v a end at last has there f room (between, done, rest) is =
     let some : 0 < (state_of a.ledger).plan.room = omega (arith, room) in
     let of = Two before x in
-    let one = attaches_one who how of a between some done in
+    let one = attaches_one who (form_of how) of None 0 a between some done in
     let more = one.count in
     let left = one.room in
     let source = f.same x (All-head (λ i. i < count) x sources there) in
@@ -482,7 +265,7 @@ gathers_at_once who how sources root old new may h =
     let between = tells.0 in
     let room = may.room in
     let some : 0 < s.plan.room = omega (arith, room, place) in
-    let one = attaches_one who how (first_two sources) a between some done in
+    let one = attaches_one who (form_of how) (first_two sources) None 0 a between some done in
     let more = one.count in
     let left = one.room in
     let size = length-drop 2 sources in

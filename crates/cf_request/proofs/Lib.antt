@@ -11,4 +11,6 @@ pub mod Restarts
 pub mod Rooms
 pub mod Rows
 pub mod Machines
+pub mod Attached
 pub mod Gathered
+pub mod Composes

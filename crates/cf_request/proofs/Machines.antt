@@ -171,7 +171,7 @@ push_by : (b : Bool) (x : Follow) (new old : List Follow) → length new ≤ len
 push_by true x new old l = omega (arith, l)
 push_by false x new old l = l
 
-filter_push : (p : Follow → Bool) (xs : List Follow) (f : Follow) → length (filter p (xs ++ f ∷ [])) ≤ length (filter p xs) + 1
+pub filter_push : (p : Follow → Bool) (xs : List Follow) (f : Follow) → length (filter p (xs ++ f ∷ [])) ≤ length (filter p xs) + 1
 filter_push p [] f = push_first (p f) f
 filter_push p (x ∷ xs) f = push_by (p x) x (filter p (xs ++ f ∷ [])) (filter p xs) (filter_push p xs f)
 

@@ -26,7 +26,7 @@ same_lanes_by true stages lane lanes less same = let l = ltb-true (length lanes.
 same_lanes_by false stages lane lanes less same = refl
 
 -- where all stages have a lane, none is added
-same_lanes : (stages lane : ℕ) (lanes : Lanes) → length lanes.of ≡ stages → with_lane stages lane lanes ≡ lanes
+pub same_lanes : (stages lane : ℕ) (lanes : Lanes) → length lanes.of ≡ stages → with_lane stages lane lanes ≡ lanes
 same_lanes stages lane lanes same = same_lanes_by (nat_lt (length lanes.of) stages) stages lane lanes refl same
 
 pub event_told : (e : Event) (old new : Teller) (reply : Reply) → event_of (word_of e) ≡ Some e → is_attach e ≡ false → HasLanes (state_of old.ledger) old.lanes.of → Tells (word_of e) old reply new →

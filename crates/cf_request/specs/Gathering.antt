@@ -1,5 +1,5 @@
 -- Stages that gather any number of others.
-use Rattle.std.specs.Prelude.{◌≡◌, ℕ, ◌+◌, ◌-◌, ◌<◌, ◌≤◌, Option, None, Some, List, [], ◌∷◌, All, drop, length, map, take}
+use Rattle.std.specs.Prelude.{◌≡◌, ℕ, ◌+◌, ◌-◌, ◌<◌, ◌≤◌, Option, None, List, [], ◌∷◌, All, drop, length, map, take}
 use Rattle.cf_outcome.specs.declared.outcome.Outcome.{Outcome}
 use Rattle.cf_forms.specs.declared.forms.Form.{Form}
 use Rattle.cf_forms.specs.declared.forms.Form.TheVariants as forms
@@ -8,17 +8,12 @@ use Rattle.cf_forms.specs.declared.forms.Of.{Of}
 use Rattle.cf_forms.specs.declared.forms.Of.TheVariants.{None as NoSource, One, Two}
 use Rattle.cf_model.specs.declared.events.Event.{Event}
 use Rattle.cf_model.specs.declared.events.Event.TheVariants.{Attach as Attaches}
-use Rattle.cf_model.specs.declared.events.Reply.TheVariants.{Attach as ToldAttach}
-use Rattle.cf_model.specs.declared.replies.Attached.TheVariants.{At}
 use Rattle.cf_model.specs.States.{State, due_state, outcome_in, outcome_of}
-use Rattle.cf_event.specs.Decoding.{event_of}
-use Rattle.cf_event.specs.Words.{word_of}
-use Rattle.cf_ledger.specs.Ledgers.{state_of}
 use Rattle.cf_ledger.specs.declared.faults.LedgerFault.{LedgerFault}
 use Rattle.cf_ledger.specs.declared.faults.LedgerFault.TheVariants.{NoMemory, NoEvent, NoStage, NoRoom}
+use Rattle.cf_request.specs.Attaching.{TellsAttaches}
 use Rattle.cf_request.specs.Machines.{Finds, Machine, free_in, state_in, waiting_in}
-use Rattle.cf_request.specs.Ready.{with_lane}
-use Rattle.cf_request.specs.Telling.{Teller, Tells}
+use Rattle.cf_request.specs.Telling.{Teller}
 use Rattle.cf_request.specs.declared.gathering.Gathering.{Gathering}
 use Rattle.cf_request.specs.declared.gathering.Gathering.TheVariants.{AllOf, AnyOf}
 
@@ -54,22 +49,11 @@ stages_for sources = 1 + (length sources - 2)
 
 -- ---- what they do
 
--- an event is done by its word, which is read as this event, and attaches the next stage, in lane 0
-pub record TellsAttach (event : Event) (old new : Teller) : Type 0 where
-  pub read : event_of (word_of event) ≡ Some event
-  pub tells : Tells (word_of event) old (ToldAttach (At (length (state_of old.ledger).plan.stages))) new
-  pub lanes : new.lanes ≡ with_lane (length (state_of new.ledger).plan.stages) 0 old.lanes
-
--- these are done so, one after another
-abbrev pub TellsAttaches : List Event → Teller → Teller → Type 0
-TellsAttaches [] old new = new ≡ old
-TellsAttaches (event ∷ events) old new = (between : Teller) × TellsAttach event old between × TellsAttaches events between new
-
 -- memory is found for all of them and for each relay that is open; they are done, and nothing else
 pub record Gathers (who : ℕ) (how : Gathering) (sources : List ℕ) (old : Machine) (root : ℕ) (new : Machine) : Type 0 where
   pub found : Teller
   pub finds : Finds (stages_for sources + waiting_in old) (stages_for sources + length old.follows) old.teller found
-  pub tells : TellsAttaches (gathers who how (length (state_in old).plan.stages) sources) found new.teller
+  pub tells : TellsAttaches 0 (gathers who how (length (state_in old).plan.stages) sources) found new.teller
   pub is_root : root + 1 ≡ length (state_in new).plan.stages
   pub same : new ≡ record old { teller = new.teller }
 

@@ -6,6 +6,8 @@ pub mod Deadlines
 pub mod Lanes
 pub mod Refusals
 pub mod Machines
+pub mod Attaching
 pub mod Gathering
+pub mod Composing
 pub mod Growing
 pub mod Rows

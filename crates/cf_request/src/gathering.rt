@@ -3,15 +3,16 @@
 //! A stage that is attached has at most two sources. So one stage more joins each further source with what is gathered
 //! so far.
 ghost use Rattle.std.specs.Prelude.{◌≡◌, ◌↔◌, ◌+◌, ◌-◌, ◌<◌, ◌≤◌, All, IfErr, IfOk, IsTrue, length};
-ghost use Rattle.cf_event.specs.Words.{IsEvent};
 ghost use Rattle.cf_forms.specs.Plans.{sources_of};
 ghost use Rattle.cf_ledger.specs.Ledgers.{state_of};
-ghost use Rattle.cf_request.specs.Gathering.{MayGather, MayNotGather, TellsAttach, TellsAttaches, attaches, first_two, form_of, gathers, joins, stages_for};
+ghost use Rattle.cf_request.specs.Attaching.{TellsAttach, TellsAttaches};
+ghost use Rattle.cf_request.specs.Gathering.{MayGather, MayNotGather, attaches, first_two, form_of, gathers, joins, stages_for};
 
+use crate::attaching::attach as attach_stage;
 use crate::teller::Teller;
-use cf_event::{LAST_CALLER, encode};
+use cf_event::LAST_CALLER;
 use cf_forms::{Form, Of};
-use cf_ledger::{Event, LedgerFault};
+use cf_ledger::LedgerFault;
 
 /// When a stage over any number of sources settles.
 #[derive(Clone, Copy, Debug, PartialEq, Eq)]
@@ -64,7 +65,7 @@ fn stages_for(sources: &[u16]) -> usize
 pub(crate) fn gather(teller: &mut Teller, who: u8, how: Gathering, sources: &[u16]) -> u16
     requires may { MayGather who sources.now (state_of teller.old.ledger) }
     requires memory { stages_for sources.now ≤ teller.old.ledger.free }
-    ensures tells { TellsAttaches
+    ensures tells { TellsAttaches 0
         (gathers who how (length (state_of teller.old.ledger).plan.stages) sources.now) teller.old teller.new }
     ensures root { result + 1 ≡ length (state_of teller.new.ledger).plan.stages }
 {
@@ -92,7 +93,7 @@ fn join(teller: &mut Teller, who: u8, how: Gathering, before: u16, sources: &[u1
     requires there { All (λ i. i < length (state_of teller.old.ledger).plan.stages) sources.now }
     requires room { length sources.now ≤ (state_of teller.old.ledger).plan.room }
     requires memory { length sources.now ≤ teller.old.ledger.free }
-    ensures tells { TellsAttaches
+    ensures tells { TellsAttaches 0
         (joins who how (length (state_of teller.old.ledger).plan.stages) before sources.now) teller.old teller.new }
     ensures root { result + 1 ≡ length (state_of teller.new.ledger).plan.stages }
 {
@@ -109,25 +110,16 @@ fn attach(teller: &mut Teller, who: u8, how: Gathering, of: Of) -> u16
     requires there { All (λ i. i < length (state_of teller.old.ledger).plan.stages) (sources_of of) }
     requires room { 0 < (state_of teller.old.ledger).plan.room }
     requires memory { 0 < teller.old.ledger.free }
-    ensures tells { TellsAttach (attaches who how of) teller.old teller.new }
+    ensures tells { TellsAttach 0 (attaches who how of) teller.old teller.new }
     ensures at { result ≡ length (state_of teller.old.ledger).plan.stages }
     ensures next { length (state_of teller.new.ledger).plan.stages ≡ result + 1 }
     ensures room { (state_of teller.new.ledger).plan.room + 1 ≡ (state_of teller.old.ledger).plan.room }
     ensures memory { teller.new.ledger.free + 1 ≡ teller.old.ledger.free }
 {
     // No stage's number is above 4,095, and there is a lane 0.
-    let stages = teller.stages();
-    let _known = teller.lanes();
-    let event = Event::Attach {
-        who,
-        form: form_of(how),
-        of,
-        function: None,
-    };
-    match teller.apply(encode(&event), 0) {
-        Ok(_) => stages,
-        Err(_) => unreachable!(),
-    }
+    let _known = teller.stages();
+    let _lanes = teller.lanes();
+    attach_stage(teller, who, form_of(how), of, None, 0)
 }
 
 /// The form of each stage that gathers so.

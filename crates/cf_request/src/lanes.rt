@@ -75,7 +75,7 @@ pub(crate) fn finish_held(teller: &mut Teller, who: u8, held: Option<Held>) -> O
 
 /// Finishes a stage that the caller has claimed, where memory was found for a word.
 #[inline(always)]
-fn finish(teller: &mut Teller, who: u8, held: Held) -> Finish
+pub(crate) fn finish(teller: &mut Teller, who: u8, held: Held) -> Finish
     requires caller { who ≤ 63 }
     requires there { held.stage < length (state_of teller.old.ledger).plan.stages }
     requires held { claim_at (state_of teller.old.ledger) held.stage ≡ Some who }

@@ -15,6 +15,8 @@
 //! settles the relays.
 #![tactic(auto)]
 
+mod attaching;
+mod composing;
 mod deadlines;
 mod faults;
 mod gathering;
@@ -29,6 +31,7 @@ mod settling;
 mod teller;
 
 pub use cf_ledger::{Event, Finish, Held, Ledger, LedgerFault, Reply, StepFault, Taken};
+pub use composing::{Composed, Composing};
 pub use deadlines::Deadline;
 pub use faults::MachineFault;
 pub use gathering::Gathering;

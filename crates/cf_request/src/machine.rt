@@ -1,27 +1,30 @@
 //! The machine.
-ghost use Rattle.std.specs.Prelude.{◌≡◌, ◌+◌, ◌-◌, ◌^◌, ◌<◌, ◌≤◌, ◌++◌, ◌∷◌, [], All, IfErr, IfNone, IfOk, IfSome, None, OnErr, OnOk, drop, length, replicate, take, true};
+ghost use Rattle.std.specs.Prelude.{◌≡◌, ◌+◌, ◌-◌, ◌^◌, ◌<◌, ◌≤◌, ◌++◌, ◌∷◌, [], All, IfErr, IfNone, IfOk, IfSome, None, OnErr, OnOk, Some, drop, length, replicate, take, true};
 ghost use Rattle.cf_forms.specs.Plans.{has_place, with_room};
-ghost use Rattle.cf_model.specs.States.{start};
+ghost use Rattle.cf_model.specs.States.{claim_at, start};
+ghost use Rattle.cf_request.specs.Composing.{Composes, FinishesClaimed, Links, IsNoCompose, IsNoLink, LinksFound, MayLink, composes};
 ghost use Rattle.cf_request.specs.Deadlines.{AreInOrder, Forgets, IsNextOpen, NoneOpen};
 ghost use Rattle.cf_request.specs.Gathering.{Gathers, IsNoGather, gathers, stages_for};
 ghost use Rattle.cf_request.specs.Growing.{Grows, IsNoGrowth};
 ghost use Rattle.cf_request.specs.Lanes.{IsIdle, NoneReadyIn, ready_below};
 ghost use Rattle.cf_request.specs.Ready.{IsLaneCount};
-ghost use Rattle.cf_request.specs.Machines.{AppliesWord, CancelsAll, GoesOn, IsNoCancel, IsNoDeadline, IsNoFollow, IsNoNext, IsNoPass, IsNoWord, OnlyFinds, Passes, Refuses, Restarts, SetsDeadline, SetsFollow, free_in, open_in, state_in};
+ghost use Rattle.cf_request.specs.Machines.{AppliesWord, CancelsAll, Finds, GoesOn, IsNoCancel, IsNoDeadline, IsNoFollow, IsNoNext, IsNoPass, IsNoWord, OnlyFinds, Passes, Refuses, Restarts, SetsDeadline, SetsFollow, free_in, open_in, state_in, waiting_in};
 ghost use Rattle.cf_request.specs.Relays.{NoneBehind};
 ghost use Rattle.cf_request.specs.Rows.{AreCalls, nothing, unclaimed};
 ghost use Rattle.cf_request.specs.Telling.{AreFresh, AreSettled, IsOnce};
 
+use crate::composing::{Composed, Composing, check_composing, check_linking, compose};
 use crate::deadlines::{Deadline, come_by, next_open, pass, set};
 use crate::faults::MachineFault;
 use crate::gathering::{Gathering, check_gathering, gather};
 use crate::growing::room_for;
-use crate::lanes::{check_held, finish_held, is_idle, take};
+use crate::lanes::{check_held, finish, finish_held, is_idle, take};
 use crate::refusals::{Ending, end_all, open_stages};
 use crate::relays::{Follow, catch_up, catch_up_with};
 use crate::teller::Teller;
 use cf_bits::BitSet;
 use cf_event::LAST_CALLER;
+use cf_forms::Answer;
 use cf_ledger::{Finish, Held, Ledger, LedgerFault, Reply, StepFault, Taken};
 use cf_plan::Plan;
 use std::alloc::{AllocError, Global};
@@ -163,6 +166,100 @@ impl Machine {
         let count = check_gathering(&self.teller, who, sources)?;
         self.teller.reserve(count + self.waiting)?;
         Ok(gather(&mut self.teller, who, how, sources))
+    }
+
+    /// A caller attaches a compose with a relay right below it, so that `link` can finish it with any stage. Both
+    /// have the lane. Nothing else is done, and a row of calls that apply these two words does the same. It is refused
+    /// for the first of: its caller's or the function's number, a source that isn't there, the room, memory.
+    pub fn compose(
+        &mut self,
+        who: u8,
+        how: Composing,
+        source: u16,
+        function: u16,
+        lane: u8,
+    ) -> Result<Composed, LedgerFault>
+        requires { lane < self.old.teller.lanes.count }
+        ensures done { IfOk result (λ composed. Composes who how source function lane self.old composed self.new) }
+        ensures written { OnOk result (self.new.teller.ledger.events ≡ self.old.teller.ledger.events
+            ++ composes who how source function) }
+        ensures calls { OnOk result (AreCalls self.old (nothing ∷ nothing ∷ nothing ∷ []) self.new) }
+        ensures refused { OnErr result (self.new ≡ self.old) }
+        ensures why { IfErr result (λ fault. IsNoCompose who source function self.old fault) }
+    {
+        check_composing(&self.teller, who, source, function)?;
+        self.teller.reserve(2 + self.waiting)?;
+        Ok(compose(&mut self.teller, who, how, source, function, lane))
+    }
+
+    /// A caller finishes a compose that it has claimed with any stage, which the compose's function answered: the relay
+    /// follows that stage, and the compose is finished with a link to the relay. A compose that is finished with itself
+    /// stays open, and so do those that are finished with each other. Nothing else is done, and a row of two calls does
+    /// the same. It is refused for the first of: its caller's number; a stage that isn't there, or a relay that isn't
+    /// below the compose; its claim; memory.
+    pub fn link(&mut self, who: u8, composed: Composed, stage: u16) -> Result<Finish, StepFault>
+        ensures done { IfOk result (λ finish. Links who composed stage self.old finish self.new) }
+        ensures calls { OnOk result (AreCalls self.old (nothing ∷ nothing ∷ nothing ∷ []) self.new) }
+        ensures refused { OnErr result (OnlyFinds self.old self.new) }
+        ensures why { IfErr result (λ fault. IsNoLink who composed stage (state_in self.old) fault) }
+    {
+        check_linking(&self.teller, who, composed, stage)?;
+        self.find_two()?;
+        self.link_found(who, composed, stage)
+    }
+
+    /// Finds memory for two words, and for one of each relay that may be open.
+    fn find_two(&mut self) -> Result<(), AllocError>
+        ensures finds { OnOk result
+            (Finds (2 + waiting_in self.old) (2 + length self.old.follows) self.old.teller self.new.teller) }
+        ensures enough { OnOk result (2 + waiting_in self.new ≤ free_in self.new) }
+        ensures same { OnOk result (self.new ≡ record self.old { teller = self.new.teller }) }
+        ensures refused { OnErr result (self.new ≡ self.old) }
+    {
+        self.teller.reserve(2 + self.waiting)?;
+        Ok(())
+    }
+
+    /// Finishes a compose with any stage, where nothing stands against it, and memory was found for both words.
+    fn link_found(&mut self, who: u8, composed: Composed, stage: u16) -> Result<Finish, StepFault>
+        requires may { MayLink who composed stage (state_in self.old) }
+        requires memory { 2 + waiting_in self.old ≤ free_in self.old }
+        ensures done { IfOk result (λ finish. LinksFound who composed stage self.old finish self.new) }
+        ensures refused { OnErr result (OnlyFinds self.old self.new) }
+        ensures why { IfErr result (λ fault. fault ≡ StepFault.NoMemory) }
+    {
+        match self.follow(composed.relay, stage) {
+            Ok(()) => Ok(self.finish_claimed(who, composed)),
+            Err(_) => Err(StepFault::NoMemory),
+        }
+    }
+
+    /// Finishes a compose that the caller has claimed with a link to its relay, where memory was found for a word.
+    fn finish_claimed(&mut self, who: u8, composed: Composed) -> Finish
+        requires caller { who ≤ 63 }
+        requires there { composed.stage < length (state_in self.old).plan.stages }
+        requires relay { composed.relay < composed.stage }
+        requires held { claim_at (state_in self.old) composed.stage ≡ Some who }
+        requires memory { 1 + waiting_in self.old ≤ free_in self.old }
+        ensures { FinishesClaimed who composed self.old result self.new }
+    {
+        // There is a lane for each stage.
+        let _known = self.teller.lanes();
+        let seen = self.teller.told().len();
+        let held = Held {
+            stage: composed.stage,
+            answer: Answer::Link(composed.relay),
+        };
+        let finish = finish(&mut self.teller, who, held);
+        catch_up(
+            &mut self.teller,
+            &self.follows,
+            &self.followed,
+            &mut self.waiting,
+            seen,
+            self.own,
+        );
+        finish
     }
 
     /// What a caller does next: it finishes what it holds, if it holds a stage. Then the relays whose stages are

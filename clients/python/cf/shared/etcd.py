@@ -18,7 +18,7 @@ MOST_ENTRIES = 40  # in a put: a transaction of etcd has 128 operations at most 
 MOST_READS = 100  # of keys, in a transaction
 MOST_GLANCES = 60  # in a transaction: each is two comparisons
 SECONDS = 3  # for an answer
-BETWEEN_CHECKS = 10.0  # seconds between two looks at the keys of open requests that a watch tells of
+BETWEEN_CHECKS = 30.0  # seconds between two looks at the keys of open requests that a watch tells of
 
 
 class Etcd(Store):
@@ -303,10 +303,13 @@ class Etcd(Store):
             return Changes(opened, {}, [it for it in before if it not in born]), self._marked(revision, born)
         if not mark.watch.is_lost and time.monotonic() < mark.checked + BETWEEN_CHECKS:
             return self._watched(mark)
-        checked = self._checked(mark)
-        if checked is None:
-            return self.changes(mark._replace(watch=None))
-        return checked
+        try:
+            checked = self._checked(mark)
+        except Unknown:
+            if mark.watch.is_lost:
+                raise
+            return self._watched(mark._replace(checked=time.monotonic()))  # (it tells still; keys are for later)
+        return checked if checked is not None else self.changes(mark._replace(watch=None))
 
     def _first(self) -> "Optional[Tuple[Changes, _Mark]]":
         """The first open requests, by their keys, where there are many more."""

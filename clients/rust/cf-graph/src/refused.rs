@@ -59,6 +59,7 @@ impl Refused {
     pub const NO_SUCH_STAGE: Refused = Refused(7);
     pub const NO_MEMORY: Refused = Refused(8);
     pub const TOO_MANY_LIMITS: Refused = Refused(9);
+    pub const NO_SUCH_NUMBER: Refused = Refused(13);
     pub const NO_STAGE: Refused = Refused(14);
     pub const BAD_ATTACH: Refused = Refused(15);
     pub const ROOM: Refused = Refused(16);

@@ -95,6 +95,35 @@ fn relays_end_as_what_they_follow() {
     assert_eq!(Event::of_word(last), Ok(Event { who: OWN, call: Call::FailAs(5, Failure::BadAnswer) }));
 }
 
+/// A row of stages is attached, each of which joins one more, or none is.
+#[test]
+fn any_number_of_stages_is_gathered() {
+    let (mut request, mut told) = request(10);
+    for _ in 0..4 {
+        request.apply(source(), 0, &mut told).unwrap();
+    }
+    assert_eq!((request.gather(9, Form::AllOf, &[0, 1, 2, 1], &mut told), told.len()), (Ok(6), 0));
+    let words = request.words().unwrap();
+    let attaches = |of| Ok(Event { who: 9, call: Call::Attach(Form::AllOf, of, None) });
+    assert_eq!(Event::of_word(words[4]), attaches(Of::Two(0, 1)));
+    assert_eq!((words.len(), Event::of_word(words[6])), (7, attaches(Of::Two(5, 1))));
+    assert_eq!(request.gather(0, Form::AnyOf, &[3], &mut told), Ok(7));
+    for (form, who, of, why) in [
+        (Form::Combine, 0, &[0, 1][..], Refused::NO_SUCH_NUMBER),
+        (Form::AllOf, 64, &[0, 1], Refused::NO_WORD),
+        (Form::AllOf, 0, &[0, 10], Refused::NO_STAGE),
+        (Form::AllOf, 0, &[0, 1, 2, 3], Refused::NO_ROOM),
+    ] {
+        assert_eq!((request.gather(who, form, of, &mut told), request.stages()), (Err(why), Ok(8)));
+    }
+    for (stage, settles) in [(1, vec![1]), (0, vec![0, 4]), (3, vec![3, 7]), (2, vec![2, 5, 6])] {
+        request.apply(word(Call::Complete(stage, Value::Int(1))), 0, &mut told).unwrap();
+        assert_eq!(told.iter().map(|(stage, _)| stage).collect::<Vec<_>>(), settles);
+    }
+    assert_eq!((request.gather(0, Form::AnyOf, &[6, 0, 3], &mut told), told.at(1)), (Ok(9), (9, Outcome::Value(Value::Nil))));
+    assert_eq!((request.gather(0, Form::AllOf, &[], &mut told), request.stages()), (Err(Refused::NO_ROOM), Ok(10)));
+}
+
 /// Deadlines come in the order of their moments, and those of one moment in the order in which they were set.
 #[test]
 fn deadlines_come_in_their_order() {

@@ -172,7 +172,7 @@ pub const CF_REPORT: u32 = 4;
 pub const CF_NO_FUNCTION: u32 = u32::MAX;
 pub const CF_NOBODY: u32 = u32::MAX;
 pub const CF_VERSION_MAJOR: u32 = 1;
-pub const CF_VERSION_MINOR: u32 = 7;
+pub const CF_VERSION_MINOR: u32 = 8;
 
 #[repr(C)]
 #[derive(Clone, Copy, Debug, Default, PartialEq, Eq)]
@@ -340,6 +340,28 @@ pub struct cf_request_gathering {
 
 #[repr(C)]
 #[derive(Clone, Copy, Debug, Default, PartialEq, Eq)]
+pub struct cf_request_composing {
+    pub who: u8,
+    pub lane: u8,
+    pub form: u32,
+    pub source: u16,
+    pub function: u16,
+    pub relay: u16,
+    pub stage: u16,
+    pub told: usize,
+}
+
+#[repr(C)]
+#[derive(Clone, Copy, Debug, Default, PartialEq, Eq)]
+pub struct cf_request_linking {
+    pub who: u8,
+    pub relay: u16,
+    pub stage: u16,
+    pub told: usize,
+}
+
+#[repr(C)]
+#[derive(Clone, Copy, Debug, Default, PartialEq, Eq)]
 pub struct cf_request_step {
     pub who: u8,
     pub lane: u8,
@@ -464,6 +486,8 @@ extern "C" {
     pub fn cf_request_new(plan: *mut cf_handle, sizes: *const cf_request_sizes, lanes: *const u8, n: usize, request: *mut cf_handle) -> u32;
     pub fn cf_request_apply(request: *mut cf_handle, word: u64, lane: u8, applied: *mut cf_applied, told: *mut cf_told, room: usize) -> u32;
     pub fn cf_request_gather(request: *mut cf_handle, step: *mut cf_request_gathering, sources: *const u16, n: usize, told: *mut cf_told, room: usize) -> u32;
+    pub fn cf_request_compose(request: *mut cf_handle, step: *mut cf_request_composing, told: *mut cf_told, room: usize) -> u32;
+    pub fn cf_request_link(request: *mut cf_handle, step: *mut cf_request_linking, task: *mut cf_task, told: *mut cf_told, room: usize) -> u32;
     pub fn cf_request_next(request: *mut cf_handle, step: *mut cf_request_step, task: *mut cf_task, told: *mut cf_told, room: usize) -> u32;
     pub fn cf_request_follow(request: *mut cf_handle, relay: u16, stage: u16, told: *mut cf_told, room: usize, n: *mut usize) -> u32;
     pub fn cf_request_deadline(request: *mut cf_handle, stage: u16, moment: u64, kind: u32, value: cf_value) -> u32;
@@ -523,6 +547,8 @@ pub fn mismatch() -> Option<&'static str> {
         known!(cf_request_sizes: room lanes own),
         known!(cf_applied: reply told),
         known!(cf_request_gathering: who form root told),
+        known!(cf_request_composing: who lane form source function relay stage told),
+        known!(cf_request_linking: who relay stage told),
         known!(cf_request_step: who lane told),
         known!(cf_deadline: stage moment kind value),
         known!(cf_request_call: call who lane stage relay code word moment kind value reply task),

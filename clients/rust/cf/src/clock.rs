@@ -37,6 +37,12 @@ pub trait Clock: Send + Sync + 'static {
     /// Rings the alarm after a while. It must not ring it before it returns. A request asks for one alarm at a time, up to the first of its
     /// timeouts, and for an earlier one where an earlier timeout comes; the one before isn't wanted any more then ([`Alarm::is_wanted`]).
     fn after(&self, wait: Duration, alarm: Alarm);
+
+    /// Whether it is the computer's own, which requests read by themselves.
+    #[doc(hidden)]
+    fn is_system(&self) -> bool {
+        false
+    }
 }
 
 /// The next timeout of a request, which a [`Clock`] rings. It keeps no request alive. If one is dropped that is wanted, the stages of its request
@@ -133,6 +139,10 @@ impl Clock for SystemClock {
     #[inline]
     fn now(&self) -> Duration {
         begun().elapsed()
+    }
+
+    fn is_system(&self) -> bool {
+        true
     }
 
     fn after(&self, wait: Duration, alarm: Alarm) {

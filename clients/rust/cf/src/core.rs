@@ -20,7 +20,7 @@ use std::panic::{catch_unwind, resume_unwind, AssertUnwindSafe};
 use std::sync::atomic::{AtomicBool, AtomicUsize, Ordering};
 use std::sync::{Arc, Mutex, MutexGuard, PoisonError, TryLockError};
 use std::task::{Poll, Waker};
-use std::time::Duration;
+use std::time::{Duration, Instant};
 
 pub(crate) struct Core {
     pub(crate) name: Box<str>,
@@ -31,6 +31,8 @@ pub(crate) struct Core {
     most: usize,
     clock: Arc<dyn Clock>,
     begun: Duration,
+    /// The same where the clock is the computer's.
+    begun_at: Option<Instant>,
     inner: Mutex<Inner>,
     /// Jobs that rest in a function that waits.
     resting: AtomicUsize,
@@ -48,8 +50,10 @@ impl Core {
     pub(crate) const TURN: usize = 64;
 
     pub(crate) fn new(name: Box<str>, spawn: Arc<dyn Spawn>, clock: Arc<dyn Clock>, room: u16) -> Result<Arc<Core>, Refusal> {
-        let (place, most, begun, inner) = (spawn.id(), spawn.parallelism().max(1), clock.now(), Mutex::new(Inner::new(room)?));
-        Ok(Arc::new(Core { name, spawn, place, most, clock, begun, inner, resting: AtomicUsize::new(0), has_helpers: AtomicBool::new(false) }))
+        let (place, most, inner) = (spawn.id(), spawn.parallelism().max(1), Mutex::new(Inner::new(room)?));
+        let (begun, begun_at) = if clock.is_system() { (Duration::ZERO, Some(Instant::now())) } else { (clock.now(), None) };
+        let (resting, has_helpers) = (AtomicUsize::new(0), AtomicBool::new(false));
+        Ok(Arc::new(Core { name, spawn, place, most, clock, begun, begun_at, inner, resting, has_helpers }))
     }
 
     /// No code of a user runs under the lock, so what a panic leaves behind it is whole.
@@ -74,7 +78,7 @@ impl Core {
         let mut after = After::nothing();
         let now = self.now();
         let mut inner = self.lock();
-        inner.ledger.now = now.max(inner.ledger.now);
+        inner.ledger.record.go_on(now);
         let done = act(&mut inner, &mut after);
         inner.cancel_relays(&mut after);
         inner.hire(self.most(), false, &mut after);
@@ -91,8 +95,10 @@ impl Core {
     /// Nanoseconds since the request began. A clock may be a user's, so it isn't asked under the lock, and one that panics tells nothing: the
     /// time is that of the call before then.
     pub(crate) fn now(&self) -> u64 {
-        let told = catch_unwind(AssertUnwindSafe(|| self.clock.now())).unwrap_or_default();
-        let since = told.saturating_sub(self.begun);
+        let since = match self.begun_at {
+            Some(begun) => begun.elapsed(),
+            None => catch_unwind(AssertUnwindSafe(|| self.clock.now())).unwrap_or_default().saturating_sub(self.begun),
+        };
         since.as_secs().saturating_mul(1_000_000_000).saturating_add(u64::from(since.subsec_nanos()))
     }
 
@@ -226,9 +232,15 @@ impl Core {
         drop(back);
     }
 
-    /// Cancels all that isn't settled.
+    /// Cancels all that isn't settled, from the last stage to the first.
     pub(crate) fn cancel_all(self: &Arc<Core>, who: u8) {
-        self.change(|inner, after| inner.cancel_all(who, after));
+        self.change(|inner, after| {
+            for stage in (0..inner.ledger.stages).rev() {
+                if !inner.slot(stage).is_settled() {
+                    let _ = inner.settle(who, stage, Err(Error::Cancelled), after);
+                }
+            }
+        });
     }
 
     // Waiting.
@@ -255,7 +267,7 @@ impl Core {
         let old = match *place {
             Some(place) => inner.waiting.replace(place, waker),
             None => {
-                *place = Some(inner.waiting.keep(&mut inner.slots[usize::from(stage)].waits, waker));
+                *place = Some(inner.waiting.keep(stage, waker));
                 None
             }
         };
@@ -266,11 +278,9 @@ impl Core {
 
     /// Forgets the waker of a handle.
     pub(crate) fn forget(&self, stage: u16, place: u32) {
-        let mut held = self.lock();
-        let inner = &mut *held;
-        let slot = &mut inner.slots[usize::from(stage)];
-        let old = if slot.is_settled() { None } else { inner.waiting.forget(&mut slot.waits, place) };
-        drop(held);
+        let mut inner = self.lock();
+        let old = if inner.slot(stage).is_settled() { None } else { inner.waiting.forget(stage, place) };
+        drop(inner);
         drop(old);
     }
 
@@ -289,7 +299,7 @@ impl Core {
         loop {
             let now = self.now();
             let mut inner = self.lock();
-            inner.ledger.now = now.max(inner.ledger.now);
+            inner.ledger.record.go_on(now);
             let next = match (ended.take(), left) {
                 (Some((stage, gave)), 0) => {
                     inner.finish(self, who, stage, gave, &mut after);

@@ -5,13 +5,12 @@ use crate::describe::{escaped, short, Describe};
 use crate::error::Error;
 #[cfg(feature = "serde")]
 use crate::json::Json;
-use crate::ledger::{comes_again, tale};
-use crate::name::Made;
-use crate::record::{Item, Record};
+use crate::ledger::{comes_again, done_again, tale, Replied};
+use crate::record::Record;
 use crate::spawn::{CALLER, CLOCK, FIRST_WORKER, RELAY};
 use crate::value::Val;
 use crate::word::{self, ATTACH, COMPLETE, FAIL, FINISH, SOME, THROWS};
-use cf_graph::{Cause, Finished, Outcome, Refused, Reply, Said, Telling};
+use cf_graph::{Cause, Finished, Refused, Reply, Said, Telling};
 use std::ffi::OsStr;
 use std::fmt;
 use std::io::{self, Write as _};
@@ -71,9 +70,6 @@ impl<T> Kept<T> {
     }
 }
 
-/// Of an event its word, what it was answered, and what it settled.
-pub(crate) type Replied = (u64, Reply, Vec<(u16, Outcome)>);
-
 impl History {
     pub(crate) fn of(core: &Core) -> History {
         let (history, describe) = History::taken(core);
@@ -87,10 +83,11 @@ impl History {
         let words = inner.ledger.words();
         let record = inner.ledger.record.clone();
         let slots = inner.slots.iter();
-        let (made, kept): (Vec<_>, Vec<_>) = slots.map(|slot| (slot.made, (slot.value().cloned(), slot.error().cloned()))).unzip();
+        let (of, kept): (Vec<u16>, Vec<_>) = slots.map(|slot| (slot.made, (slot.value().cloned(), slot.error().cloned()))).unzip();
+        let made = inner.made.clone();
         let (given, relays, describe) = (inner.names.clone(), inner.ledger.relays.clone(), inner.describe.clone());
         drop(inner);
-        let mut names: Vec<String> = made.iter().map(Made::to_string).collect();
+        let mut names: Vec<String> = of.into_iter().map(|of| made[usize::from(of)].to_string()).collect();
         given.into_iter().for_each(|(stage, name)| names[usize::from(stage)] = name.into_owned());
         let (values, errors) = kept.into_iter().unzip();
         let (values, errors) = (Kept::all(values), Kept::all(errors));
@@ -116,15 +113,9 @@ impl History {
         self.since
     }
 
+    /// What the events are answered, and what they settle, as they are done again.
     pub(crate) fn replies(&self) -> Vec<Replied> {
-        let mut replies: Vec<Replied> = Vec::with_capacity(self.words.len());
-        for item in self.record.items() {
-            match item {
-                Item::Event(_, reply) => replies.push((self.words[replies.len()], reply, Vec::new())),
-                Item::Told(stage, outcome) => replies.last_mut().expect("an event settled it").2.push((stage, outcome)),
-            }
-        }
-        replies
+        done_again(&self.words, self.names.len() as u16).expect("memory for a ledger")
     }
 
     /// The stages for which relays stand.
@@ -166,10 +157,7 @@ impl History {
     /// assert_eq!(shipment.history().times().count(), 3);
     /// ```
     pub fn times(&self) -> impl Iterator<Item = Duration> + '_ {
-        self.record.items().filter_map(|item| match item {
-            Item::Event(at, _) => Some(Duration::from_nanos(at)),
-            Item::Told(..) => None,
-        })
+        self.record.times().map(Duration::from_nanos)
     }
 
     /// The names of stages, by their numbers.
@@ -304,7 +292,7 @@ impl History {
 
     fn try_told(&self, telling: Telling) -> Result<String, Refused> {
         let is_for_people = matches!(telling, Telling::Lines | Telling::Line);
-        let words = if is_for_people { self.words_apart() } else { self.words.clone() };
+        let words = if is_for_people { self.words_apart()? } else { self.words.clone() };
         let mut tale = tale(&words, self.names.len() as u16)?;
         if matches!(telling, Telling::Script | Telling::Report) {
             return tale.text(telling);
@@ -321,13 +309,9 @@ impl History {
 
     /// The words, of which those that came too late name no value and no error of a stage, since nobody keeps theirs: the number in them is the one
     /// behind those of all stages. What settles a relay of this request is a relay's, though the machine does it as the clock.
-    fn words_apart(&self) -> Vec<u64> {
+    fn words_apart(&self) -> Result<Vec<u64>, Refused> {
         let lost = self.names.len() as u64;
-        let replies = self.record.items().filter_map(|item| match item {
-            Item::Event(_, reply) => Some(reply),
-            Item::Told(..) => None,
-        });
-        let apart = |(&word, reply)| {
+        let apart = |(word, reply, _): Replied| {
             let parts = word::parts(word);
             let is_kept = !matches!(reply, Reply::Flag(false) | Reply::Finished(Finished::Late | Finished::NotYours));
             match (parts.kind, parts.tag) {
@@ -347,7 +331,7 @@ impl History {
                 word
             }
         };
-        self.words.iter().zip(replies).map(apart).map(by_relay).collect()
+        Ok(done_again(&self.words, self.names.len() as u16)?.into_iter().map(apart).map(by_relay).collect())
     }
 }
 

@@ -22,6 +22,7 @@ use std::borrow::Cow;
 use std::cell::RefCell;
 use std::collections::BTreeMap;
 use std::mem::{replace, take};
+use std::ops::Range;
 use std::sync::{Arc, Weak};
 use std::task::Waker;
 use std::time::Duration;
@@ -32,6 +33,8 @@ pub(crate) const SLOTS: u16 = 64;
 pub(crate) struct Inner {
     pub(crate) ledger: Ledger,
     pub(crate) slots: Vec<Slot>,
+    /// What histories call stages that were given no name. Stages that were made one after another in the same way share one.
+    pub(crate) made: Vec<Made>,
     /// The names that were given to stages.
     pub(crate) names: BTreeMap<u16, Cow<'static, str>>,
     /// What histories tell of values and errors.
@@ -51,6 +54,8 @@ pub(crate) struct Inner {
     extras: BTreeMap<u16, Extra>,
     /// Relays that are of no use any more, and are to be cancelled before the lock is free.
     letting: Vec<u16>,
+    /// Deadlines, by their stages; those of one stage in the order in which they were set. Those of settled stages go once no other one is left.
+    limits: Vec<Limit>,
     pub(crate) awaited: Awaited,
 }
 
@@ -94,7 +99,8 @@ impl Awaited {
 }
 
 /// A deadline of a stage, and what the stage gets then: a value, or that its time ran out after this while.
-struct Limit {
+pub(crate) struct Limit {
+    stage: u16,
     moment: u64,
     wait: Duration,
     gives: Option<Val>,
@@ -109,11 +115,10 @@ pub(crate) struct Extra {
     pub(crate) of: Option<(Weak<Core>, u16)>,
     /// Relays that are of no use once it is settled.
     lets_go: Vec<u16>,
-    limits: Vec<Limit>,
 }
 
 /// What a request holds that may have other requests.
-pub(crate) struct Kept(#[allow(dead_code)] Vec<Slot>, #[allow(dead_code)] BTreeMap<u16, Extra>);
+pub(crate) struct Kept(#[allow(dead_code)] Vec<Slot>, #[allow(dead_code)] BTreeMap<u16, Extra>, #[allow(dead_code)] Vec<Limit>);
 
 impl Kept {
     pub(crate) fn is_empty(&self) -> bool {
@@ -176,6 +181,7 @@ impl Inner {
         Ok(Inner {
             ledger: Ledger::new(room)?,
             slots: Vec::with_capacity(usize::from(room.min(SLOTS))),
+            made: Vec::new(),
             names: BTreeMap::new(),
             describe: crate::describe::Describe::All,
             ending: None,
@@ -186,6 +192,7 @@ impl Inner {
             is_more: false,
             extras: BTreeMap::new(),
             letting: Vec::new(),
+            limits: Vec::new(),
             awaited: Awaited::nothing(),
         })
     }
@@ -196,10 +203,11 @@ impl Inner {
     }
 
     pub(crate) fn name(&self, stage: u16) -> String {
-        self.names.get(&stage).map_or_else(|| self.slots[usize::from(stage)].made.to_string(), |name| name.to_string())
+        self.names.get(&stage).map_or_else(|| self.made[usize::from(self.slots[usize::from(stage)].made)].to_string(), |name| name.to_string())
     }
 
     pub(crate) fn extra(&mut self, stage: u16) -> &mut Extra {
+        self.slots[usize::from(stage)].has_extra = true;
         self.extras.entry(stage).or_default()
     }
 
@@ -248,10 +256,16 @@ impl Inner {
     // Changes.
 
     pub(crate) fn attach(&mut self, who: u8, form: Form, of: &[u16], call: Option<Call>, made: Made, after: &mut After) -> Result<u16, Refusal> {
+        // Nothing can come of a stage now that has no function, or sources none of which is settled.
+        let waits = match of {
+            [] => call.is_none(),
+            of => !of.iter().any(|source| self.slots[usize::from(*source)].is_settled()),
+        };
         match self.ledger.attach(who, form, of, call.is_some(), &mut after.told) {
             Ok(stage) => {
+                let made = self.made(made);
                 self.slots.push(Slot::new(made, call));
-                self.is_more |= of.is_empty() || of.iter().any(|source| self.slots[usize::from(*source)].is_settled());
+                self.is_more |= !waits;
                 self.show(after);
                 Ok(stage)
             }
@@ -262,11 +276,22 @@ impl Inner {
         }
     }
 
+    /// The place of what a stage is called, which may be that of one of the stages before.
+    #[inline]
+    fn made(&mut self, made: Made) -> u16 {
+        let lately = self.made.iter().enumerate().rev().take(4);
+        let at = lately.into_iter().find(|(_, other)| other.is(made)).map_or(self.made.len(), |(at, _)| at);
+        if at == self.made.len() {
+            self.made.push(made);
+        }
+        at as u16
+    }
+
     /// Attaches a row of stages, of which the last is given. Each is attached by an event, which settles no other one.
     pub(crate) fn gather(&mut self, who: u8, form: cf_graph::Form, of: &[u16], made: Made, after: &mut After) -> Result<u16, Refusal> {
         let first = self.ledger.stages;
         let root = self.ledger.gather(who, form, of, &mut after.told)?;
-        let (mut hangs, mut shown) = (Hangs::new(), 0);
+        let (made, mut hangs, mut shown) = (self.made(made), Hangs::new(), 0);
         for stage in first..=root {
             self.slots.push(Slot::new(made, None));
             self.ledger.gathered(stage);
@@ -276,12 +301,6 @@ impl Inner {
             }
         }
         Ok(root)
-    }
-
-    /// Cancels all that isn't settled: each stage by an event of its own, but for those that end as one that is cancelled.
-    pub(crate) fn cancel_all(&mut self, who: u8, after: &mut After) {
-        self.ledger.cancel_all(who, &mut after.told);
-        self.show_by(after, |_, _, outcome, _| outcome == Outcome::Fault { cause: Cause::Cancelled, wrapped: false });
     }
 
     pub(crate) fn settle(&mut self, who: u8, stage: u16, with: Result<Val, Error>, after: &mut After) -> Result<(), Result<Val, Error>> {
@@ -342,7 +361,7 @@ impl Inner {
         let mut hangs = Hangs::new();
         for at in 0..after.told.len() {
             let (stage, outcome) = after.told.at(at);
-            if self.ledger.followed(stage).is_some() || has_event(self, stage, outcome, after) {
+            if self.slots[usize::from(stage)].follows || has_event(self, stage, outcome, after) {
                 self.ledger.settled();
             }
             self.settled(stage, outcome, &mut hangs, after);
@@ -363,12 +382,10 @@ impl Inner {
         if let Held::Call(_) = slot.held {
             after.dropped.push(replace(&mut slot.held, Held::Nothing));
         }
-        if slot.waits > 0 {
-            self.waiting.take(&mut slot.waits, &mut after.wakers);
-        }
-        if !self.extras.is_empty() {
+        if slot.has_extra {
             self.settled_extra(stage, after);
         }
+        self.waiting.take(stage, &mut after.wakers);
     }
 
     /// From which stage the time-out or the bad answer came that this one is settled with, since the ledger has no code for it: from this one, where
@@ -388,15 +405,12 @@ impl Inner {
     }
 
     fn settled_extra(&mut self, stage: u16, after: &mut After) {
-        let extra = self.extras.remove(&stage).unwrap_or_default();
+        self.forget_limits(stage, after);
+        let extra = match self.extras.remove(&stage) {
+            Some(extra) => extra,
+            None => return,
+        };
         after.tasks.extend(extra.task);
-        if !extra.limits.is_empty() {
-            after.dropped.extend(extra.limits.into_iter().filter_map(|limit| limit.gives).map(Held::Value));
-            self.awaited.stages -= 1;
-            if self.awaited.stages == 0 {
-                self.awaited.stop(after);
-            }
-        }
         self.letting.extend(extra.lets_go);
         after.ends.extend(extra.of.map(|(of, number)| (of, number, stage)));
         for (to, relay) in extra.feeds {
@@ -407,6 +421,13 @@ impl Inner {
     /// Cancels relays that are of no use any more.
     #[inline]
     pub(crate) fn cancel_relays(&mut self, after: &mut After) {
+        if !self.letting.is_empty() {
+            self.cancel_all_relays(after);
+        }
+    }
+
+    #[cold]
+    fn cancel_all_relays(&mut self, after: &mut After) {
         while let Some(relay) = self.letting.pop() {
             if !self.slot(relay).is_settled() {
                 let _ = self.settle(RELAY, relay, Err(Error::Cancelled), after);
@@ -429,14 +450,34 @@ impl Inner {
         if self.slot(stage).is_settled() {
             return gives;
         }
-        let moment = u64::try_from(wait.as_nanos()).map_or(NEVER, |wait| self.ledger.now.saturating_add(wait));
+        let moment = u64::try_from(wait.as_nanos()).map_or(NEVER, |wait| self.ledger.record.now().saturating_add(wait));
         self.ledger.deadline(stage, moment, gives.is_some());
-        let limits = &mut self.extra(stage).limits;
-        let is_first = limits.is_empty();
-        limits.push(Limit { moment, wait, gives });
-        self.awaited.stages += u16::from(is_first);
+        let others = self.limits_of(stage);
+        self.awaited.stages += u16::from(others.is_empty());
+        self.limits.insert(others.end, Limit { stage, moment, wait, gives });
+        self.slot(stage).has_extra = true;
         self.await_alarm(moment, after);
         None
+    }
+
+    /// The places of a stage's deadlines.
+    fn limits_of(&self, stage: u16) -> Range<usize> {
+        let first = self.limits.partition_point(|limit| limit.stage < stage);
+        first..first + self.limits[first..].iter().take_while(|limit| limit.stage == stage).count()
+    }
+
+    /// A stage is settled, and needs none of its deadlines any more.
+    fn forget_limits(&mut self, stage: u16, after: &mut After) {
+        let limits = self.limits_of(stage);
+        if limits.is_empty() {
+            return;
+        }
+        after.dropped.extend(self.limits[limits].iter_mut().filter_map(|limit| limit.gives.take()).map(Held::Value));
+        self.awaited.stages -= 1;
+        if self.awaited.stages == 0 {
+            self.limits.clear();
+            self.awaited.stop(after);
+        }
     }
 
     /// Has the clock asked for an alarm at a moment, unless it is to ring one before.
@@ -445,7 +486,7 @@ impl Inner {
             self.awaited.stop(after);
             self.awaited.number += 1;
             self.awaited.moment = moment;
-            let wait = Duration::from_nanos(moment.saturating_sub(self.ledger.now));
+            let wait = Duration::from_nanos(moment.saturating_sub(self.ledger.record.now()));
             after.alarm = Some((self.awaited.number, wait));
         }
     }
@@ -470,8 +511,8 @@ impl Inner {
             Outcome::Fault { cause: Cause::TimedOut, wrapped: false } => false,
             _ => return false,
         };
-        let limits = self.extras.get_mut(&stage).map(|extra| &mut extra.limits);
-        let of_its_kind = limits.into_iter().flatten().filter(|limit| limit.gives.is_some() == gives);
+        let limits = self.limits_of(stage);
+        let of_its_kind = self.limits[limits].iter_mut().filter(|limit| limit.gives.is_some() == gives);
         // The first of those that were set for one moment.
         let held = of_its_kind.min_by_key(|limit| limit.moment).map(|limit| match limit.gives.take() {
             Some(value) => Held::Value(value),
@@ -490,7 +531,7 @@ impl Inner {
             return;
         }
         self.awaited.stop(after);
-        let limited: Vec<u16> = self.extras.iter().filter(|(_, extra)| !extra.limits.is_empty()).map(|(stage, _)| *stage).collect();
+        let limited: Vec<u16> = self.limits.iter().map(|limit| limit.stage).collect();
         for stage in limited {
             if !self.slot(stage).is_settled() {
                 let _ = self.settle(CLOCK, stage, Err(Refusal::NoClock.into()), after);
@@ -650,6 +691,7 @@ impl Inner {
             return;
         }
         self.names.insert(target, format!("relay of {number}").into());
+        self.slot(target).follows = true;
         self.ledger.follow(target, number, &mut after.told);
         self.show(after);
     }
@@ -660,9 +702,12 @@ impl Inner {
     pub(crate) fn hire(&mut self, most: usize, begins: bool, after: &mut After) {
         let is_more = take(&mut self.is_more);
         let may_hire = self.jobs < most;
-        if !is_more && !begins || !may_hire && self.helpers.is_empty() {
-            return;
+        if (is_more || begins) && (may_hire || !self.helpers.is_empty()) {
+            self.hire_one(is_more, may_hire, after);
         }
+    }
+
+    fn hire_one(&mut self, is_more: bool, may_hire: bool, after: &mut After) {
         let ready = self.ledger.ready();
         if is_more && ready > 0 {
             after.wakers.append(&mut self.helpers);
@@ -676,7 +721,7 @@ impl Inner {
 
     /// All that may have other requests.
     pub(crate) fn kept(&mut self) -> Kept {
-        Kept(take(&mut self.slots), take(&mut self.extras))
+        Kept(take(&mut self.slots), take(&mut self.extras), take(&mut self.limits))
     }
 
     /// Forgets for which stage a relay stands, since that has let go of it.

@@ -26,11 +26,12 @@ pub(crate) struct Ledger {
     /// Which stage each relay of this request follows.
     pub(crate) relays: Vec<(u16, u16)>,
     pub(crate) record: Record,
-    /// The moment of all that is done, in nanoseconds since the request began.
-    pub(crate) now: u64,
     /// The last moment up to which time has passed for deadlines.
     passed: u64,
 }
+
+/// A word, what it was answered, and what it settled.
+pub(crate) type Replied = (u64, Reply, Vec<(u16, Outcome)>);
 
 /// Of each stage whether it is a source, and the stages that it hangs on: its sources, and the one to which a finish linked it.
 pub(crate) type Hangs = Vec<(bool, [Option<u16>; 3])>;
@@ -53,35 +54,41 @@ pub(crate) fn tale(words: &[u64], stages: u16) -> Result<Tale, Refused> {
     }
 }
 
-/// The words done again on a ledger of their own, whose replies and outcomes have to be those of the record.
-pub(crate) fn comes_again(words: &[u64], record: &Record, stages: u16) -> Result<bool, Refused> {
+/// The words done again on a ledger of their own.
+pub(crate) fn done_again(words: &[u64], stages: u16) -> Result<Vec<Replied>, Refused> {
     let mut again = match nothing()?.as_mut() {
         Some(plan) => Words::new(plan, stages)?,
-        None => return Ok(false),
+        None => return Err(Refused::NO_MEMORY),
     };
-    let mut same = Record::default();
-    let times = record.items().filter_map(|item| match item {
-        crate::record::Item::Event(at, _) => Some(at),
-        crate::record::Item::Told(..) => None,
-    });
-    let mut told = vec![false; usize::from(stages)];
-    for (word, at) in words.iter().zip(times) {
-        same.event(at, again.apply(*word)?);
+    let mut is_told = vec![false; usize::from(stages)];
+    let mut apply = |word: &u64| {
+        let (reply, mut told) = (again.apply(*word)?, Vec::new());
         for news in again.news() {
-            if let (cf_graph::State::Settled(outcome), false) = (news.now.state, told[usize::from(news.stage)]) {
-                told[usize::from(news.stage)] = true;
-                same.told(news.stage, outcome);
+            if let (State::Settled(outcome), false) = (news.now.state, is_told[usize::from(news.stage)]) {
+                is_told[usize::from(news.stage)] = true;
+                told.push((news.stage, outcome));
             }
         }
+        Ok((*word, reply, told))
+    };
+    words.iter().map(&mut apply).collect()
+}
+
+/// Whether callers were told just what the words are answered and settle as they are done again.
+pub(crate) fn comes_again(words: &[u64], record: &Record, stages: u16) -> Result<bool, Refused> {
+    let mut same = Record::default();
+    for (_, reply, told) in done_again(words, stages)? {
+        same.event(reply);
+        told.into_iter().for_each(|(stage, outcome)| same.told(stage, outcome));
     }
-    Ok(same.events == words.len() && same.items().eq(record.items()))
+    Ok(same.events() == record.events() && same.digest() == record.digest())
 }
 
 impl Ledger {
     pub(crate) fn new(room: u16) -> Result<Ledger, Refusal> {
         let room = room.clamp(1, MOST_STAGES);
         let (room, machine) = kept(room).map_or_else(|| opened(room).map(|machine| (room, machine)), Ok).map_err(|_| Refusal::NoLedger)?;
-        Ok(Ledger { machine: Some(machine), room, stages: 0, relays: Vec::new(), record: Record::of_stages(room.min(SLOTS)), now: 0, passed: 0 })
+        Ok(Ledger { machine: Some(machine), room, stages: 0, relays: Vec::new(), record: Record::default(), passed: 0 })
     }
 
     #[inline]
@@ -93,7 +100,7 @@ impl Ledger {
     #[inline]
     pub(crate) fn act(&mut self, word: u64, told: &mut Told) -> Reply {
         let reply = self.machine().apply(word, LANE, told).expect("memory for a word");
-        self.record.event(self.now, reply);
+        self.record.event(reply);
         reply
     }
 
@@ -103,7 +110,7 @@ impl Ledger {
     pub(crate) fn step(&mut self, who: u8, held: Option<(u16, Answer)>, told: &mut Told) -> (Option<Finished>, Option<(u16, Args)>) {
         let step = self.machine().next(who, LANE, held, told).expect("memory for two words, and an open claim of what is held");
         if let Some(finished) = step.finished {
-            self.record.event(self.now, Reply::Finished(finished));
+            self.record.event(Reply::Finished(finished));
         }
         (step.finished, step.taken.map(|taken| (taken.stage, taken.args)))
     }
@@ -111,7 +118,7 @@ impl Ledger {
     /// Writes down what a claim was granted with.
     #[inline]
     pub(crate) fn claimed(&mut self, args: Args) {
-        self.record.event(self.now, Reply::Claimed(Claimed::Granted(args)));
+        self.record.event(Reply::Claimed(Claimed::Granted(args)));
     }
 
     /// Lets a stage end as another one does.
@@ -144,14 +151,9 @@ impl Ledger {
         self.machine().next_deadline().expect("the machine is there").map(|next| next.moment)
     }
 
-    /// Cancels all stages that are open.
-    pub(crate) fn cancel_all(&mut self, who: u8, told: &mut Told) {
-        self.machine().cancel_all(who, told).expect("memory for words");
-    }
-
     /// Writes down an event by which a call settled a stage, beside the one that it was asked for.
     pub(crate) fn settled(&mut self) {
-        self.record.event(self.now, Reply::Flag(true));
+        self.record.event(Reply::Flag(true));
     }
 
     /// How many stages are ready.
@@ -176,8 +178,9 @@ impl Ledger {
     }
 
     /// Attaches a stage, whose function has the stage's own number, and gives the number.
+    #[inline]
     pub(crate) fn attach(&mut self, who: u8, form: Form, of: &[u16], has_function: bool, told: &mut Told) -> Result<u16, Refusal> {
-        let (number, now) = (self.stages, self.now);
+        let number = self.stages;
         if number == MOST_STAGES {
             return Err(Refusal::Full);
         }
@@ -187,7 +190,7 @@ impl Ledger {
             self.machine().grow().map_err(|_| Refusal::NoLedger)?;
             applied = self.machine().apply(word, LANE, told);
         }
-        self.record.event(now, applied.expect("memory for a word"));
+        self.record.event(applied.expect("memory for a word"));
         self.stages = number + 1;
         Ok(number)
     }
@@ -209,7 +212,7 @@ impl Ledger {
 
     /// Writes down that a stage was attached with others.
     pub(crate) fn gathered(&mut self, stage: u16) {
-        self.record.event(self.now, Reply::Attached(Some(stage)));
+        self.record.event(Reply::Attached(Some(stage)));
     }
 
     /// How many stages can be attached yet.
@@ -279,8 +282,11 @@ fn opened(room: u16) -> Result<Request, Refused> {
 #[cfg(test)]
 mod tests {
     use super::*;
-    use crate::record::Item;
     use crate::word::{CANCEL, COMPLETE, SOME};
+
+    fn promise(ledger: &mut Ledger, told: &mut Told) -> Result<u16, Refusal> {
+        ledger.attach(0, Form::Source, &[], false, told)
+    }
 
     /// A few small ones, which are as they were opened.
     #[test]
@@ -291,7 +297,8 @@ mod tests {
         assert_eq!(count(), 0);
         let (mut ledgers, mut told) = (many(4), Told::default());
         for ledger in &mut ledgers {
-            ledger.attach(0, Form::Source, &[], false, &mut told).unwrap();
+            promise(ledger, &mut told).unwrap();
+            assert_eq!(ledger.words().len(), 1);
         }
         drop(ledgers);
         assert_eq!(count(), MOST_KEPT);
@@ -300,9 +307,9 @@ mod tests {
         let large = Ledger::new(5).unwrap();
         assert_eq!((count(), large.room), (MOST_KEPT - 1, 5));
         for _ in 0..SLOTS {
-            again.attach(0, Form::Source, &[], false, &mut told).unwrap();
+            promise(&mut again, &mut told).unwrap();
         }
-        assert_eq!(again.attach(0, Form::Source, &[], false, &mut told), Ok(SLOTS));
+        assert_eq!(promise(&mut again, &mut told), Ok(SLOTS));
         drop(again);
         assert_eq!(count(), MOST_KEPT - 1);
         drop(large);
@@ -314,39 +321,40 @@ mod tests {
     fn what_differs_does_not_come_again() {
         let (mut ledger, mut told) = (Ledger::new(2).unwrap(), Told::default());
         for _ in 0..2 {
-            ledger.attach(0, Form::Source, &[], false, &mut told).unwrap();
+            promise(&mut ledger, &mut told).unwrap();
         }
         for word in [word::of(COMPLETE, 0, 0, SOME), word::of(COMPLETE, 0, 0, SOME | 1), word::of(CANCEL, 0, 1, 0)] {
             ledger.act(word, &mut told);
             told.iter().for_each(|(stage, outcome)| ledger.told(stage, outcome));
         }
-        let (words, items) = (ledger.words(), ledger.record.items().collect::<Vec<_>>());
-        assert_eq!((words.len(), items.len()), (5, 7));
-        let comes = |words: &[u64], items: &[Item]| {
+        let (words, replies) = (ledger.words(), done_again(&ledger.words(), 2).unwrap());
+        assert!(words.len() == 5 && comes_again(&words, &ledger.record, 2).unwrap());
+        let comes = |words: &[u64], replies: &[Replied]| {
             let mut record = Record::default();
-            for item in items {
-                match *item {
-                    Item::Event(at, reply) => record.event(at, reply),
-                    Item::Told(stage, outcome) => record.told(stage, outcome),
-                }
+            for (_, reply, told) in replies {
+                record.event(*reply);
+                told.iter().for_each(|(stage, outcome)| record.told(*stage, *outcome));
             }
             comes_again(words, &record, 2).unwrap_or(false)
         };
-        assert!(comes(&words, &items));
-        for at in 0..items.len() {
-            let left_out = [&items[..at], &items[at + 1..]].concat();
-            assert!(!comes(&words, &left_out), "without {:?}", items[at]);
-            let mut other = items.clone();
-            other[at] = match other[at] {
-                Item::Event(at, Reply::Flag(did)) => Item::Event(at, Reply::Flag(!did)),
-                Item::Event(at, _) => Item::Event(at, Reply::Attached(None)),
-                Item::Told(stage, _) => Item::Told(stage, Outcome::Value(cf_graph::Value::Nil)),
+        assert!(comes(&words, &replies));
+        for at in 0..replies.len() {
+            let left_out = [&replies[..at], &replies[at + 1..]].concat();
+            assert!(!comes(&words, &left_out), "without {:?}", replies[at]);
+            let mut other = replies.clone();
+            other[at].1 = match other[at].1 {
+                Reply::Flag(did) => Reply::Flag(!did),
+                _ => Reply::Attached(None),
             };
             assert!(!comes(&words, &other), "with {:?}", other[at]);
+            let mut untold = replies.clone();
+            if untold[at].2.pop().is_some() {
+                assert!(!comes(&words, &untold), "which settles {:?}", untold[at]);
+            }
         }
         for at in 0..words.len() {
-            assert!(!comes(&[&words[..at], &words[at + 1..]].concat(), &items), "without word {at}");
+            assert!(!comes(&[&words[..at], &words[at + 1..]].concat(), &replies), "without word {at}");
         }
-        assert!(!comes(&words, &items[..5]) && !comes(&[&words[..], &[0]].concat(), &items));
+        assert!(!comes(&words, &replies[..4]) && !comes(&[&words[..], &[0]].concat(), &replies));
     }
 }

@@ -68,7 +68,7 @@
 //! # Costs
 //!
 //! On four cores of 2.5 GHz: about 0.3 µs to attach a stage, 0.4 to claim, call and finish its function on one thread, and 0.8 to 1.4 a stage
-//! where eight threads run trivial functions; 225 bytes a settled stage, of which the library has 157. Values, errors and the history are kept
+//! where eight threads run trivial functions; 176 bytes a settled stage, of which 44 are this crate's. Values, errors and the history are kept
 //! until nobody has the request or one of its stages any more.
 #![forbid(unsafe_code)]
 #![warn(missing_docs, missing_debug_implementations, unreachable_pub, rust_2018_idioms)]

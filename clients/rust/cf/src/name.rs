@@ -21,6 +21,13 @@ impl Made {
     }
 }
 
+impl Made {
+    /// Whether it is the same function, handed in at the same place.
+    pub(crate) fn is(self, other: Made) -> bool {
+        self.0 as usize == other.0 as usize && std::ptr::eq(self.1, other.1)
+    }
+}
+
 impl fmt::Display for Made {
     /// A function's own name, or where a closure stands: `order.rs:31`.
     fn fmt(&self, f: &mut fmt::Formatter<'_>) -> fmt::Result {

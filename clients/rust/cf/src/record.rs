@@ -1,293 +1,248 @@
-//! What callers of one request were told, in its order, in few bytes: of each event when it was done and its reply, and each stage that it
-//! settled. The words themselves are the ledger's.
+//! When the events of one request were done, in few bytes, and a digest of what callers were told. The words themselves are the machine's, and what
+//! they were answered comes again when they are done again.
 use cf_graph::{Args, Cause, Claimed, Finished, Outcome, Reply, Ticked, Value};
+use std::mem::take;
 
-/// A row of bytes. An event is a tag below [`TOLD`], the nanoseconds since the event before it, and its numbers; a settled stage is a tag
-/// from there on, the stage, and its outcome's number. Numbers have seven bits a byte, the lowest first.
 #[derive(Clone, Debug, Default)]
 pub(crate) struct Record {
-    bytes: Vec<u8>,
-    last: u64,
-    pub(crate) events: usize,
-    /// How many attaches were answered with a stage.
-    attached: u16,
+    /// Of each moment at which there were events, but for the last one, how much later it was than the one before, and how many events there
+    /// were.
+    moments: Vec<Moment>,
+    /// The last one of these moments.
+    before: u64,
+    /// The moment of what is done at present, in nanoseconds since the request began, and how many events there were at it.
+    now: u64,
+    lately: u32,
+    told: Digest,
 }
 
-/// The bytes of an item at most: a tag, ten of a time, and five of each number.
-const ITEM: usize = 21;
-const TOLD: u8 = 64;
-const GOT: u8 = 32;
-/// An attach was answered with the number that is next, and a stage settled with its own number.
-const NEXT: u8 = 13;
-const OWN: u8 = 10;
+/// The lower and the upper half of so many nanoseconds, and how many events. Where there are none, it is so many seconds.
+type Moment = [u16; 3];
 
-/// An event, or a stage that the event before it settled.
-#[derive(Clone, Copy, Debug, PartialEq, Eq)]
-pub(crate) enum Item {
-    Event(u64, Reply),
-    Told(u16, Outcome),
-}
+const SECOND: u64 = 1_000_000_000;
 
 impl Record {
-    /// With room for what so many stages usually take.
-    pub(crate) fn of_stages(stages: u16) -> Record {
-        Record { bytes: Vec::with_capacity(24 + 16 * usize::from(stages)), ..Record::default() }
+    /// It is this moment now, or a later one if there was one.
+    #[inline]
+    pub(crate) fn go_on(&mut self, now: u64) {
+        if now > self.now {
+            if self.lately > 0 {
+                self.write_moment();
+            }
+            self.now = now;
+        }
     }
 
-    /// An event that was done at this moment, in nanoseconds since the request began.
     #[inline]
-    pub(crate) fn event(&mut self, at: u64, reply: Reply) {
-        let (mut tag, mut numbers) = tag_of(reply);
-        if let Reply::Attached(Some(stage)) = reply {
-            if stage == self.attached {
-                (tag, numbers) = (NEXT, [None, None]);
-            }
-            self.attached += 1;
-        }
-        self.make_room();
-        self.bytes.push(tag);
-        self.number(at.saturating_sub(self.last));
-        self.last = self.last.max(at);
-        if let Some(first) = numbers[0] {
-            self.number(u64::from(first));
-        }
-        if let Some(second) = numbers[1] {
-            self.number(u64::from(second));
-        }
-        self.events += 1;
+    pub(crate) fn now(&self) -> u64 {
+        self.now
+    }
+
+    /// An event that is done now.
+    #[inline]
+    pub(crate) fn event(&mut self, reply: Reply) {
+        self.lately += 1;
+        self.told.reply(reply);
     }
 
     /// A stage that the last event settled.
     #[inline]
     pub(crate) fn told(&mut self, stage: u16, outcome: Outcome) {
-        let (tag, number) = match outcome_tag(outcome) {
-            (tag @ 1..=3, Some(number)) if number == u32::from(stage) => (OWN + tag, None),
-            other => other,
-        };
-        self.make_room();
-        self.bytes.push(TOLD + tag);
-        self.number(u64::from(stage));
-        if let Some(number) = number {
-            self.number(u64::from(number));
-        }
+        self.told.add(u64::from(stage));
+        self.told.outcome(outcome);
     }
 
-    /// Makes room for an item, which grows by a quarter, since there are many records that grow no more.
+    /// What callers were told, as a number. What was told otherwise has another one.
+    pub(crate) fn digest(&self) -> u64 {
+        self.told.0
+    }
+
+    fn write_moment(&mut self) {
+        let mut since = self.now - self.before;
+        if since > u64::from(u32::MAX) {
+            self.write(since / SECOND, 0);
+            since %= SECOND;
+        }
+        while self.lately > u32::from(u16::MAX) {
+            self.write(take(&mut since), u16::MAX);
+            self.lately -= u32::from(u16::MAX);
+        }
+        self.write(since, self.lately as u16);
+        self.before = self.now;
+        self.lately = 0;
+    }
+
+    /// The row grows by a quarter, since there are many that grow no more.
     #[inline]
-    fn make_room(&mut self) {
-        if self.bytes.capacity() - self.bytes.len() < ITEM {
-            self.bytes.reserve_exact(64 + self.bytes.len() / 4);
+    fn write(&mut self, number: u64, count: u16) {
+        if self.moments.len() == self.moments.capacity() {
+            self.moments.reserve_exact(16 + self.moments.len() / 4);
         }
+        self.moments.push([number as u16, (number >> 16) as u16, count]);
     }
 
-    #[inline]
-    fn number(&mut self, mut number: u64) {
-        while number >= 128 {
-            self.bytes.push(number as u8 | 128);
-            number >>= 7;
-        }
-        self.bytes.push(number as u8);
+    /// The moment of each event.
+    pub(crate) fn times(&self) -> impl Iterator<Item = u64> + '_ {
+        let mut at = 0;
+        let written = self.moments.iter().map(move |&[low, high, count]| {
+            let number = u64::from(high) << 16 | u64::from(low);
+            at += if count > 0 { number } else { number * SECOND };
+            (at, count)
+        });
+        written.map(|(at, count)| (at, u32::from(count))).chain([(self.now, self.lately)]).flat_map(|(at, count)| (0..count).map(move |_| at))
     }
 
-    /// All that was written.
-    pub(crate) fn items(&self) -> Items<'_> {
-        Items { bytes: self.bytes.iter(), at: 0, attached: 0 }
+    /// How many events there were.
+    pub(crate) fn events(&self) -> usize {
+        self.moments.iter().map(|moment| usize::from(moment[2])).sum::<usize>() + self.lately as usize
     }
 }
 
-pub(crate) struct Items<'a> {
-    bytes: std::slice::Iter<'a, u8>,
-    at: u64,
-    attached: u16,
-}
+/// Numbers in their order as one, by a multiplication for each.
+#[derive(Clone, Debug, Default)]
+struct Digest(u64);
 
-impl Items<'_> {
-    fn number(&mut self) -> u64 {
-        let (mut number, mut shift) = (0, 0);
-        for &byte in self.bytes.by_ref() {
-            number |= u64::from(byte & 127) << shift;
-            shift += 7;
-            if byte < 128 {
-                break;
+impl Digest {
+    #[inline]
+    fn add(&mut self, number: u64) {
+        self.0 = (self.0.rotate_left(23) ^ number).wrapping_add(1).wrapping_mul(0x9e37_79b9_7f4a_7c15);
+    }
+
+    /// A number of some kind.
+    #[inline]
+    fn number(&mut self, kind: u8, number: u32) {
+        self.add(u64::from(kind) << 32 | u64::from(number));
+    }
+
+    #[inline]
+    fn reply(&mut self, reply: Reply) {
+        match reply {
+            Reply::Flag(did) => self.number(1, u32::from(did)),
+            Reply::Attached(Some(stage)) => self.number(2, u32::from(stage)),
+            Reply::Attached(None) => self.number(3, 0),
+            Reply::Finished(finished) => self.number(4, matches!(finished, Finished::Won) as u32 + 2 * matches!(finished, Finished::Late) as u32),
+            Reply::Claimed(Claimed::Granted(args)) => self.args(args),
+            Reply::Claimed(claimed) => self.number(5, matches!(claimed, Claimed::Settled) as u32 + 2 * matches!(claimed, Claimed::Taken) as u32),
+            Reply::Ticked(Ticked::Fired(limits)) => self.number(6, limits),
+            Reply::Ticked(Ticked::Past) => self.number(7, 0),
+        }
+    }
+
+    #[inline]
+    fn args(&mut self, args: Args) {
+        match args {
+            Args::None => self.number(8, 0),
+            Args::One(value) => self.value(9, value),
+            Args::Two(first, second) => {
+                self.value(11, first);
+                self.value(13, second);
+            }
+            Args::Got(outcome) => {
+                self.number(15, 0);
+                self.outcome(outcome);
             }
         }
-        number
     }
 
-    fn value(&mut self, some: bool) -> Value {
-        if some {
-            Value::Int(self.number() as u32 as i32)
-        } else {
-            Value::Nil
-        }
-    }
-
-    fn outcome(&mut self, tag: u8) -> Outcome {
-        let wrapped = tag & 1 == 1;
-        let cause = match tag {
-            0 | 1 => return Outcome::Value(self.value(wrapped)),
-            2 | 3 => Cause::Thrown(self.number() as u32),
-            4 | 5 => Cause::Cancelled,
-            6 | 7 => Cause::TimedOut,
-            _ => Cause::BadAnswer,
-        };
-        Outcome::Fault { cause, wrapped }
-    }
-
-    fn told(&mut self, tag: u8, stage: u16) -> Outcome {
-        match tag.checked_sub(OWN) {
-            Some(1) => Outcome::Value(Value::Int(i32::from(stage))),
-            Some(tag) if tag > 1 => Outcome::Fault { cause: Cause::Thrown(u32::from(stage)), wrapped: tag == 3 },
-            _ => self.outcome(tag),
-        }
-    }
-
-    fn reply(&mut self, tag: u8) -> Reply {
-        match tag {
-            0 => Reply::Flag(false),
-            1 => Reply::Flag(true),
-            2 => Reply::Claimed(Claimed::Granted(Args::None)),
-            3 => Reply::Claimed(Claimed::Settled),
-            4 => Reply::Claimed(Claimed::Taken),
-            5 => Reply::Claimed(Claimed::NotReady),
-            6 => Reply::Finished(Finished::Won),
-            7 => Reply::Finished(Finished::Late),
-            8 => Reply::Finished(Finished::NotYours),
-            9 => Reply::Ticked(Ticked::Past),
-            10 => Reply::Ticked(Ticked::Fired(self.number() as u32)),
-            11 => Reply::Attached(None),
-            12 => Reply::Attached(Some(self.number() as u16)),
-            NEXT => Reply::Attached(Some(self.attached)),
-            16 | 17 => Reply::Claimed(Claimed::Granted(Args::One(self.value(tag == 17)))),
-            tag if tag < GOT => {
-                let first = self.value(tag & 1 == 1);
-                Reply::Claimed(Claimed::Granted(Args::Two(first, self.value(tag & 2 == 2))))
+    #[inline]
+    fn outcome(&mut self, outcome: Outcome) {
+        match outcome {
+            Outcome::Value(value) => self.value(16, value),
+            Outcome::Fault { cause, wrapped } => {
+                let (kind, code) = match cause {
+                    Cause::Thrown(code) => (18, code),
+                    Cause::Cancelled => (20, 0),
+                    Cause::TimedOut => (22, 0),
+                    Cause::BadAnswer => (24, 0),
+                };
+                self.number(kind + u8::from(wrapped), code);
             }
-            tag => Reply::Claimed(Claimed::Granted(Args::Got(self.outcome(tag - GOT)))),
         }
     }
-}
 
-impl Iterator for Items<'_> {
-    type Item = Item;
-
-    fn next(&mut self) -> Option<Item> {
-        let tag = *self.bytes.next()?;
-        if tag >= TOLD {
-            let stage = self.number() as u16;
-            return Some(Item::Told(stage, self.told(tag - TOLD, stage)));
+    /// A value, by this kind or the next one.
+    #[inline]
+    fn value(&mut self, kind: u8, value: Value) {
+        match value {
+            Value::Nil => self.number(kind, 0),
+            Value::Int(number) => self.number(kind + 1, number as u32),
         }
-        self.at += self.number();
-        let reply = self.reply(tag);
-        self.attached += u16::from(matches!(reply, Reply::Attached(Some(_))));
-        Some(Item::Event(self.at, reply))
-    }
-}
-
-type Numbers = [Option<u32>; 2];
-
-#[inline]
-fn tag_of(reply: Reply) -> (u8, Numbers) {
-    let alone = |tag| (tag, [None, None]);
-    match reply {
-        Reply::Flag(did) => alone(u8::from(did)),
-        Reply::Claimed(Claimed::Granted(args)) => tag_of_args(args),
-        Reply::Claimed(Claimed::Settled) => alone(3),
-        Reply::Claimed(Claimed::Taken) => alone(4),
-        Reply::Claimed(Claimed::NotReady) => alone(5),
-        Reply::Finished(Finished::Won) => alone(6),
-        Reply::Finished(Finished::Late) => alone(7),
-        Reply::Finished(Finished::NotYours) => alone(8),
-        Reply::Ticked(Ticked::Past) => alone(9),
-        Reply::Ticked(Ticked::Fired(limits)) => (10, [Some(limits), None]),
-        Reply::Attached(None) => alone(11),
-        Reply::Attached(Some(stage)) => (12, [Some(u32::from(stage)), None]),
-    }
-}
-
-#[inline]
-fn tag_of_args(args: Args) -> (u8, Numbers) {
-    match args {
-        Args::None => (2, [None, None]),
-        Args::One(value) => (16 + some(value), [number(value), None]),
-        Args::Two(first, second) => (20 + some(first) + 2 * some(second), [number(first), number(second)]),
-        Args::Got(outcome) => {
-            let (tag, number) = outcome_tag(outcome);
-            (GOT + tag, [number, None])
-        }
-    }
-}
-
-#[inline]
-fn outcome_tag(outcome: Outcome) -> (u8, Option<u32>) {
-    match outcome {
-        Outcome::Value(value) => (some(value), number(value)),
-        Outcome::Fault { cause, wrapped } => {
-            let (tag, code) = match cause {
-                Cause::Thrown(code) => (2, Some(code)),
-                Cause::Cancelled => (4, None),
-                Cause::TimedOut => (6, None),
-                Cause::BadAnswer => (8, None),
-            };
-            (tag + u8::from(wrapped), code)
-        }
-    }
-}
-
-#[inline]
-fn some(value: Value) -> u8 {
-    u8::from(value != Value::Nil)
-}
-
-#[inline]
-fn number(value: Value) -> Option<u32> {
-    match value {
-        Value::Nil => None,
-        Value::Int(number) => Some(number as u32),
     }
 }
 
 #[cfg(test)]
 mod tests {
     use super::*;
-
-    /// The number of an outcome, where a stage has it.
-    fn own(outcome: Outcome) -> Option<u16> {
-        let number = outcome_tag(outcome).1?;
-        u16::try_from(number).ok()
-    }
+    use std::collections::HashSet;
 
     #[test]
-    fn what_is_written_is_read() {
-        let values = [Value::Nil, Value::Int(0), Value::Int(4095), Value::Int(-1), Value::Int(i32::MAX)];
+    fn times_are_read_as_they_were_written() {
+        let (mut record, mut wanted, mut at) = (Record::default(), Vec::new(), 0);
+        for k in 0..2000_u64 {
+            // Up to a day.
+            at += if k % 3 == 0 { 1 << (k % 47) } else { 0 };
+            record.go_on(at);
+            record.event(Reply::Flag(true));
+            wanted.push(at);
+            // A clock that goes back has stood.
+            if k % 500 == 1 {
+                record.go_on(at - 1);
+                record.event(Reply::Flag(true));
+                wanted.push(at);
+            }
+        }
+        // More at one moment than a number says.
+        for _ in 0..70_000 {
+            record.event(Reply::Flag(true));
+            wanted.push(at);
+        }
+        assert_eq!(record.times().collect::<Vec<_>>(), wanted);
+        record.go_on(at + 5);
+        record.event(Reply::Flag(true));
+        wanted.push(at + 5);
+        assert_eq!(record.times().collect::<Vec<_>>(), wanted);
+        assert_eq!((record.events(), Record::default().events(), Record::default().times().count()), (wanted.len(), 0, 0));
+    }
+
+    /// What is told otherwise, in another order or in part has another digest.
+    #[test]
+    fn what_differs_has_another_digest() {
+        let values = [Value::Nil, Value::Int(0), Value::Int(1), Value::Int(-1), Value::Int(4095)];
         let mut outcomes: Vec<Outcome> = values.iter().map(|value| Outcome::Value(*value)).collect();
         for wrapped in [false, true] {
             for cause in [Cause::Thrown(0), Cause::Thrown(u32::MAX), Cause::Cancelled, Cause::TimedOut, Cause::BadAnswer] {
                 outcomes.push(Outcome::Fault { cause, wrapped });
             }
         }
-        let mut replies = vec![Reply::Flag(true), Reply::Flag(false), Reply::Attached(None), Reply::Attached(Some(4095))];
+        let mut replies = vec![Reply::Flag(true), Reply::Flag(false), Reply::Attached(None), Reply::Attached(Some(0)), Reply::Attached(Some(1))];
         replies.extend([Claimed::Settled, Claimed::Taken, Claimed::NotReady, Claimed::Granted(Args::None)].map(Reply::Claimed));
         replies.extend([Finished::Won, Finished::Late, Finished::NotYours].map(Reply::Finished));
-        replies.extend([Ticked::Past, Ticked::Fired(0), Ticked::Fired(70_000)].map(Reply::Ticked));
         for first in values {
             replies.push(Reply::Claimed(Claimed::Granted(Args::One(first))));
             replies.extend(values.iter().map(|second| Reply::Claimed(Claimed::Granted(Args::Two(first, *second)))));
         }
         replies.extend(outcomes.iter().map(|outcome| Reply::Claimed(Claimed::Granted(Args::Got(*outcome)))));
-        replies.extend((0..3).map(|_| Reply::Attached(Some(3))));
-        outcomes.push(Outcome::Value(Value::Int(4)));
-        let (mut record, mut wanted, mut at) = (Record::default(), Vec::new(), 0);
-        for (k, reply) in replies.into_iter().enumerate() {
-            at += 1 << (k % 50);
-            record.event(at, reply);
-            wanted.push(Item::Event(at, reply));
-            let outcome = outcomes[k % outcomes.len()];
-            let stage = if k % 3 == 0 { own(outcome).unwrap_or(7) } else { k as u16 * 60 };
-            record.told(stage, outcome);
-            wanted.push(Item::Told(stage, outcome));
+        let (mut seen, mut count) = (HashSet::new(), 0);
+        let mut has_another = |does: &dyn Fn(&mut Record)| {
+            let mut record = Record::default();
+            does(&mut record);
+            count += 1;
+            assert!(seen.insert(record.digest()) && seen.len() == count);
+        };
+        has_another(&|_| {});
+        for first in &replies {
+            has_another(&|record| record.event(*first));
+            for second in &replies {
+                has_another(&|record| [first, second].into_iter().for_each(|reply| record.event(*reply)));
+            }
+            for (stage, outcome) in outcomes.iter().enumerate() {
+                for stage in [stage as u16, stage as u16 + 1] {
+                    has_another(&|record| {
+                        record.event(*first);
+                        record.told(stage, *outcome);
+                    });
+                }
+            }
         }
-        assert_eq!(record.items().collect::<Vec<_>>(), wanted);
-        assert_eq!(record.events * 2, wanted.len());
     }
 }

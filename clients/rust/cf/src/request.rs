@@ -253,7 +253,7 @@ impl Request {
         all
     }
 
-    /// Cancels all that isn't settled. No function of this request is called for that.
+    /// Cancels all that isn't settled, the last stage first.
     ///
     /// ```
     /// let basket = cf::Request::new("basket 3", cf::Inline);
@@ -308,7 +308,7 @@ impl fmt::Debug for Request {
     fn fmt(&self, f: &mut fmt::Formatter<'_>) -> fmt::Result {
         let inner = self.0.lock();
         let settled = inner.slots.iter().filter(|slot| slot.is_settled()).count();
-        let (stages, events) = (inner.slots.len(), inner.ledger.record.events);
+        let (stages, events) = (inner.slots.len(), inner.ledger.record.events());
         drop(inner);
         f.debug_struct("Request").field("name", &self.0.name).field("stages", &stages).field("settled", &settled).field("events", &events).finish()
     }

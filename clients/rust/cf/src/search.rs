@@ -305,6 +305,31 @@ mod tests {
         assert!(searched > 2, "{searched}");
     }
 
+    /// Limits come while the clock is turned and rings for another one, earlier and later than that one.
+    #[test]
+    fn no_limit_is_lost() {
+        for waits in [[3, 2], [2, 9], [1, 1]] {
+            let searched = search(|| {
+                let (clock, seconds) = (HandClock::new(), Duration::from_secs);
+                let request = Request::with_clock("limits", Arc::new(Inline), Arc::new(clock.clone()));
+                let mut stages = vec![request.promise::<i32>().or_timeout(seconds(2))];
+                let by = clock.clone();
+                let mut plays: Vec<Play> = vec![Box::new(move || by.turn(seconds(2)))];
+                for wait in waits {
+                    let stage = request.promise::<i32>();
+                    stages.push(stage.clone());
+                    plays.push(Box::new(move || drop(stage.or_timeout(seconds(wait)))));
+                }
+                let at_end = move || {
+                    clock.turn(seconds(20));
+                    assert!(stages.iter().all(Stage::is_settled) && request.history().comes_again());
+                };
+                (plays, Box::new(at_end))
+            });
+            assert!(searched > 2, "{searched}");
+        }
+    }
+
     /// Stages that are attached, with their functions, while the one before them is settled: here, and in another request.
     #[test]
     fn what_is_attached_meanwhile_is_run() {

@@ -1,19 +1,21 @@
 //! What a stage's number stands for.
 use crate::core::Core;
 use crate::error::Error;
-use crate::name::Made;
 use crate::value::{Call, Val};
 use cf_graph::{Cause, Outcome, Value};
 use std::sync::Arc;
 
 pub(crate) struct Slot {
-    pub(crate) made: Made,
     pub(crate) held: Held,
-    /// The first of the handles that wait for it.
-    pub(crate) waits: u32,
-    /// What the ledger told of it, and the number that belongs to that: the stage from which a value or an error came.
-    told: Told,
+    /// The place of what histories call it, where it was given no name.
+    pub(crate) made: u16,
+    /// What the machine told of it, and the number that belongs to that: the stage from which a value or an error came.
     number: u16,
+    told: Told,
+    /// Whether there is more of it: what few stages have.
+    pub(crate) has_extra: bool,
+    /// Whether the machine has it follow another one of its request.
+    pub(crate) follows: bool,
 }
 
 /// A function to be called, and then what that gave.
@@ -47,8 +49,8 @@ enum Fault {
 }
 
 impl Slot {
-    pub(crate) fn new(made: Made, call: Option<Call>) -> Slot {
-        Slot { made, held: call.map_or(Held::Nothing, Held::Call), waits: 0, told: Told::Waits, number: 0 }
+    pub(crate) fn new(made: u16, call: Option<Call>) -> Slot {
+        Slot { held: call.map_or(Held::Nothing, Held::Call), made, number: 0, told: Told::Waits, has_extra: false, follows: false }
     }
 
     #[inline]
@@ -126,12 +128,12 @@ mod tests {
 
     #[test]
     fn a_slot_is_small() {
-        assert_eq!(std::mem::size_of::<Slot>(), 48);
+        assert_eq!(std::mem::size_of::<Slot>(), 32);
     }
 
     #[test]
     fn what_is_settled_is_told() {
-        let mut slot = Slot::new(Made::as_a(|| "tested"), None);
+        let mut slot = Slot::new(0, None);
         assert!(!slot.is_settled() && slot.outcome().is_none());
         let mut outcomes = vec![Outcome::Value(Value::Nil), Outcome::Value(Value::Int(0)), Outcome::Value(Value::Int(4095))];
         for wrapped in [false, true] {

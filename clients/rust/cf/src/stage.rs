@@ -12,9 +12,9 @@
 //! - `Stage` is a handle: the request's `Core`, the stage's number or why there is none, and the place of this handle's
 //!   waker. Clones share the stage and have wakers of their own.
 //! - `Core` (core.rs) is the request: its executor, its clock, and one mutex.
-//! - `Inner` (inner.rs) stands under that mutex. It has the `Ledger` (the library's machine, and the `Record` of what callers
-//!   were told), a `Slot` for each stage, and `Extra`s for the few stages that have more: a future that is polled, relays,
-//!   timers, values for alarms.
+//! - `Inner` (inner.rs) stands under that mutex. It has the `Ledger` (the library's machine, and the `Record` of the moments of
+//!   events and of what callers were told, as a digest), a `Slot` for each stage, `Extra`s for the few stages that have more: a
+//!   future that is polled, relays; and the `Limit`s of stages.
 //! - A `Slot` (slot.rs) holds the stage's function until that is claimed, and then what the function gave: a value or an
 //!   error. It also holds what the machine told. A value's number in words is that of the stage that gave it, and so is an
 //!   error's; stages behind it hold the number alone.
@@ -35,10 +35,10 @@
 //!    Polls read slots under the same lock, so whoever is told an outcome can also see the outcomes of all earlier words.
 //! 3. `Inner::cancel_relays` cancels relays that nobody needs any more, each by a word, which may settle more.
 //! 4. `Inner::hire` asks for one job, if the machine has more ready stages than jobs are coming, and fewer jobs run than may.
-//! 5. The lock is given back. `Core::tell` tells what came of it, in this order: the clock is asked for an alarm, jobs go to the executor, wakers are called,
-//!    futures of settled stages are dropped, relays of other requests are settled, relays are hung on other requests'
-//!    stages or taken off, and at last values and functions are dropped. A relay of another request is a change there; what
-//!    it has yet to tell of further requests is added to this list, so a row of requests takes no stack.
+//! 5. The lock is given back. `Core::tell` tells what came of it, in this order: the clock is asked for an alarm, jobs go to the
+//!    executor, wakers are called, futures of settled stages are dropped, relays of other requests are settled, relays are hung
+//!    on other requests' stages or taken off, and at last values and functions are dropped. A relay of another request is a
+//!    change there; what it has yet to tell of further requests is added to this list, so a row of requests takes no stack.
 //! 6. A panic of any of these keeps no other from being told. The first goes on to the caller at the end.
 //!
 //! **A function from ready to finished.** A stage is told to be ready, and a `Job` is asked for. The executor runs the job on
@@ -67,8 +67,8 @@
 //! what is due. A stage's `Limit`s say what it gets then: a value, or an error with the while that it had. The request asks its
 //! clock for one `Alarm` at a time, at the first deadline (`Awaited`), and for another where an earlier deadline comes.
 //! `Core::rung` lets time pass up to the alarm's moment, and asks for the next one. An alarm keeps no request alive. It is
-//! wanted until it is rung, another is asked for, or all stages that have deadlines are settled. One that is wanted and dropped lets
-//! these stages fail with `Refusal::NoClock`.
+//! wanted until it is rung, another is asked for, or all stages that have deadlines are settled. One that is wanted and dropped
+//! lets these stages fail with `Refusal::NoClock`.
 //!
 //! **Room.** A request has at most 4,096 stages. The machine has room for some of them at first, and grows where
 //! there is none. Where there is none, the call gives a handle of a stage that has failed with `Refusal::Full`: its `at` is an

@@ -2,12 +2,14 @@
 use std::mem::take;
 use std::task::Waker;
 
-/// The wakers of handles that wait: for each stage a row, of which the stage has the first place. Places are numbered from 1 on, and those
-/// that are free stand in a row, too; 0 is no place.
+/// The wakers of handles that wait: for each stage a row. Places are numbered from 1 on, and those that are free stand in a row, too; 0 is no
+/// place.
 #[derive(Default)]
 pub(crate) struct Wakers {
     places: Vec<Place>,
     free: u32,
+    /// The first places of rows, by their stages, up to the last stage for which somebody has waited.
+    firsts: Vec<u32>,
 }
 
 struct Place {
@@ -22,9 +24,14 @@ impl Wakers {
         &mut self.places[number as usize - 1]
     }
 
-    /// Keeps a waker at the front of a row. Its place.
-    pub(crate) fn keep(&mut self, first: &mut u32, waker: Waker) -> u32 {
-        let place = Place { waker: Some(waker), before: 0, next: *first };
+    /// Keeps a waker at the front of a stage's row. Its place.
+    pub(crate) fn keep(&mut self, stage: u16, waker: Waker) -> u32 {
+        let stage = usize::from(stage);
+        if self.firsts.len() <= stage {
+            self.firsts.resize(stage + 1, 0);
+        }
+        let first = self.firsts[stage];
+        let place = Place { waker: Some(waker), before: 0, next: first };
         let number = match self.free {
             0 => {
                 self.places.push(place);
@@ -36,10 +43,10 @@ impl Wakers {
                 free
             }
         };
-        if *first > 0 {
-            self.place(*first).before = number;
+        if first > 0 {
+            self.place(first).before = number;
         }
-        *first = number;
+        self.firsts[stage] = number;
         number
     }
 
@@ -53,12 +60,12 @@ impl Wakers {
         self.place(number).waker.replace(waker)
     }
 
-    /// Takes a place out of its row, and gives back its waker.
-    pub(crate) fn forget(&mut self, first: &mut u32, number: u32) -> Option<Waker> {
+    /// Takes a place out of a stage's row, and gives back its waker.
+    pub(crate) fn forget(&mut self, stage: u16, number: u32) -> Option<Waker> {
         let Place { waker, before, next } = self.place(number);
         let (waker, before, next) = (waker.take(), *before, *next);
         match before {
-            0 => *first = next,
+            0 => self.firsts[usize::from(stage)] = next,
             before => self.place(before).next = next,
         }
         if next > 0 {
@@ -68,10 +75,10 @@ impl Wakers {
         waker
     }
 
-    /// Takes all wakers of a row.
+    /// Takes all wakers of a stage's row.
     #[inline]
-    pub(crate) fn take(&mut self, first: &mut u32, to: &mut Vec<Waker>) {
-        let mut number = take(first);
+    pub(crate) fn take(&mut self, stage: u16, to: &mut Vec<Waker>) {
+        let mut number = self.firsts.get_mut(usize::from(stage)).map_or(0, take);
         while number > 0 {
             let place = self.place(number);
             to.extend(place.waker.take());
@@ -104,7 +111,7 @@ mod tests {
     /// Rows of two stages, to which places come and from which they go, beside lists of the same.
     #[test]
     fn rows_hold_what_was_kept() {
-        let (mut wakers, mut firsts, mut kept) = (Wakers::default(), [0, 0], [Vec::new(), Vec::new()]);
+        let (mut wakers, stages, mut kept) = (Wakers::default(), [7, 3], [Vec::new(), Vec::new()]);
         let mut dice = 7_u64;
         for _ in 0..3000 {
             dice = dice.wrapping_mul(6364136223846793005).wrapping_add(1442695040888963407);
@@ -112,7 +119,7 @@ mod tests {
             match what {
                 0..=3 => {
                     let bell = Arc::new(Bell(AtomicUsize::new(0)));
-                    let number = wakers.keep(&mut firsts[row], Waker::from(Arc::clone(&bell)));
+                    let number = wakers.keep(stages[row], Waker::from(Arc::clone(&bell)));
                     kept[row].push((number, bell));
                 }
                 4 if !kept[row].is_empty() => {
@@ -126,13 +133,13 @@ mod tests {
                 }
                 5 | 6 if !kept[row].is_empty() => {
                     let (number, bell) = kept[row].swap_remove(at % kept[row].len());
-                    wakers.forget(&mut firsts[row], number).unwrap().wake();
+                    wakers.forget(stages[row], number).unwrap().wake();
                     assert_eq!(bell.0.load(Ordering::SeqCst), 1);
                 }
                 7 if at % 40 == 0 => {
                     let mut all = Vec::new();
-                    wakers.take(&mut firsts[row], &mut all);
-                    assert_eq!((all.len(), firsts[row]), (kept[row].len(), 0));
+                    wakers.take(stages[row], &mut all);
+                    assert_eq!((all.len(), wakers.firsts[usize::from(stages[row])]), (kept[row].len(), 0));
                     all.into_iter().for_each(Waker::wake);
                     assert!(kept[row].drain(..).all(|(_, bell)| bell.0.load(Ordering::SeqCst) == 1));
                 }

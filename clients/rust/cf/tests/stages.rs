@@ -107,6 +107,32 @@ fn all_of_waits_for_all() {
 }
 
 #[test]
+fn many_that_are_settled_are_gathered_at_once() {
+    let r = Request::new("settled", Inline);
+    let numbers: Vec<Stage<i32>> = (0..9).map(|k| r.supply(move || k)).collect();
+    assert!(r.all_of(numbers.iter().map(|it| it as &dyn cf::AnyStage)).is_settled());
+    assert_eq!(r.first_of(&numbers).peek().unwrap().unwrap(), 0);
+    assert_eq!(r.history().words().len(), 9 * 3 + 2 * 8);
+    assert!(r.history().comes_again());
+}
+
+/// By its function and the line that attaches it, also where one closure is handed in at two lines.
+#[test]
+fn a_stage_is_called_by_where_it_is_attached() {
+    let (r, one_more) = (Request::new("called", Inline), |n: &i32| n + 1);
+    let first = r.promise::<i32>().then(one_more);
+    let mut last = first.then(one_more);
+    for _ in 0..5 {
+        last = last.then(one_more).handle(|told| told.is_ok()).then(|_| 1);
+    }
+    let history = r.history();
+    let names = history.names();
+    assert_eq!((names[0].as_str(), names.len()), ("promise", 18));
+    assert!(names[1] != names[2] && names[3] != names[2], "{names:?}");
+    assert!((6..18).all(|at| names[at] == names[at - 3]), "{names:?}");
+}
+
+#[test]
 fn composing_takes_a_stage_of_this_request_or_another() {
     let (r, other) = (request(), request());
     let by = r.clone();

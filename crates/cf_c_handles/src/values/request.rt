@@ -44,6 +44,32 @@ pub struct CfRequestGathering {
     pub told: usize,
 }
 
+/// A compose that a caller of a request attaches. C says who attaches it, its lane, by which form, over which source, and
+/// its function's number. It is told the numbers of the relay and of the compose, and how many stages were to be told.
+#[repr(C)]
+#[derive(Clone, Copy)]
+pub struct CfRequestComposing {
+    pub who: u8,
+    pub lane: u8,
+    pub form: u32,
+    pub source: u16,
+    pub function: u16,
+    pub relay: u16,
+    pub stage: u16,
+    pub told: usize,
+}
+
+/// A compose of a request that its caller finishes with any stage. C says who finishes it, its relay, and the stage. It is
+/// told how many stages were to be told.
+#[repr(C)]
+#[derive(Clone, Copy)]
+pub struct CfRequestLinking {
+    pub who: u8,
+    pub relay: u16,
+    pub stage: u16,
+    pub told: usize,
+}
+
 /// A step of a caller of a request. C says who takes it, and in which lane. It is told how many stages were to be told.
 #[repr(C)]
 #[derive(Clone, Copy)]

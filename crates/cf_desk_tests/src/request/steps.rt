@@ -2,9 +2,9 @@
 use crate::checks::{holds, must};
 use crate::plans::{Row, plan_of};
 use cf_forms::Form;
-use cf_ledger::{Held, LedgerFault, Reply, Stage, StepFault};
+use cf_ledger::{Finish, Held, LedgerFault, Reply, Stage, StepFault};
 use cf_outcome::Outcome;
-use cf_request::{Deadline, Gathering, Machine, MachineFault, Next};
+use cf_request::{Composed, Composing, Deadline, Gathering, Machine, MachineFault, Next};
 use std::alloc::Global;
 use std::process::Abort;
 
@@ -15,6 +15,10 @@ pub(crate) enum Step {
     Apply(u64, u8, Result<Reply, LedgerFault>),
     /// A caller, how it gathers, and what.
     Gather(u8, Gathering, &'static [u16], Result<u16, LedgerFault>),
+    /// A caller, the form, the source, the function, and the lane.
+    Compose(u8, Composing, u16, u16, u8, Result<Composed, LedgerFault>),
+    /// A caller, a compose that it holds, and the stage that its function answered.
+    Link(u8, Composed, u16, Result<Finish, StepFault>),
     /// A caller, the lane that it asks, and what it holds.
     Next(u8, u8, Option<Held>, Result<Next, StepFault>),
     Ready(u8, u16),
@@ -41,6 +45,10 @@ fn is_answered(machine: &mut Machine, step: Step) -> bool {
             lane < machine.lanes() && machine.apply(word, lane) == answer
         }
         Step::Gather(who, how, sources, answer) => machine.gather(who, how, sources) == answer,
+        Step::Compose(who, how, source, function, lane, answer) => {
+            lane < machine.lanes() && machine.compose(who, how, source, function, lane) == answer
+        }
+        Step::Link(who, composed, stage, answer) => machine.link(who, composed, stage) == answer,
         Step::Next(who, lane, held, answer) => {
             lane < machine.lanes() && machine.next(who, lane, held) == answer
         }

@@ -197,20 +197,24 @@ class Board:
             self._change.notify_all()
 
     def _round(self) -> None:
-        now, is_other = time.monotonic(), False
+        now = time.monotonic()
         if now >= self._next_list:
             self._next_list = now
             changes, mark = self.store.changes(self._mark)
-            is_other, self._mark = self._take(changes), mark
+            self._say(self._take(changes))
+            self._mark = mark
             self._next_list += SHARE * (time.monotonic() - now) if self.is_known else 0.0
-        if now >= self._next_beats:
-            began = time.monotonic()
-            is_other = self._look_at_sessions() or is_other
-            self._next_beats = now + BEATS + SHARE * (time.monotonic() - began)
-        is_other = self._read_some() or is_other
+        self._say(self._read_some())
+        began = time.monotonic()
+        if began >= self._next_beats:
+            self._next_beats = began + BEATS  # (first: where a store is slow, rows are read all the same)
+            self._say(self._look_at_sessions())
+            self._next_beats += SHARE * (time.monotonic() - began)
+        self._keep()
+
+    def _say(self, is_other: bool) -> None:
         if is_other:
             self._changed()
-        self._keep()
 
     def _take(self, changes: Changes) -> bool:
         """Takes over what is other in the list of open requests, and says whether something is."""

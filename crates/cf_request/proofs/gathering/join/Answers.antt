@@ -1,6 +1,7 @@
 use Rattle.std.proofs.Common.{◌+◌, ℕ, arith, drop, length, subst}
 use Rattle.cf_ledger.specs.Ledgers.{state_of}
-use Rattle.cf_request.specs.Gathering.{TellsAttaches, joins}
+use Rattle.cf_request.specs.Attaching.{TellsAttaches}
+use Rattle.cf_request.specs.Gathering.{joins}
 use Rattle.cf_request.proofs.Gathered.{joins_then, pair_there}
 use Rattle.cf_request.proofs.gathering.join.Goals as goal
 
@@ -41,8 +42,8 @@ loop-source-preserved c =
     record {
       onward = λ end h. l.invariant.onward end
           (joins_then c.args.who c.args.how here l.root c.args.sources.now l.source-index l.teller c.attach-root.new.teller end (omega arith) c.attach-root.ensures.tells
-          (subst (λ (n : ℕ). TellsAttaches (joins c.args.who c.args.how (here + 1) n (drop (l.source-index + 1) c.args.sources.now)) c.attach-root.new.teller end) at
-          (subst (λ (n : ℕ). TellsAttaches (joins c.args.who c.args.how n c.attach-root.result (drop (l.source-index + 1) c.args.sources.now)) c.attach-root.new.teller end) (omega (arith, next, at)) h)));
+          (subst (λ (n : ℕ). TellsAttaches 0 (joins c.args.who c.args.how (here + 1) n (drop (l.source-index + 1) c.args.sources.now)) c.attach-root.new.teller end) at
+          (subst (λ (n : ℕ). TellsAttaches 0 (joins c.args.who c.args.how n c.attach-root.result (drop (l.source-index + 1) c.args.sources.now)) c.attach-root.new.teller end) (omega (arith, next, at)) h)));
       root = omega (arith, next);
       there = omega (arith, there, next, at);
       room = omega (arith, room, left);

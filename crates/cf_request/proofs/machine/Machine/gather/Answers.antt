@@ -1,11 +1,13 @@
 use Rattle.std.proofs.Common.{◌+◌, ◌≡◌, ◌∙◌, ◌∷◌, ◌++◌, ℕ, List, ap, arith, length, refl, replicate, subst}
 use Rattle.cf_ledger.specs.Ledgers.{state_of}
-use Rattle.cf_request.specs.Gathering.{Gathers, TellsAttaches, gathers, stages_for}
+use Rattle.cf_request.specs.Attaching.{TellsAttaches}
+use Rattle.cf_request.specs.Gathering.{Gathers, gathers, stages_for}
 use Rattle.cf_model.specs.declared.events.Event.{Event}
 use Rattle.cf_request.specs.Machines.{Machine, state_in}
 use Rattle.cf_request.specs.Rows.{AreCalls, nothing}
 use Rattle.cf_request.specs.Telling.{Teller}
-use Rattle.cf_request.proofs.Gathered.{AttachesRow, calls_gather, kept_gather, row_gathers}
+use Rattle.cf_request.proofs.Attached.{AttachesRow, kept_attach}
+use Rattle.cf_request.proofs.Gathered.{calls_gather, row_gathers}
 use Rattle.cf_request.proofs.machine.Machine.gather.Goals as goal
 
 -- what is attached, and nothing else is done
@@ -18,7 +20,7 @@ row c =
 pub invariant_of-self-2 : goal.invariant_of-self-2
 invariant_of-self-2 c =
     let m = c.self.inside in
-    kept_gather _ m.teller c.reserve.new.self c.gather.new.teller _ m.follows.items m.deadlines.items m.own m.followed m.waiting c.in_ok-reserve.ensures.found (row c) c.self.invariant.0 c.self.invariant.1 c.self.invariant.2
+    kept_attach _ m.teller c.reserve.new.self c.gather.new.teller _ m.follows.items m.deadlines.items m.own m.followed m.waiting c.in_ok-reserve.ensures.found (row c) c.self.invariant.0 c.self.invariant.1 c.self.invariant.2
 
 pub returns-clause-done : goal.returns-clause-done
 returns-clause-done c =
@@ -32,7 +34,7 @@ returns-clause-done c =
     (record {
       found = c.reserve.new.self;
       finds = record { words = c.in_ok-count.count + m.waiting; enough = omega (arith, most, count); few = omega (arith, few, count); is = c.in_ok-reserve.ensures.found };
-      tells = subst (λ (n : ℕ). TellsAttaches (gathers c.args.who c.args.how n c.args.sources.now) c.reserve.new.self c.gather.new.teller) same c.gather.ensures.tells;
+      tells = subst (λ (n : ℕ). TellsAttaches 0 (gathers c.args.who c.args.how n c.args.sources.now) c.reserve.new.self c.gather.new.teller) same c.gather.ensures.tells;
       is_root = c.gather.ensures.root;
       same = refl;
     })
@@ -56,4 +58,4 @@ returns-clause-calls c =
     let same = ap (λ (t : Teller). length (state_of t.ledger).plan.stages) c.in_ok-reserve.ensures.found in
     subst (λ (old : Machine). AreCalls old (nothing ∷ replicate (stages_for c.args.sources.now) nothing) (record first { teller = c.gather.new.teller })) c.self.view_is
     (calls_gather c.args.who c.args.how c.args.sources.now first c.reserve.new.self c.gather.new.teller (c.in_ok-count.count + m.waiting) c.in_ok-reserve.ensures.found (omega (arith, most, count, enough)) c.in_ok-count.ensures.may.room
-    c.self.invariant.0.relays c.self.invariant.1 (subst (λ (n : ℕ). TellsAttaches (gathers c.args.who c.args.how n c.args.sources.now) c.reserve.new.self c.gather.new.teller) same c.gather.ensures.tells))
+    c.self.invariant.0.relays c.self.invariant.1 (subst (λ (n : ℕ). TellsAttaches 0 (gathers c.args.who c.args.how n c.args.sources.now) c.reserve.new.self c.gather.new.teller) same c.gather.ensures.tells))

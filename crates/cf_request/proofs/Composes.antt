@@ -1,0 +1,182 @@
+-- Composes with their relays.
+use Rattle.std.proofs.Common.{◌≡◌, ℕ, ◌+◌, ◌<◌, ◌≤◌, ◌∙◌, Bool, true, false, Option, Some, None, List, [], ◌∷◌, length, not, refl, ap, sym, arith, subst}
+use Rattle.std.specs.Prelude.{Err, IfOk, Ok, OnOk, Result}
+use Rattle.std.proofs.lemmas.List.Elements.{All-cons, All-nil}
+use Rattle.cf_outcome.specs.declared.outcome.Cause.{Cause}
+use Rattle.cf_outcome.specs.declared.outcome.Cause.TheVariants.{Thrown, Cancelled, TimedOut, BadAnswer}
+use Rattle.cf_outcome.specs.declared.outcome.Outcome.{Outcome}
+use Rattle.cf_outcome.specs.declared.outcome.Outcome.TheVariants.{Value as Gives, Fault}
+use Rattle.cf_forms.specs.declared.forms.Answer.TheVariants.{Link}
+use Rattle.cf_forms.specs.declared.forms.Form.TheVariants as forms
+use Rattle.cf_forms.specs.declared.forms.Of.TheVariants.{None as NoSource, One}
+use Rattle.cf_forms.specs.Plans.{fits_form}
+use Rattle.cf_model.specs.declared.events.Reply.TheVariants.{Finish as ToldFinish}
+use Rattle.cf_model.specs.Events.{answered, cancelled_by, settled_by}
+use Rattle.cf_model.specs.Ranges.{EventFits}
+use Rattle.cf_model.specs.States.{State, claim_at, outcome_at}
+use Rattle.cf_model.proofs.OpenClaims.{same_claim}
+use Rattle.cf_event.specs.Words.{IsEvent}
+use Rattle.cf_ledger.specs.Ledgers.{state_of}
+use Rattle.cf_ledger.specs.Steps.{finished_as}
+use Rattle.cf_ledger.specs.declared.step.Finish.{Finish}
+use Rattle.cf_ledger.specs.declared.step.Held.{Held}
+use Rattle.cf_request.specs.Attaching.{TellsAttaches}
+use Rattle.cf_request.specs.Composing.{FinishesClaimed, Links, HaveWords, attaches_compose, attaches_relay, composes, form_of}
+use Rattle.cf_request.specs.Lanes.{FinishesStage}
+use Rattle.cf_request.specs.Machines.{CatchesUp, IsMachine, Machine, SetsFollow, free_in, state_in, waiting_in}
+use Rattle.cf_request.specs.Ready.{HasLanes}
+use Rattle.cf_request.specs.Relays.{AreRelays, IsRelayDue, NoneBehind, waiting_of}
+use Rattle.cf_request.specs.Rows.{AreCalls, IsCall, nothing}
+use Rattle.cf_request.specs.Rows.IsCall.{applies, sets_follow}
+use Rattle.cf_request.specs.Settling.{AreSettledInTurn, fault_event, settle_event}
+use Rattle.cf_request.specs.Telling.{Teller, Tells, is_settled_in}
+use Rattle.cf_request.specs.declared.composing.Composed.{Composed}
+use Rattle.cf_request.specs.declared.composing.Composing.{Composing}
+use Rattle.cf_request.specs.declared.composing.Composing.TheVariants.{Compose, ExceptionallyCompose}
+use Rattle.cf_request.specs.declared.deadlines.Deadline.{Deadline}
+use Rattle.cf_request.specs.declared.relays.Follow.{Follow}
+use Rattle.cf_request.specs.declared.settling.Due.{Due}
+use Rattle.cf_request.proofs.Attached.{AreAttaches, AttachesRow, call_found, found_none, row_of}
+use Rattle.cf_request.proofs.Behind.{looked_held, looked_none}
+use Rattle.cf_request.proofs.Machines.{MayCatchUp, filter_push, free_found, keeps_held, kept_by, relays_later}
+use Rattle.cf_request.proofs.Memory.{few_relays, relays_fewer, relays_stay, spends_held, spends_settle}
+use Rattle.cf_request.proofs.Turns.{after_event, keeps_dues}
+use Rattle.cf_request.proofs.Words.{same_lanes}
+
+-- ---- a relay and the compose above it
+
+fits : (how : Composing) → fits_form (form_of how) 1 true ≡ true
+fits Compose = refl
+fits ExceptionallyCompose = refl
+
+pub relay_is : (who : ℕ) → who ≤ 63 → IsEvent (attaches_relay who)
+relay_is who caller = (caller, omega arith, omega arith, omega arith, refl)
+
+pub relay_fits : (who stages : ℕ) → EventFits stages (attaches_relay who)
+relay_fits who stages = (refl, All-nil (λ (i : ℕ). i < stages))
+
+pub compose_is : (who : ℕ) (how : Composing) (source function stages : ℕ) → HaveWords who function → source < stages → stages ≤ 4096 → IsEvent (attaches_compose who how source function)
+compose_is who how source function stages words there few = (words.0, omega (arith, there, few), omega arith, words.1, fits how)
+
+pub compose_fits : (who : ℕ) (how : Composing) (source function stages : ℕ) → source < stages → EventFits stages (attaches_compose who how source function)
+compose_fits who how source function stages there = (fits how, All-cons (λ (i : ℕ). i < stages) source [] there (All-nil (λ (i : ℕ). i < stages)))
+
+pub composes_are : (who : ℕ) (how : Composing) (source function : ℕ) → AreAttaches (composes who how source function)
+composes_are who how source function = (who, forms.Source, NoSource, None, refl, (who, form_of how, One source, Some function, refl, tt))
+
+pub row_composes : (who : ℕ) (how : Composing) (source function lane : ℕ) (old new : Teller) → 2 ≤ (state_of old.ledger).plan.room → TellsAttaches lane (composes who how source function) old new →
+    AttachesRow (composes who how source function) old new
+row_composes who how source function lane old new room tells = row_of lane (composes who how source function) old new (composes_are who how source function) room tells
+
+-- ---- claims stay where open stages are settled
+
+settled_claims : (x : Option Outcome) (s : State) (i : ℕ) (o : Outcome) → (settled_by x s i o).1.claims ≡ s.claims
+settled_claims None s i o = refl
+settled_claims (Some p) s i o = refl
+
+cancelled_claims : (x : Option Outcome) (s : State) (i : ℕ) → (cancelled_by x s i).1.claims ≡ s.claims
+cancelled_claims None s i = refl
+cancelled_claims (Some p) s i = refl
+
+fault_claims : (s : State) (who i : ℕ) (cause : Cause) → (answered s (fault_event who i cause)).1.claims ≡ s.claims
+fault_claims s who i (Thrown code) = settled_claims (outcome_at s i) s i (Fault (Thrown code) false)
+fault_claims s who i Cancelled = cancelled_claims (outcome_at s i) s i
+fault_claims s who i TimedOut = settled_claims (outcome_at s i) s i (Fault TimedOut false)
+fault_claims s who i BadAnswer = settled_claims (outcome_at s i) s i (Fault BadAnswer false)
+
+settle_claims : (s : State) (who i : ℕ) (o : Outcome) → (answered s (settle_event who i o)).1.claims ≡ s.claims
+settle_claims s who i (Gives v) = settled_claims (outcome_at s i) s i (Gives v)
+settle_claims s who i (Fault cause wrapped) = fault_claims s who i cause
+
+turns_claims : (P : State → Due → Type 0) (who : ℕ) (dues : List Due) (a b : Teller) → AreSettledInTurn P who a dues b → (state_of b.ledger).claims ≡ (state_of a.ledger).claims
+turns_claims P who [] a b same = ap (λ (t : Teller). (state_of t.ledger).claims) same
+turns_claims P who (d ∷ dues) a b (between, waits, due, did, rest) =
+    turns_claims P who dues between b rest ∙ ap (λ (s : State). s.claims) (after_event (settle_event who d.stage d.outcome) a between did.reply did.done) ∙ settle_claims (state_of a.ledger) who d.stage d.outcome
+
+-- each word is one relay's
+turns_spend : (follows : List Follow) (who : ℕ) (dues : List Due) (a b : Teller) → AreSettledInTurn (IsRelayDue follows) who a dues b →
+    a.ledger.free + length (waiting_of (state_of b.ledger).stages follows) ≤ b.ledger.free + length (waiting_of (state_of a.ledger).stages follows)
+turns_spend follows who [] a b same = subst (λ (t : Teller). a.ledger.free + length (waiting_of (state_of t.ledger).stages follows) ≤ t.ledger.free + length (waiting_of (state_of a.ledger).stages follows)) (sym same) (omega arith)
+turns_spend follows who (d ∷ dues) a b (between, waits, due, did, rest) =
+    let less = relays_fewer follows who d a between waits due did in
+    let one = spends_settle who d a between did in
+    let more = turns_spend follows who dues between b rest in
+    omega (arith, less, one, more)
+
+-- ---- a relay follows a stage
+
+-- what is as it was, and what memory is left
+pub record LeavesClaims (old new : Machine) : Type 0 where
+  pub claims : (i : ℕ) → claim_at (state_in new) i ≡ claim_at (state_in old) i
+  pub count : length (state_in new).plan.stages ≡ length (state_in old).plan.stages
+  pub memory : 2 + waiting_in old ≤ free_in old → 1 + waiting_in new ≤ free_in new
+
+pub leaves_claims : (relay stage : ℕ) (old new : Machine) → SetsFollow relay stage old new → LeavesClaims old new
+leaves_claims relay stage old new h =
+    let f : Follow = record { relay = relay; stage = stage } in
+    let a = h.found in
+    let stages = (state_of a.ledger).stages in
+    let settles = h.catches_up.settles in
+    let claims = turns_claims (IsRelayDue new.follows) old.own settles.dues a new.teller settles.are ∙ ap (λ (t : Teller). (state_of t.ledger).claims) h.finds.is in
+    let keeps = keeps_dues (IsRelayDue new.follows) old.own a new.teller settles in
+    let spent = turns_spend new.follows old.own settles.dues a new.teller settles.are in
+    let more = free_found h.finds.words old.teller a h.finds.is in
+    let waits = ap (λ (t : Teller). length (waiting_of (state_of t.ledger).stages old.follows)) h.finds.is in
+    let push : length (waiting_of stages new.follows) ≤ length (waiting_of stages old.follows) + 1 =
+    subst (λ (l : List Follow). length (waiting_of stages l) ≤ length (waiting_of stages old.follows) + 1) (sym h.set) (filter_push (λ (g : Follow). not (is_settled_in stages g.relay)) old.follows f) in
+    record {
+      claims = λ i. same_claim i (state_in old).claims (state_in new).claims claims;
+      count = keeps.count ∙ ap (λ (t : Teller). length (state_of t.ledger).plan.stages) h.finds.is;
+      memory = λ enough. omega (arith, enough, spent, more, waits, push);
+    }
+
+-- ---- the compose is finished
+
+-- what is to hold where relays are settled
+pub may_claimed : (a b : Teller) (who : ℕ) (held : Held) (f : Finish) (row follows : List Follow) (deadlines : List Deadline) (own : ℕ) (flags : List Bool) (waiting seen : ℕ) → row ≡ follows → IsMachine a follows deadlines own →
+    NoneBehind follows (state_of a.ledger).stages → AreRelays (state_of a.ledger).stages follows flags waiting → seen ≡ length a.told → 1 + length (waiting_of (state_of a.ledger).stages follows) ≤ a.ledger.free →
+    FinishesStage who held a f b → MayCatchUp b row flags waiting seen 0
+may_claimed a b who held f row follows deadlines own flags waiting seen rows machine none relays at enough done =
+    let keeps = keeps_held who (Some held) a (Some f) b done in
+    let last = relays_later (state_of a.ledger).stages (state_of b.ledger).stages follows flags waiting keeps.settled relays in
+    let most = last.most in
+    let fewer = relays_stay follows (state_of a.ledger).stages (state_of b.ledger).stages keeps.settled in
+    let one = spends_held who (Some held) a (Some f) b done in
+    subst (λ (l : List Follow). MayCatchUp b l flags waiting seen 0) (sym rows) (record {
+      there = (kept_by a b follows deadlines own keeps machine).relays;
+      marked = relays.marked;
+      seen_is = looked_held seen follows who (Some held) a (Some f) b done (looked_none seen a.told follows (state_of a.ledger).stages at none);
+      open_few = most;
+      memory = omega (arith, fewer, one, enough);
+    })
+
+-- it is as by its word alone
+pub finishes_claimed : (who : ℕ) (composed : Composed) (m : Machine) (f : Finish) (b d : Teller) → HasLanes (state_in m) m.teller.lanes.of → FinishesStage who (record { stage = composed.stage; answer = Link composed.relay }) m.teller f b →
+    CatchesUp m.own m.follows b d → waiting_in m ≤ free_in m → FinishesClaimed who composed m f (record m { teller = d })
+finishes_claimed who composed m f b d all done caught enough =
+    let held : Held = record { stage = composed.stage; answer = Link composed.relay } in
+    let count = (keeps_held who (Some held) m.teller (Some f) b done).count in
+    let few = few_relays (state_in m).stages m.follows in
+    record {
+      word = done.word;
+      applies = record {
+        found = m.teller;
+        finds = record { words = waiting_in m; enough = omega arith; few = omega (arith, few); is = found_none m.teller (waiting_in m) enough };
+        between = b;
+        tells = subst (λ (w : ℕ). Tells w m.teller (ToldFinish (finished_as f.late)) b) (sym done.word) done.done.tells;
+        lanes = done.done.lanes ∙ sym (same_lanes (length (state_of b.ledger).plan.stages) 0 m.teller.lanes (omega (arith, all, count)));
+        catches_up = caught;
+        same = refl;
+      };
+    }
+
+-- ---- as calls
+
+pub calls_link : (who : ℕ) (composed : Composed) (stage : ℕ) (old : Machine) (finish : Finish) (new : Machine) → Links who composed stage old finish new → AreCalls old (nothing ∷ nothing ∷ nothing ∷ []) new
+calls_link who composed stage old finish new h =
+    let last : (x : Machine) × IsCall h.linked.between nothing x × (new ≡ x) = (new, applies finish.word 0 (ToldFinish (finished_as finish.late)) refl h.linked.finishes.applies, refl) in
+    (record old { teller = h.found }, call_found h.finds.words old h.found h.finds.is, (h.linked.between, sets_follow composed.relay stage refl h.linked.follows, last))
+
+pub ok_so : {A E : Type 0} (r : Result A E) (P : A → Type 0) (Q : Type 0) → IfOk r P → ((a : A) → P a → Q) → OnOk r Q
+ok_so (Ok a) P Q h then = then a h
+ok_so (Err e) P Q h then = tt
