@@ -61,15 +61,16 @@ class Interrupts(Case):
                 while time.monotonic() < end:
                     promise = service.request().promise()
                     behind = promise.then(lambda x: x)
-                    signal.signal(signal.SIGINT, signal.default_int_handler)
                     try:
                         try:
+                            signal.signal(signal.SIGINT, signal.default_int_handler)
                             promise.complete(1)
                             while True:
                                 promise.complete(2)
                         finally:
                             signal.signal(signal.SIGINT, signal.SIG_IGN)
                     except KeyboardInterrupt:
+                        signal.signal(signal.SIGINT, signal.SIG_IGN)  # (which may have been interrupted itself)
                         seen += 1
                     promise.complete(3)
                     lost += behind.result(5) not in (1, 2, 3)
