@@ -2,7 +2,7 @@
 """Writes what the library tells of itself, by cf.h.
 
     facts.py HEADER              in C: its version, the names of codes, the sizes of structs and the offsets of their fields
-    facts.py --version HEADER    the version, as 1.7.0
+    facts.py --version HEADER    the version, as 1.8.0
     facts.py --script HEADER     for the linker: what the shared library exports, each call with the version in which it came
 
 The header is the only table: a code is named by its constant, CF_NO_STAGE as NoStage, and the compiler says sizes and offsets.
@@ -27,6 +27,8 @@ LATER: Dict[str, str] = {
     "cf_request_gather": "1.7",
     "cf_request_grow": "1.7",
     **dict.fromkeys(["cf_history_new", "cf_history_times", "cf_history_say", "cf_history_text"], "1.7"),
+    **dict.fromkeys(["cf_row_new", "cf_row_plan", "cf_row_met", "cf_row_give_up", "cf_row_saw", "cf_row_grow", "cf_row_number",
+                     "cf_row_number_of", "cf_row_claimed"], "1.8"),
 }
 TEXT = """#include "cf.h"
 #include <string.h>
