@@ -99,6 +99,8 @@ def rows_of_requests(tools: Tools, made: Path) -> List[Row]:
         Row("the types of the plain machine and its hosts", ["mypy", "python3"],
             [["env", "MYPYPATH=clients/python", *typed, "conformance/common/machine.py", *parts, folder + "/hosts"]]),
         Row("the types of what compares histories", ["mypy", "python3"], [["env", "MYPYPATH=clients/python", *typed, folder + "/told"]]),
+        Row("random sessions of a row, by their views", ["library", "python3"], [[tools["python3"], "conformance/stores/views", "0", "200"]]),
+        Row("the types of what compares views", ["mypy", "python3"], [["env", "MYPYPATH=clients/python", *typed, "conformance/stores/views"]]),
     ]
 
 

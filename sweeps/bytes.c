@@ -76,8 +76,31 @@ static uint32_t fill(cf_handle *ledger) {
   return code;
 }
 
+/* 200 entries of another session. */
+static uint32_t see(cf_handle *view) {
+  cf_entry entry = {0};
+  cf_event event = {.call = CF_CALL_COMPLETE, .value = {CF_INT, 1}};
+  uint32_t code = cf_word_of_event(&event, &entry.word);
+  for (int k = 0; k < 200 && code == CF_OK; ++k) {
+    cf_reply reply;
+    size_t n;
+    code = cf_row_saw(view, &entry, &reply, NULL, 0, &n);
+  }
+  return code;
+}
+
+/* A put of a word, which is given up. */
+static uint32_t plan_put(cf_handle *view) {
+  uint64_t word, token;
+  cf_event event = {.call = CF_CALL_COMPLETE, .who = 1, .value = {CF_INT, 1}};
+  uint32_t code = cf_word_of_event(&event, &word);
+  if (code == CF_OK) code = cf_row_plan(view, &word, 1, &token);
+  return code == CF_OK ? cf_row_give_up(view) : code;
+}
+
 int main(void) {
-  cf_handle plan = {0}, grown = {0}, again = {0}, graph = {0}, callers[CALLERS] = {{0}}, ledger = {0};
+  cf_handle plan = {0}, grown = {0}, again = {0}, graph = {0}, callers[CALLERS] = {{0}}, ledger = {0}, view = {0};
+  const cf_row_opening opening = {.room = ROOM, .session = 7};
   static const char SCRIPT[] = "{\"cf\":1,\"stages\":[{\"form\":\"source\"}],\"steps\":[[\"complete\",0,3],[\"outcome\",0]]}";
   static uint8_t report[1000];
   size_t length;
@@ -105,6 +128,10 @@ int main(void) {
   takes("its restart", cf_ledger_restart(&ledger), 0);
   takes("its words again", fill(&ledger), 0);
   takes("more room for it", cf_ledger_grow(&ledger, ROOM), 19304);
+  takes("a view", cf_row_new(&plan, &opening, &view), 10092);
+  takes("its entries", see(&view), 20356);
+  takes("a put of it", plan_put(&view), 0);
+  takes("more room for it", cf_row_grow(&view, ROOM), 19304);
   takes("a script", cf_run_script((const uint8_t *)SCRIPT, sizeof SCRIPT - 1, report, sizeof report, &length), 3845);
   cf_free(&plan);
   cf_free(&grown);
@@ -112,6 +139,7 @@ int main(void) {
   cf_free(&graph);
   for (int k = 0; k < CALLERS; ++k) cf_free(&callers[k]);
   cf_free(&ledger);
+  cf_free(&view);
   printf("%u of %u steps asked for other memory\n", wrong, steps);
   return wrong != 0;
 }

@@ -375,6 +375,63 @@ static uint32_t long_request(long numbers[3]) {
     return request_with(numbers, steps, count);
 }
 
+/* A call of a view: an entry of a word is seen, or a put of it is planned and then given up, or there is more room. */
+typedef enum { SEE, PLAN, MORE } view_call;
+
+static uint32_t call_view(cf_handle *view, view_call call, uint64_t word, size_t *n) {
+    const cf_entry entry = {.word = word, .token = *n};
+    cf_reply reply;
+    uint64_t token = 99;
+    uint32_t code;
+    switch (call) {
+    case PLAN:
+        code = cf_row_plan(view, &word, 1, &token);
+        return code != CF_OK ? (token == 99 ? code : CHANGED) : cf_row_give_up(view);
+    case MORE: return cf_row_grow(view, 1);
+    default: return cf_row_saw(view, &entry, &reply, NULL, 0, n);
+    }
+}
+
+/* Makes a call, and where memory was refused it the same once more. It has to have changed nothing then. */
+static uint32_t step_view(cf_handle *view, view_call call, uint64_t word, long *again) {
+    const size_t before = words_of(view);
+    size_t n = 99;
+    uint8_t who = 99, now = 99;
+    cf_row_number(view, &who);
+    uint32_t code = call_view(view, call, word, &n);
+    if (code != CF_NO_MEMORY)
+        return code;
+    if (n != 99 || words_of(view) != before || cf_row_number(view, &now) != CF_OK || now != who)
+        return CHANGED;
+    ++*again;
+    return call_view(view, call, word, &n);
+}
+
+/* A view that sees a hundred completions of session 0, plans one as another session, and has more room twice: how many words it has seen,
+ * and its number. */
+static uint32_t view(long numbers[3]) {
+    cf_handle plan = {0}, it = {0};
+    uint64_t word = 0;
+    uint8_t who = 0;
+    numbers[2] = 0;
+    uint32_t code = make_plan(&plan, &numbers[2]);
+    const cf_row_opening opening = {.room = 1, .session = 1};
+    cf_word_of((cf_event){.call = CF_CALL_COMPLETE, .value = {CF_INT, 3}}, &word);
+    if (code == CF_OK)
+        code = cf_row_new(&plan, &opening, &it);
+    for (int k = 0; k < 100 && code == CF_OK; k++)
+        code = step_view(&it, SEE, word, &numbers[2]);
+    cf_word_of((cf_event){.call = CF_CALL_COMPLETE, .who = 1, .value = {CF_INT, 3}}, &word);
+    for (int k = 0; k < 40 && code == CF_OK; k++)
+        code = step_view(&it, k % 20 == 0 ? MORE : PLAN, word, &numbers[2]);
+    cf_row_number(&it, &who);
+    numbers[0] = (long)words_of(&it);
+    numbers[1] = who;
+    cf_free(&it);
+    cf_free(&plan);
+    return code;
+}
+
 /* The words of a completion, a claim, a finish, and an attach for which there is no room. */
 static size_t words_in(uint64_t words[4]) {
     const cf_event events[] = {
@@ -448,7 +505,7 @@ static const struct {
 } OPENINGS[] = {
     {"C builder", small_builder}, {"C builder with room", roomy_builder}, {"C plan", plan}, {"C graph", graph},
     {"C growing graph", growing_graph}, {"C desk", desk}, {"C growing desk", growing_desk}, {"C ledger", ledger},
-    {"C request", request}, {"C long request", long_request}, {"C history", history}, {"C script", script}, {"C wrong script", wrong_script},
+    {"C request", request}, {"C long request", long_request}, {"C view", view}, {"C history", history}, {"C script", script}, {"C wrong script", wrong_script},
 };
 
 static void show(const char *name, opening *open) {

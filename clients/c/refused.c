@@ -33,6 +33,8 @@ static const cf_answer given = {.kind = CF_GIVE, .value = {CF_INT, 6}};
 static const cf_desk_sizes sizes = {.log = LOG, .calls = CALLS, .room = 1, .functions = 1};
 static const cf_request_sizes lanes = {.room = 1, .lanes = 2, .own = OWN};
 static const uint8_t lane_of[] = {0, 1};
+static const cf_row_opening opening = {.room = 1, .session = 700};
+static const cf_entry entry = {.word = 1};
 static const cf_given first = {.stage = SOURCE, .value = {CF_INT, 5}};
 static const uint16_t of = SOURCE;
 static const uint16_t many_of[] = {SOURCE, TWICE, NOT_THERE};
@@ -51,6 +53,7 @@ static void plan_calls(cf_handle *h, uint32_t wanted) {
   ROW(cf_ledger_new(h, 0, &empty), wanted);
   ROW(cf_ledger_of(h, 0, NULL, 0, &empty, &out.n), wanted);
   ROW(cf_request_new(h, &lanes, lane_of, STAGES, &empty), wanted);
+  ROW(cf_row_new(h, &opening, &empty), wanted);
   ROW(cf_history_new(h, 0, NULL, 0, &empty), wanted);
   ROW(cf_desk_open(h, callers, CALLERS, LOG, CALLS), wanted);
   ROW(cf_desk_open_with(h, callers, CALLERS, &sizes), wanted);
@@ -89,7 +92,7 @@ static void sweep_calls(cf_handle *h, uint32_t wanted) {
   ROW(cf_sweep_end(h), wanted);
 }
 
-static const cf_handle *request; /* which is asked as a ledger is */
+static const cf_handle *request, *view; /* which are asked as a ledger is */
 
 static void ledger_calls(cf_handle *h, uint32_t wanted) {
   ROW(cf_ledger_apply(h, 1, &out.reply, out.news, 2, &out.n), wanted);
@@ -97,7 +100,7 @@ static void ledger_calls(cf_handle *h, uint32_t wanted) {
   ROW(cf_ledger_apply_all(h, NULL, 0, &out.n), wanted);
   ROW(cf_ledger_grow(h, 1), wanted);
   ROW(cf_ledger_restart(h), wanted);
-  if (h && h == request) return;
+  if (h && (h == request || h == view)) return;
   ROW(cf_ledger_words(h, 0, out.words, 2, &out.n), wanted);
   ROW(cf_ledger_news(h, 0, out.stages, 2, &out.n), wanted);
   ROW(cf_ledger_ready(h, 0, &out.number), wanted);
@@ -123,6 +126,17 @@ static void request_calls(cf_handle *h, uint32_t wanted) {
   ROW(cf_request_grow(h), wanted);
   ROW(cf_request_restart(h), wanted);
   ROW(cf_request_do(h, &out.call, 1, &out.done, out.told, 2), wanted);
+}
+
+static void view_calls(cf_handle *h, uint32_t wanted) {
+  ROW(cf_row_plan(h, out.words, 1, &out.word), wanted);
+  ROW(cf_row_met(h, &entry, &out.small), wanted);
+  ROW(cf_row_give_up(h), wanted);
+  ROW(cf_row_saw(h, &entry, &out.reply, out.news, 2, &out.n), wanted);
+  ROW(cf_row_grow(h, 1), wanted);
+  ROW(cf_row_number(h, &out.small), wanted);
+  ROW(cf_row_number_of(h, 1, &out.small), wanted);
+  ROW(cf_row_claimed(h, 0, 0, &out.number), wanted);
 }
 
 static void history_calls(cf_handle *h, uint32_t wanted) {
@@ -171,10 +185,10 @@ static void closed_calls(cf_handle *h, uint32_t wanted) {
 
 /* ---- One handle of each kind ---- */
 
-enum kind { BUILDER, PLAN, GRAPH, SWEEP, LEDGER, REQUEST, HISTORY, CALLER, CLOSING, CLOSED, KINDS };
+enum kind { BUILDER, PLAN, GRAPH, SWEEP, LEDGER, REQUEST, VIEW, HISTORY, CALLER, CLOSING, CLOSED, KINDS };
 static void (*const calls_of[KINDS])(cf_handle *h, uint32_t wanted) = {builder_calls, plan_calls, graph_calls, sweep_calls,
-                                                                       ledger_calls, request_calls, history_calls, caller_calls,
-                                                                       closing_calls, closed_calls};
+                                                                       ledger_calls, request_calls, view_calls, history_calls,
+                                                                       caller_calls, closing_calls, closed_calls};
 static cf_handle held[KINDS], other_caller;
 
 static void build(cf_handle *builder) {
@@ -194,6 +208,8 @@ static void make_all(void) {
   ROW(cf_ledger_new(&held[PLAN], 1, &held[LEDGER]), CF_OK);
   ROW(cf_request_new(&held[PLAN], &lanes, lane_of, STAGES, &held[REQUEST]), CF_OK);
   request = &held[REQUEST];
+  ROW(cf_row_new(&held[PLAN], &opening, &held[VIEW]), CF_OK);
+  view = &held[VIEW];
   ROW(cf_history_new(&held[PLAN], 1, NULL, 0, &held[HISTORY]), CF_OK);
   ROW(cf_desk_open_with(&held[PLAN], callers, CALLERS, &sizes), CF_OK);
   held[CALLER] = callers[0], other_caller = callers[1];
@@ -224,6 +240,7 @@ static void are_as_before(void) {
   HOLDS(stage.kind == CF_IS_PENDING && stage.who == CF_NOBODY);
   HOLDS(cf_ledger_words(&held[LEDGER], 0, NULL, 0, &n) == CF_OK && n == 0);
   HOLDS(cf_ledger_words(&held[REQUEST], 0, NULL, 0, &n) == CF_OK && n == 0);
+  HOLDS(cf_ledger_words(&held[VIEW], 0, NULL, 0, &n) == CF_OK && n == 0);
   HOLDS(cf_request_told(&held[REQUEST], NULL, 0, &n) == CF_OK && n == 0);
   HOLDS(cf_request_next_deadline(&held[REQUEST], &deadline) == CF_NOTHING);
   HOLDS(cf_desk_left(&held[CALLER], &number) == CF_OK && number == CALLS);
@@ -260,7 +277,7 @@ static void by_handles(void) {
 
 static void by_pointers(void) {
   cf_handle *builder = &held[BUILDER], *plan = &held[PLAN], *graph = &held[GRAPH], *ledger = &held[LEDGER], *caller = &held[CALLER];
-  cf_handle empty = {0}, *asked = &held[REQUEST];
+  cf_handle empty = {0}, *asked = &held[REQUEST], *seen = &held[VIEW];
   fill();
   ROW(cf_builder_new(NULL, 0, 0), CF_NULL);
   ROW(cf_builder_stage(builder, CF_APPLY, NULL, 1, 0, &out.number), CF_NULL);
@@ -345,6 +362,19 @@ static void by_pointers(void) {
   ROW(cf_request_do(asked, NULL, 1, &out.done, out.told, 2), CF_NULL);
   ROW(cf_request_do(asked, &out.call, 1, NULL, out.told, 2), CF_NULL);
   ROW(cf_request_do(asked, &out.call, 1, &out.done, NULL, 2), CF_NULL);
+  ROW(cf_row_new(plan, NULL, &empty), CF_NULL);
+  ROW(cf_row_new(plan, &opening, NULL), CF_NULL);
+  ROW(cf_row_plan(seen, NULL, 1, &out.word), CF_NULL);
+  ROW(cf_row_plan(seen, out.words, 1, NULL), CF_NULL);
+  ROW(cf_row_met(seen, NULL, &out.small), CF_NULL);
+  ROW(cf_row_met(seen, &entry, NULL), CF_NULL);
+  ROW(cf_row_saw(seen, NULL, &out.reply, out.news, 2, &out.n), CF_NULL);
+  ROW(cf_row_saw(seen, &entry, NULL, out.news, 2, &out.n), CF_NULL);
+  ROW(cf_row_saw(seen, &entry, &out.reply, NULL, 2, &out.n), CF_NULL);
+  ROW(cf_row_saw(seen, &entry, &out.reply, out.news, 2, NULL), CF_NULL);
+  ROW(cf_row_number(seen, NULL), CF_NULL);
+  ROW(cf_row_number_of(seen, 1, NULL), CF_NULL);
+  ROW(cf_row_claimed(seen, 0, 0, NULL), CF_NULL);
   ROW(cf_history_new(plan, 0, NULL, 1, &empty), CF_NULL);
   ROW(cf_history_new(plan, 0, NULL, 0, NULL), CF_NULL);
   ROW(cf_history_times(&held[HISTORY], NULL, 1), CF_NULL);
@@ -428,6 +458,8 @@ static void by_numbers(uint16_t stage) {
   ROW(cf_request_follow(asked, SOURCE, stage, out.told, 2, &out.n), CF_NO_STAGE);
   ROW(cf_request_deadline(asked, stage, 1, CF_TIMEOUT, value), CF_NO_STAGE);
   ROW(cf_ledger_stage(asked, stage, &out.stage), CF_NO_STAGE);
+  ROW(cf_ledger_stage(&held[VIEW], stage, &out.stage), CF_NO_STAGE);
+  ROW(cf_row_claimed(&held[VIEW], 0, stage, &out.number), CF_NOTHING);
   ROW(cf_desk_complete(caller, stage, value, &out.reply), CF_NO_STAGE);
   ROW(cf_desk_fail(caller, stage, 1, &out.reply), CF_NO_STAGE);
   ROW(cf_desk_fail_as(caller, stage, CF_TIMED_OUT, &out.reply), CF_NO_STAGE);
@@ -563,6 +595,87 @@ static void by_other_numbers(void) {
   HOLDS(is_filled() && !empty.full && !many[0].full && task.held == 1 && task.stage == TWICE);
 }
 
+/* ---- A view: what it refuses while no put is under way, while one is, and once a session has no token left ---- */
+
+static const cf_event settles = {.call = CF_CALL_COMPLETE, .stage = SOURCE, .value = {CF_INT, 5}};
+
+/* A word of the first caller that no graph of this plan takes, and one of the second caller. */
+static void by_wrong_words(cf_handle *seen) {
+  cf_event event = settles;
+  uint64_t word;
+  event.stage = NOT_THERE;
+  ROW(cf_word_of(event, &word), CF_OK);
+  ROW(cf_row_plan(seen, &word, 1, &out.word), CF_NO_WORD);
+  ROW(cf_row_saw(seen, &(cf_entry){.word = word}, &out.reply, out.news, 2, &out.n), CF_NO_STAGE);
+  event.stage = SOURCE, event.who = 1;
+  ROW(cf_word_of(event, &word), CF_OK);
+  ROW(cf_row_plan(seen, &word, 1, &out.word), CF_NO_WORD);
+  ROW(cf_row_saw(seen, &(cf_entry){0}, &out.reply, out.news, 2, &out.n), CF_NO_WORD);
+}
+
+static void by_views(void) {
+  const cf_event attaches = {.call = CF_CALL_ATTACH, .form = CF_SOURCE, .function = CF_NO_FUNCTION};
+  cf_handle *plan = &held[PLAN], *seen = &held[VIEW], empty = {0}, last = {0};
+  uint64_t words[2], token;
+  uint8_t small;
+  fill();
+  ROW(cf_word_of(settles, &words[0]), CF_OK);
+  words[1] = words[0];
+  ROW(cf_row_new(plan, &(cf_row_opening){.room = 4095}, &empty), CF_ROOM);
+  ROW(cf_row_new(plan, &(cf_row_opening){.session = UINT64_C(1) << 39}, &empty), CF_NO_TOKENS);
+  ROW(cf_row_new(plan, &(cf_row_opening){.first = (1 << 23) + 1}, &empty), CF_NO_TOKENS);
+  ROW(cf_row_new(plan, &opening, &held[GRAPH]), CF_FULL);
+  ROW(cf_row_met(seen, &entry, &out.small), CF_NOTHING);
+  ROW(cf_row_plan(seen, words, 0, &out.word), CF_NOTHING);
+  ROW(cf_row_grow(seen, NEVER), CF_ROOM);
+  ROW(cf_row_number_of(seen, opening.session, &out.small), CF_NOTHING);
+  by_wrong_words(seen);
+  HOLDS(cf_row_number(seen, &small) == CF_OK && small == 0);
+
+  HOLDS(cf_row_plan(seen, words, 2, &token) == CF_OK && token == opening.session << 23);
+  ROW(cf_row_plan(seen, words, 1, &out.word), CF_UNDER_WAY);
+  ROW(cf_row_saw(seen, &(cf_entry){.word = words[0]}, &out.reply, out.news, 2, &out.n), CF_UNDER_WAY);
+  ROW(cf_row_grow(seen, 0), CF_UNDER_WAY);
+  HOLDS(cf_row_met(seen, &(cf_entry){.word = words[0], .token = token + 1}, &small) == CF_OK && small == 0);
+  HOLDS(cf_row_plan(seen, words, 1, &token) == CF_OK && token == (opening.session << 23) + 2);
+  HOLDS(cf_row_met(seen, &(cf_entry){.token = token}, &small) == CF_OK && small == 1);
+  HOLDS(cf_row_plan(seen, words, 1, &token) == CF_OK && token == (opening.session << 23) + 3);
+  ROW(cf_row_give_up(seen), CF_OK);
+
+  ROW(cf_row_new(plan, &(cf_row_opening){.first = (1 << 23) - 1}, &last), CF_OK);
+  ROW(cf_row_plan(&last, words, 2, &out.word), CF_NO_TOKENS);
+  ROW(cf_word_of(attaches, &words[0]), CF_OK);
+  ROW(cf_row_plan(&last, words, 1, &out.word), CF_NO_WORD);
+  ROW(cf_row_grow(&last, 1), CF_OK);
+  HOLDS(cf_row_plan(&last, words, 1, &token) == CF_OK && token == (1 << 23) - 1);
+  ROW(cf_row_give_up(&last), CF_OK);
+  ROW(cf_row_plan(&last, words, 1, &out.word), CF_NO_TOKENS);
+  cf_free(&last);
+  HOLDS(is_filled() && !empty.full);
+}
+
+/* The caller's number after all others: 64 sessions put one word each, and the next one has none. */
+static void by_sessions(void) {
+  cf_handle crowd = {0};
+  cf_event event = settles;
+  cf_entry one = {0};
+  cf_reply reply;
+  uint8_t small;
+  size_t n;
+  ROW(cf_row_new(&held[PLAN], &opening, &crowd), CF_OK);
+  for (uint8_t who = 0; who < 64; who++) {
+    HOLDS(cf_row_number(&crowd, &small) == CF_OK && small == who);
+    event.who = who, one.token = (uint64_t)(who + 1) << 23;
+    HOLDS(cf_word_of(event, &one.word) == CF_OK && cf_row_saw(&crowd, &one, &reply, NULL, 0, &n) == CF_OK && n == (who == 0 ? 2 : 0));
+  }
+  fill();
+  ROW(cf_row_number(&crowd, &out.small), CF_NO_NUMBER);
+  ROW(cf_row_plan(&crowd, &one.word, 1, &out.word), CF_NO_NUMBER);
+  HOLDS(cf_row_number_of(&crowd, 64, &small) == CF_OK && small == 63);
+  HOLDS(is_filled());
+  cf_free(&crowd);
+}
+
 /* ---- Buffers that are too short: what is told is whole, and nothing behind the buffer's end is written ---- */
 
 static void by_buffers(void) {
@@ -618,6 +731,8 @@ int main(void) {
   by_numbers(4096);
   by_numbers(NEVER);
   by_other_numbers();
+  by_views();
+  by_sessions();
   are_as_before();
   by_buffers();
   are_as_before();

@@ -32,6 +32,7 @@
  *   - a ledger: a graph that also keeps the word of each event, for one thread or for several under a lock of yours
  *     (cf_ledger_new);
  *   - a request: a ledger that also knows whom to wake, what to run and until when (cf_request_new);
+ *   - a view: what one session knows of a row of words in a store, and what it may put there (cf_row_new);
  *   - a history: what the words of a ledger or a request did, to be told as a text (cf_history_new);
  *   - a caller of a desk: a desk is a graph that several threads share without a lock, and each thread has a caller's
  *     handle of its own (cf_desk_open);
@@ -62,7 +63,8 @@
  * cf_ledger_apply, cf_ledger_step, cf_ledger_apply_all, cf_ledger_grow, cf_request_new, cf_request_apply,
  * cf_request_gather, cf_request_compose, cf_request_link, cf_request_next, cf_request_follow,
  * cf_request_deadline, cf_request_pass, cf_request_refuse, cf_request_cancel_all, cf_request_grow, cf_request_do,
- * cf_history_new, cf_history_times, cf_history_say, cf_history_text and cf_run_script. No other call takes any.
+ * cf_row_new, cf_row_plan, cf_row_saw, cf_row_grow, cf_history_new, cf_history_times, cf_history_say,
+ * cf_history_text and cf_run_script. No other call takes any.
  *
  * Codes. Each call answers a cf_code, except cf_free and the last four calls of this header. The code is CF_OK (0)
  * if the call did what it was asked. The comments list the other codes of each call. If several apply, the call
@@ -144,6 +146,9 @@ typedef enum {
   CF_PAST_MOMENT = 35,        /* the moment is before the last one */
   CF_BAD_TEXT = 36,           /* a text ends before it begins or behind its bytes, or isn't UTF-8 */
   CF_TOO_MANY = 37,           /* there are more texts or times than there can be of what they are said of */
+  CF_UNDER_WAY = 38,          /* a put of the view is under way */
+  CF_NO_TOKENS = 39,          /* there is no such session or token, or the session has fewer tokens left than words */
+  CF_NO_NUMBER = 40,          /* other sessions have all 64 callers' numbers */
   CF_NULL = 255               /* a pointer is null that may not be; nothing was done */
 } cf_code;
 
@@ -891,7 +896,8 @@ uint32_t cf_ledger_step(cf_handle *ledger, cf_step *step, cf_task *task, cf_news
  * Codes: CF_NO_WORD, CF_NO_STAGE, CF_NO_ROOM or CF_NO_MEMORY, for which the next one can't be done. */
 uint32_t cf_ledger_apply_all(cf_handle *ledger, const uint64_t *words, size_t n, size_t *done);
 
-/* This call and the next five ask a ledger, and so does the ledger of a request: the handle may be of either kind.
+/* This call and the next five ask a ledger, or the ledger of a request or of a view: the handle may be of each of these
+ * kinds.
  *
  * Tells the words of a ledger.
  *   - from: the place of the first word that is told, 0, 1, ..
@@ -1189,6 +1195,122 @@ typedef struct { size_t calls; size_t told; } cf_request_done;
  * Codes: if a call is refused, its code, or CF_NO_SUCH_NUMBER if there is no such call. The calls before it are done
  * then, `done` and `told` are written, and the row of the refused call is calls[done->calls]. */
 uint32_t cf_request_do(cf_handle *request, cf_request_call *calls, size_t n, cf_request_done *done, cf_told *told, size_t room);
+
+/* ---- Views: what one session knows of a row in a store ---- */
+
+/* A row is a list of entries in a store: a request's words, each with a token that says who put it. Any process that
+ * reads the row has the same graph. A session is a process at work, or a part of one. What it knows of a row is its
+ * view: a ledger of the entries that it has seen, and the put that is under way. A view does no I/O. Your program asks
+ * the store, and tells the view what the store answers. clients/c/row.c has two sessions of one row.
+ *
+ * The store has to keep three rules. It puts a group of entries whole or not at all, and only where no entry stands
+ * yet. What it has answered stays. What it gives to read is the row, or a beginning of it. Then all sessions see one
+ * order of events, whatever answers are lost, repeated or late.
+ *
+ * A put goes so:
+ *   1. cf_row_plan takes the words, and tells the token of the first. The entries are the words, and tokens that count
+ *      from this one.
+ *   2. Ask the store to put these entries behind all that the view has seen (cf_ledger_words tells how many that are).
+ *      If no answer comes, ask again: it is the same put.
+ *   3. If the store says that they stand, or that others stand there, give cf_row_met the first entry that stands there,
+ *      which in the first case is the put's own. It tells whether the put has landed. Then give cf_row_saw each entry
+ *      that stands there, in order. If the put hasn't landed, plan again what is still wanted.
+ *   4. If you no longer want to ask: cf_row_give_up. It isn't known then whether the put stands. What is read later
+ *      tells: an entry whose token, divided by 2^23, is the session's was put by it.
+ *
+ * What others have put: read the row from the place behind all that the view has seen, and give cf_row_saw each entry.
+ *
+ * A session's caller's number is the lowest that no entry of the row had before its first one (cf_row_number). Its words
+ * have this number. So at most 64 sessions put to one row.
+ *
+ * If a session is gone, cf_row_number_of tells its number, and cf_row_claimed the stages that it has claimed and not
+ * finished. Any other session may fail those of them that are open. If the session isn't gone, its finish is late.
+ *
+ * The words, the news and the stages of a view are asked by cf_ledger_words, cf_ledger_news, cf_ledger_ready,
+ * cf_ledger_stage, cf_ledger_function and cf_ledger_stages. */
+
+/* An entry of a row: a word, and the token that says who put it. This is the session, times 2^23, and a count. */
+typedef struct { uint64_t word; uint64_t token; } cf_entry;
+
+/* What a view is opened with.
+ *   - room: how many stages may be attached later.
+ *   - first: where the session's tokens begin to count, 0 to 2^23. Draw it by chance, so that the tokens of two views
+ *     differ even if they have one session.
+ *   - session: the session's number, below 2^39. Draw it by chance, so that no two sessions have one number. */
+typedef struct { uint16_t room; uint32_t first; uint64_t session; } cf_row_opening;
+
+/* Opens a view of a row, of which nothing was read yet.
+ *   - plan: the plan of the row's request. It stays behind its handle.
+ *   - opening: as said above.
+ *   - view: an empty handle, behind which the view is put.
+ *
+ * Codes:
+ *   - CF_FULL, CF_EMPTY, CF_WRONG_KIND, CF_ROOM: as for cf_graph_new.
+ *   - CF_NO_TOKENS: opening->session isn't below 2^39, or opening->first is above 2^23.
+ *   - CF_NO_MEMORY. */
+uint32_t cf_row_new(cf_handle *plan, const cf_row_opening *opening, cf_handle *view);
+
+/* Plans a put of words behind all that was seen, and finds the memory that the view needs if it lands.
+ *   - words, n: the n words, at least one. Each is an event's, with the caller's number that cf_row_number tells. A
+ *     word may name a stage that one before it attaches.
+ *   - token: gets the token of the first word. Each further word has the next one. No token is given twice.
+ *
+ * Codes:
+ *   - CF_UNDER_WAY: a put is under way.
+ *   - CF_NOTHING: n is 0.
+ *   - CF_NO_TOKENS: the session has fewer tokens left than there are words. It needs another number.
+ *   - CF_NO_NUMBER: the session has put nothing yet, and others have all 64 numbers.
+ *   - CF_NO_WORD: one of the words stands for no event, or has another caller's number, or names a stage that isn't
+ *     there, or attaches a stage for which there is no room. cf_row_grow makes some.
+ *   - CF_NO_MEMORY. */
+uint32_t cf_row_plan(cf_handle *view, const uint64_t *words, size_t n, uint64_t *token);
+
+/* At the place of the put an entry stands. The put is over then. The entry is still to be seen.
+ *   - first: the entry that stands there.
+ *   - landed: gets 1 if it is the put's own, so that all of the put stands there, or else 0. Then nothing of the put
+ *     stands anywhere, or ever will.
+ *
+ * Code: CF_NOTHING if no put is under way. */
+uint32_t cf_row_met(cf_handle *view, const cf_entry *first, uint8_t *landed);
+
+/* Gives the put up, if there is one: it isn't known whether it stands, now or later. */
+uint32_t cf_row_give_up(cf_handle *view);
+
+/* An entry stands behind all that was seen. Its event is done, as by cf_ledger_apply.
+ *   - entry: the entry.
+ *   - reply, news, room, n: as for cf_ledger_apply.
+ *
+ * Codes:
+ *   - CF_UNDER_WAY: a put is under way. Tell first what became of it.
+ *   - CF_NO_MEMORY: it doesn't come for the entries of a put that has landed, while no others are given.
+ *   - CF_NO_WORD, CF_NO_STAGE: as for cf_ledger_apply. The row is broken then: an entry stands there that no session
+ *     could have planned.
+ *   - CF_NO_ROOM: there is no room for the stage that the entry attaches. cf_row_grow makes some. */
+uint32_t cf_row_saw(cf_handle *view, const cf_entry *entry, cf_reply *reply, cf_news *news, size_t room, size_t *n);
+
+/* Makes room for more stages, by doing all words again.
+ *   - more: how many more stages may be attached than before.
+ *
+ * Codes: CF_UNDER_WAY if a put is under way; CF_ROOM if there could then be over 4,096 stages or 16,384 edges; and
+ * CF_NO_MEMORY. */
+uint32_t cf_row_grow(cf_handle *view, uint16_t more);
+
+/* Tells the caller's number of the session: that which its entries have, or else that which it takes with its next put,
+ * which others may take before.
+ *
+ * Code: CF_NO_NUMBER if it has put nothing, and others have all 64 numbers. */
+uint32_t cf_row_number(cf_handle *view, uint8_t *who);
+
+/* Tells the caller's number of any session.
+ *
+ * Code: CF_NOTHING if no entry that was seen is of this session. */
+uint32_t cf_row_number_of(cf_handle *view, uint64_t session, uint8_t *who);
+
+/* Tells the lowest stage from the number `from` on whose claim is open and a caller's. The stage may be settled already:
+ * a claim is open until its caller has finished.
+ *
+ * Code: CF_NOTHING if there is none. */
+uint32_t cf_row_claimed(cf_handle *view, uint8_t who, uint16_t from, uint16_t *stage);
 
 /* ---- Histories: what happened, told as texts ---- */
 

@@ -10,6 +10,7 @@
 //! | `graph` | a graph that one caller has alone |
 //! | `ledger` | a graph with the words of all that was done to it |
 //! | `request` | one request of a service as a machine, which tells each settled stage once |
+//! | `row` | one session's view of a row in a store |
 //! | `history` | what happened to a request, told for people and for the programs |
 //! | `opening`, `desk` | the callers of a graph that several share: how it is opened, and what each of them is asked |
 //! | `close` | a desk that is being closed, and a closed one with its records |
@@ -27,4 +28,5 @@ mod ledger;
 mod opening;
 mod plan;
 mod request;
+mod row;
 mod texts;

@@ -12,6 +12,7 @@ pub mod RequestRows
 pub mod Requests
 pub mod Restarts
 pub mod Rounds
+pub mod Rows
 mod Runs
 pub mod Seats
 pub mod Steps

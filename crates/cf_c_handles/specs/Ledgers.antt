@@ -14,6 +14,7 @@ use Rattle.cf_event.specs.Words.{word_of}
 use Rattle.cf_ledger.specs.declared.faults.LedgerFault.{LedgerFault}
 use Rattle.cf_ledger.specs.declared.faults.LedgerFault.TheVariants as faults
 use Rattle.cf_ledger.specs.Ledgers.{Ledger as Ledger', Does, DoesAll, IsFirstRefused, LedgerRefuses, state_at, state_of, with_more}
+use Rattle.cf_row.specs.Rows.{ledger_of}
 use Rattle.cf_c_handles.specs.Answers.{Codes}
 use Rattle.cf_c_handles.specs.Building.{Fills}
 use Rattle.cf_c_handles.specs.Codes.{number_of}
@@ -24,7 +25,7 @@ use Rattle.cf_c_handles.specs.Values.{as_outcome}
 use Rattle.cf_c_handles.specs.declared.code.Code.{Code}
 use Rattle.cf_c_handles.specs.declared.code.Code.TheVariants.{Empty, Full, WrongKind, NoMemory, NoRoom, NoStage, NoWord, Nothing, Room}
 use Rattle.cf_c_handles.specs.declared.handle.object.Object.{Object}
-use Rattle.cf_c_handles.specs.declared.handle.object.Object.TheVariants.{Ledger, Plan, Request}
+use Rattle.cf_c_handles.specs.declared.handle.object.Object.TheVariants.{Ledger, Plan, Request, Row}
 use Rattle.cf_c_handles.specs.declared.values.CfReply.{CfReply}
 use Rattle.cf_c_handles.specs.declared.values.stage.CfNews.{CfNews}
 use Rattle.cf_c_handles.specs.declared.values.stage.CfStage.{CfStage}
@@ -94,10 +95,11 @@ OpensFrom Makes (Some plan) kept code None new had has = IsMadeFrom Makes plan k
 
 -- ---- what it is asked
 
--- a ledger is asked this, or that of a request, and stays
+-- a ledger is asked this, or that of a request or of a view of a row, and stays
 abbrev pub OfLedger : {X : Type 0} → (Ledger' → Result X Code → Type 0) → Object → Result X Code → Object → Type 0
 OfLedger Tells (Ledger l) r new = Tells l r × (new ≡ Ledger l)
 OfLedger Tells (Request m) r new = Tells m.teller.ledger r × (new ≡ Request m)
+OfLedger Tells (Row v) r new = Tells (ledger_of v.replica) r × (new ≡ Row v)
 OfLedger Tells held r new = (r ≡ Err WrongKind) × (new ≡ held)
 
 abbrev pub TellsStage : ℕ → Ledger' → Result CfStage Code → Type 0
@@ -211,10 +213,11 @@ StartsAgain held r new = (r ≡ Err WrongKind) × (new ≡ held)
 
 -- ---- what it writes for C
 
--- a ledger, or that of a request, writes this, and stays
+-- a ledger, or that of a request or of a view of a row, writes this, and stays
 abbrev pub OfLedgerWriting : {X : Type 0} → (Ledger' → X → Result (Unit {0}) Code → X → Type 0) → Object → X → Result (Unit {0}) Code → Object → X → Type 0
 OfLedgerWriting Writes (Ledger l) had r new has = Writes l had r has × (new ≡ Ledger l)
 OfLedgerWriting Writes (Request m) had r new has = Writes m.teller.ledger had r has × (new ≡ Request m)
+OfLedgerWriting Writes (Row v) had r new has = Writes (ledger_of v.replica) had r has × (new ≡ Row v)
 OfLedgerWriting Writes held had r new has = (r ≡ Err WrongKind) × (new ≡ held) × (has ≡ had)
 
 abbrev pub WritesWords : ℕ → Ledger' → List ℕ × ℕ → Result (Unit {0}) Code → List ℕ × ℕ → Type 0

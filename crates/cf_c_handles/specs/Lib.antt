@@ -23,6 +23,7 @@ pub mod RequestGathers
 pub mod RequestRows
 pub mod Requests
 pub mod Rounds
+pub mod Rows
 pub mod Restarts
 pub mod Scripts
 pub mod Seals

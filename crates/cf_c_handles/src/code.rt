@@ -77,6 +77,12 @@ pub enum Code {
     BadText,
     /// 37: there are more texts or times than stages, callers or events can be.
     TooMany,
+    /// 38: a put is under way, of which it isn't known what became of it.
+    UnderWay,
+    /// 39: a session has no such number, or fewer tokens left than there are words.
+    NoTokens,
+    /// 40: others have all 64 callers' numbers.
+    NoNumber,
 }
 
 impl From<AllocError> for Code {
@@ -141,6 +147,9 @@ pub fn text_of(number: u32) -> Option<&'static str>
         35 => Some("PastMoment"),
         36 => Some("BadText"),
         37 => Some("TooMany"),
+        38 => Some("UnderWay"),
+        39 => Some("NoTokens"),
+        40 => Some("NoNumber"),
         255 => Some("Null"),
         _ => None,
     }

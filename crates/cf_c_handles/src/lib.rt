@@ -11,6 +11,7 @@
 //! | `graph` | a graph that one caller has alone |
 //! | `ledger` | a graph with the words of all that was done to it |
 //! | `request` | one request of a service as a machine, which tells each settled stage once |
+//! | `row` | one session's view of a row in a store |
 //! | `history` | what happened to a request, told for people and for the programs |
 //! | `desk` | the callers of a graph that several share: how it is opened, and what each of them is asked |
 //! | `close` | a desk that is being closed, and a closed one with its records |
@@ -28,5 +29,6 @@ pub mod history;
 pub mod ledger;
 pub mod plan;
 pub mod request;
+pub mod row;
 pub mod texts;
 pub mod values;

@@ -9,6 +9,7 @@ pub mod attaching;
 pub mod call;
 pub mod event;
 pub mod request;
+pub mod row;
 pub mod stage;
 pub mod task;
 

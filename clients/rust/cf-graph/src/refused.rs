@@ -9,7 +9,7 @@ use std::sync::atomic::{AtomicBool, Ordering};
 #[derive(Clone, Copy, PartialEq, Eq, Debug)]
 pub struct Refused(u32);
 
-const WORDS: [&str; 37] = [
+const WORDS: [&str; 40] = [
     "the plan has 4,096 stages already",
     "a source isn't below the new stage's number",
     "the number of sources isn't the form's",
@@ -47,6 +47,9 @@ const WORDS: [&str; 37] = [
     "the moment is before the last one",
     "a text ends before it begins or behind its bytes, or isn't UTF-8",
     "there are more texts or times than there can be",
+    "a put is under way",
+    "a session has no such number, or too few tokens left",
+    "other sessions have all 64 callers' numbers",
 ];
 
 impl Refused {
@@ -84,6 +87,9 @@ impl Refused {
     pub const PAST_MOMENT: Refused = Refused(35);
     pub const BAD_TEXT: Refused = Refused(36);
     pub const TOO_MANY: Refused = Refused(37);
+    pub const UNDER_WAY: Refused = Refused(38);
+    pub const NO_TOKENS: Refused = Refused(39);
+    pub const NO_NUMBER: Refused = Refused(40);
     /// No code of the library: what is linked isn't the library that this crate was written for.
     pub const OTHER_LIBRARY: Refused = Refused(256);
 

@@ -65,6 +65,9 @@ pub const CF_NO_LANE: u32 = 34;
 pub const CF_PAST_MOMENT: u32 = 35;
 pub const CF_BAD_TEXT: u32 = 36;
 pub const CF_TOO_MANY: u32 = 37;
+pub const CF_UNDER_WAY: u32 = 38;
+pub const CF_NO_TOKENS: u32 = 39;
+pub const CF_NO_NUMBER: u32 = 40;
 pub const CF_NULL: u32 = 255;
 
 pub const CF_SOURCE: u32 = 0;
@@ -401,6 +404,21 @@ pub struct cf_request_done {
     pub told: usize,
 }
 
+#[repr(C)]
+#[derive(Clone, Copy, Debug, Default, PartialEq, Eq)]
+pub struct cf_entry {
+    pub word: u64,
+    pub token: u64,
+}
+
+#[repr(C)]
+#[derive(Clone, Copy, Debug, Default, PartialEq, Eq)]
+pub struct cf_row_opening {
+    pub room: u16,
+    pub first: u32,
+    pub session: u64,
+}
+
 pub type cf_stage_function = unsafe extern "C" fn(context: *mut c_void, task: *const cf_task, answer: *mut cf_answer);
 
 extern "C" {
@@ -500,6 +518,15 @@ extern "C" {
     pub fn cf_request_grow(request: *mut cf_handle) -> u32;
     pub fn cf_request_restart(request: *mut cf_handle) -> u32;
     pub fn cf_request_do(request: *mut cf_handle, calls: *mut cf_request_call, n: usize, done: *mut cf_request_done, told: *mut cf_told, room: usize) -> u32;
+    pub fn cf_row_new(plan: *mut cf_handle, opening: *const cf_row_opening, view: *mut cf_handle) -> u32;
+    pub fn cf_row_plan(view: *mut cf_handle, words: *const u64, n: usize, token: *mut u64) -> u32;
+    pub fn cf_row_met(view: *mut cf_handle, first: *const cf_entry, landed: *mut u8) -> u32;
+    pub fn cf_row_give_up(view: *mut cf_handle) -> u32;
+    pub fn cf_row_saw(view: *mut cf_handle, entry: *const cf_entry, reply: *mut cf_reply, news: *mut cf_news, room: usize, n: *mut usize) -> u32;
+    pub fn cf_row_grow(view: *mut cf_handle, more: u16) -> u32;
+    pub fn cf_row_number(view: *mut cf_handle, who: *mut u8) -> u32;
+    pub fn cf_row_number_of(view: *mut cf_handle, session: u64, who: *mut u8) -> u32;
+    pub fn cf_row_claimed(view: *mut cf_handle, who: u8, from: u16, stage: *mut u16) -> u32;
     pub fn cf_history_new(plan: *mut cf_handle, room: u16, words: *const u64, n: usize, history: *mut cf_handle) -> u32;
     pub fn cf_history_times(history: *mut cf_handle, times: *const u64, n: usize) -> u32;
     pub fn cf_history_say(history: *mut cf_handle, what: u32, text: *const u8, n: usize, ends: *const usize, count: usize) -> u32;
@@ -553,6 +580,8 @@ pub fn mismatch() -> Option<&'static str> {
         known!(cf_deadline: stage moment kind value),
         known!(cf_request_call: call who lane stage relay code word moment kind value reply task),
         known!(cf_request_done: calls told),
+        known!(cf_entry: word token),
+        known!(cf_row_opening: room first session),
     ];
     structures.iter().find_map(|it| *it)
 }

@@ -8,6 +8,7 @@ use cf_desk::{Closed, Desk, Notice, Pass};
 use cf_ledger::Ledger;
 use cf_plan::{Plan, PlanBuilder};
 use cf_request::Machine;
+use cf_row::Row;
 use cf_telling::{People, Tale};
 use std::alloc::Global;
 use std::mem;
@@ -28,6 +29,8 @@ pub enum Object {
     Ledger(Ledger),
     /// One request of a service as a machine.
     Request(Machine),
+    /// One session's view of a row in a store.
+    Row(Row),
     /// What happened to a request, to be told. In a box, so that no other handle takes more memory.
     History(Box<History>),
     /// A caller of a graph that several share.

@@ -1,4 +1,4 @@
-//! What a ledger behind a handle is asked, or the ledger of a request.
+//! What a ledger behind a handle is asked, or the ledger of a request or of a view of a row.
 ghost use Rattle.cf_c_handles.specs.Ledgers.{Grows, OfLedger, StartsAgain, TellsFunction, TellsReady, TellsStage, TellsStages};
 
 use crate::code::Code;
@@ -7,13 +7,17 @@ use crate::values::stage::{CfStage, as_stage};
 use cf_ledger::Ledger;
 use std::alloc::Global;
 
-/// Asks a ledger, or that of a request.
+/// Asks a ledger, or that of a request or of a view of a row.
 macro_rules! of_ledger {
     ($held:expr, $ledger:ident => $ask:expr) => {
         match $held {
             crate::handle::object::Object::Ledger($ledger) => $ask,
             crate::handle::object::Object::Request(machine) => {
                 let $ledger = machine.ledger();
+                $ask
+            }
+            crate::handle::object::Object::Row(row) => {
+                let $ledger = row.replica().ledger();
                 $ask
             }
             _ => Err(crate::code::Code::WrongKind),
