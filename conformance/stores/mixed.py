@@ -43,10 +43,10 @@ class NotedView(shared_service.RowView):
 
     count = 0
 
-    def __init__(self, store, opened, session, patience, note, host):
+    def __init__(self, store, opened, session, patience, note, host, is_timed=False):
         NotedView.count += 1
         head = (opened.name, opened.number, session, NotedView.count)
-        super().__init__(store, opened, session, patience, lambda kind, name, *rest: note(kind, *head, *rest), host)
+        super().__init__(store, opened, session, patience, lambda kind, name, *rest: note(kind, *head, *rest), host, is_timed)
 
 
 class Errors(logging.Handler):

@@ -65,10 +65,11 @@ class Forks(unittest.TestCase):
             first = flow.supply(lambda: child.append(os.fork()))
             ends = [flow.supply(len, "abc"), first.then(lambda _: 1)]
             request = flow.run()
-            print([request[end].result(0) for end in ends], flush=True)
+            told = [request[end].result(0) for end in ends]
             if child[0]:
                 os.waitpid(child[0], 0)
-            else:
+            print(told, flush=True)
+            if not child[0]:
                 os._exit(0)
         """)
         self.assertEqual((out, status), ("[3, 1]\n" * 2, 0), err)
