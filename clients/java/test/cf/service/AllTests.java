@@ -34,6 +34,7 @@ public final class AllTests {
         test("what settled stages keep", FreeingTest::keptBySettled);
         test("closed requests", ClosingTest::closed);
         test("requests closed by their users", ClosingTest::closedWithin);
+        test("requests closed by others in every order", ClosingTest::closedAtAnyMoment);
         test("requests closed before time", ClosingTest::closedBefore);
         test("late answers", TimeoutsTest::late);
         test("waiting in a pool of one", FunctionsTest::waitsWhileRunning);
@@ -59,6 +60,7 @@ public final class AllTests {
         test("texts of stages", HistoriesTest::texts);
         test("interrupts", AskingTest::interrupts);
         test("races", RacesTest::races);
+        test("who settles a stage in every order", RacesTest::everyOrder);
         test("races of relays", RacesTest::relayRaces);
         test("contexts", TracesTest::contexts);
         test("contexts that break", TracesTest::brokenContexts);

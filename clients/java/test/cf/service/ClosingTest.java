@@ -3,6 +3,7 @@ package cf.service;
 import static cf.service.Checks.is;
 import static cf.service.Checks.SERVICE;
 
+import cf.service.testing.Orders;
 import java.util.ArrayList;
 import java.util.Collections;
 import java.util.List;
@@ -74,7 +75,7 @@ final class ClosingTest {
         is(Machine.live() <= live + 10, true);
     }
 
-    /** Functions close the request, and so do others meanwhile. */
+    /** Functions close the request, and so do threads meanwhile, all under its lock. */
     static void closedWithin() throws Exception {
         Request closing = SERVICE.request();
         Stage<Object> beforeClosing = closing.promise();
@@ -141,5 +142,32 @@ final class ClosingTest {
         odd.start();
         odd.join();
         is(wrong[0], null);
+    }
+
+    /**
+     * Somebody else closes the request, twice, at any moment while stages are attached, linked, called and settled. In every order each ends with
+     * what it would end with otherwise, and what an executor is to call isn't called by whoever settles the stage before it.
+     */
+    static void closedAtAnyMoment() {
+        Orders.of(world -> {
+            Request closing = world.service().request();
+            boolean[] settles = new boolean[1];
+            List<Stage<Integer>> given = new ArrayList<>(), attached = new ArrayList<>();
+            Stage<Integer> start = closing.promise(), linked = start.thenCompose(x -> given.get(0)), async = linked.thenApplyAsync(x -> {
+                is(settles[0], false);
+                return x + 1;
+            });
+            given.add(closing.promise());
+            world.caller("closes").calls(closing::close).calls(closing::close);
+            world.caller("settles").calls(() -> start.complete(1)).calls(() -> {
+                settles[0] = true;
+                given.get(0).complete(5);
+                settles[0] = false;
+            });
+            world.calls("attaches", () -> attached.add(linked.thenApply(x -> x + 2)));
+            world.atEnd(() -> linked.join() + async.join() + attached.get(0).join() == 18, "each ends with its value");
+            world.atEnd(() -> closing.history().stages() == 6, "all are in the history");
+            world.settles(linked, async);
+        }).seconds(60).whole().check();
     }
 }

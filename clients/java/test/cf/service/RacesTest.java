@@ -3,9 +3,13 @@ package cf.service;
 import static cf.service.Checks.is;
 import static cf.service.Checks.SERVICE;
 
+import cf.service.testing.Orders;
 import java.util.ArrayList;
+import java.util.Arrays;
 import java.util.Collections;
+import java.util.HashSet;
 import java.util.List;
+import java.util.Set;
 import java.util.concurrent.CompletableFuture;
 import java.util.concurrent.CompletionStage;
 import java.util.concurrent.CountDownLatch;
@@ -68,6 +72,35 @@ final class RacesTest {
         pool.shutdown();
         if (Boolean.getBoolean("test.times")) {
             System.out.println("           won by complete, fail, cancel, the clock: " + won[0] + " " + won[1] + " " + won[2] + " " + won[4]);
+        }
+    }
+
+    /** The same in every order: each of the four comes first in some, and what threads that race seldom meet is met. */
+    static void everyOrder() {
+        Set<String> seen = new HashSet<>();
+        Orders.of(world -> {
+            List<String> winners = new ArrayList<>();
+            Request racing = world.service().request();
+            Stage<String> raced = racing.<String>promise().orTimeout(1, TimeUnit.SECONDS);
+            Stage<String> behind = world.pure(raced.handle((value, error) -> error == null ? value : error.getClass().getSimpleName()));
+            world.calls("one", () -> won(winners, raced.complete("completed"), "completed"));
+            world.calls("two", () -> won(winners, raced.completeExceptionally(new IllegalStateException()), "IllegalStateException"));
+            world.calls("three", () -> won(winners, cancelled(raced), "CancellationException"));
+            world.atEnd(() -> {
+                String end = behind.join();
+                is(raced.handle((value, error) -> error == null ? value : error.getClass().getSimpleName()).join(), end);
+                is(winners, end.equals("TimeoutException") ? Collections.emptyList() : Collections.singletonList(end));
+                is(racing.history().toString().split("0 source ends", -1).length, 2);
+                return seen.add(end) || true;
+            }, "all see the same end, and the history has it once");
+            world.settles(behind);
+        }).seconds(60).whole().check();
+        is(seen, new HashSet<>(Arrays.asList("completed", "IllegalStateException", "CancellationException", "TimeoutException")));
+    }
+
+    private static void won(List<String> winners, boolean did, String end) {
+        if (did) {
+            winners.add(end);
         }
     }
 

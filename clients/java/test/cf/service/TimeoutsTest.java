@@ -7,10 +7,13 @@ import static cf.service.Checks.SERVICE;
 import static cf.service.Checks.thrown;
 import static cf.service.Checks.timeOut;
 
+import cf.service.testing.Orders;
 import java.util.ArrayList;
 import java.util.Arrays;
 import java.util.Collections;
+import java.util.HashSet;
 import java.util.List;
+import java.util.Set;
 import java.util.concurrent.CompletableFuture;
 import java.util.concurrent.CompletionException;
 import java.util.concurrent.CompletionStage;
@@ -259,24 +262,30 @@ final class TimeoutsTest {
         is(timed.<Integer>promise().orTimeout(Long.MAX_VALUE, TimeUnit.DAYS).isDone(), false);
     }
 
-    /** Who finishes behind a timeout is late, and what he gave is in the history alone. */
+    /**
+     * A function's end and a limit come in every order. Who finishes behind the limit is late, and what he gave is in the history alone; and if
+     * the limit is first of all, nothing is called.
+     */
     static void late() throws Exception {
+        Set<String> seen = new HashSet<>();
+        Orders.of(world -> {
+            List<String> ran = new ArrayList<>();
+            Request timed = world.service().request();
+            Stage<String> slow = timed.supplyAsync(() -> {
+                ran.add("called");
+                return "late";
+            }).completeOnTimeout("early", 1, TimeUnit.SECONDS);
+            world.settles(slow);
+            world.atEnd(() -> {
+                String said = timed.history().toString();
+                boolean isLate = said.contains(" finishes 0 supply, which gave late: too late\n");
+                is(slow.join(), isLate || ran.isEmpty() ? "early" : "late");
+                is(said.split("0 supply ends", -1).length, 2);
+                return seen.add(slow.join() + " " + ran) || true;
+            }, "the first ends it, and the history tells who was late");
+        }).seconds(60).whole().check();
+        is(seen, new HashSet<>(Arrays.asList("early []", "early [called]", "late [called]")));
         Request timed = SERVICE.request();
-        CountDownLatch go = new CountDownLatch(1);
-        Stage<String> slow = timed.supplyAsync(() -> {
-            try {
-                go.await();
-            } catch (InterruptedException interrupted) {
-                throw new AssertionError(interrupted);
-            }
-            return "late";
-        }, run -> new Thread(run, "slow").start()).completeOnTimeout("early", 20, TimeUnit.MILLISECONDS);
-        is(slow.join(), "early");
-        go.countDown();
-        while (!timed.history().toString().contains("slow finishes 0 supply, which gave late: too late")) {
-            Thread.sleep(1);
-        }
-        is(slow.join(), "early");
         ExecutionException told = thrown(ExecutionException.class, () -> timed.promise().orTimeout(1, TimeUnit.MILLISECONDS).get());
         is(told.getCause() instanceof TimeoutException, true);
     }
