@@ -400,25 +400,3 @@ fn an_account_has_relays() {
     let account = recorded.history().account();
     assert!(account.ends_with("],\"relays\":[[1,3]]}\n"), "{account}");
 }
-
-/// A history is taken and told in the midst of what threads do.
-#[test]
-fn histories_are_taken_meanwhile() {
-    let recorded = Request::new("meanwhile", cf::Pool::new(2)).described(Describe::Types);
-    let by = recorded.clone();
-    let does = thread::spawn(move || {
-        for k in 0..100 {
-            let recorded_stage = by.supply(move || k).named(format!("a\nb{k}"));
-            drop(recorded_stage.then(|k| k + 1).wait());
-        }
-    });
-    let mut last = 0;
-    while !does.is_finished() {
-        let history = recorded.history();
-        assert!(history.comes_again() && history.words().len() >= last);
-        assert!(history.to_string().lines().all(|line| line.starts_with("meanwhile: ") || line.is_char_boundary(14)));
-        last = history.words().len();
-    }
-    does.join().unwrap();
-    assert_eq!(recorded.history().names().len(), 200);
-}

@@ -2,7 +2,6 @@
 use cf::{Error, Inline, Pool, Request, Stage};
 use std::sync::atomic::{AtomicUsize, Ordering};
 use std::sync::{mpsc, Arc, Barrier, Mutex};
-use std::thread;
 
 fn request() -> Request {
     Request::new("test", Pool::new(4))
@@ -213,28 +212,6 @@ fn values_need_not_be_clone() {
     let big = r.supply(|| Big(7));
     assert_eq!(big.clone().then(|big| big.0).wait().unwrap(), 7);
     assert_eq!(big.wait_arc().unwrap().0, 7);
-}
-
-#[test]
-fn threads_race_and_one_wins() {
-    for _ in 0..200 {
-        let r = request();
-        let stage = r.promise::<usize>();
-        let behind: Vec<Stage<usize>> = (0..8).map(|k| stage.clone().then(move |n| n + k)).collect();
-        let won: usize = thread::scope(|s| {
-            let threads: Vec<_> = (0..4)
-                .map(|k| {
-                    let stage = stage.clone();
-                    s.spawn(move || usize::from(if k == 3 { stage.fail("lost") } else { stage.complete(k).is_ok() }))
-                })
-                .collect();
-            threads.into_iter().map(|it| it.join().unwrap()).sum()
-        });
-        assert_eq!(won, 1);
-        let all = r.gather(&behind).wait();
-        assert_eq!(all.is_ok(), stage.wait().is_ok());
-        assert!(r.history().comes_again());
-    }
 }
 
 #[test]

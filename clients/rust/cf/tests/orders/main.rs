@@ -1,4 +1,5 @@
 //! What does `cf::testing` find, what does it tell, and what does it leave out?
+mod layer;
 mod made;
 mod services;
 

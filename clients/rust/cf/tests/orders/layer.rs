@@ -1,0 +1,138 @@
+//! What the layer promises in every order of calls: who settles a stage, what is behind it, what becomes of its future, and what is told meanwhile.
+use super::{ends, is_sound, SECOND};
+use crate::services::{GivesWay, Shared};
+use cf::testing::orders;
+use cf::{Describe, Error};
+
+fn told<T: ToString>(outcome: Result<T, Error>) -> String {
+    outcome.map_or_else(|error| error.to_string(), |value| value.to_string())
+}
+
+/// Of a function, a limit and four callers one settles a stage, and what is behind it ends as it does. A function is called once or never, and one
+/// that ends too late changes nothing.
+#[test]
+fn one_settles_a_stage() {
+    let ends = ends(|world| {
+        let (ran, won) = (Shared::new(0), Shared::new(Vec::new()));
+        let runs = ran.clone();
+        let count = move || {
+            *runs.get() += 1;
+            1
+        };
+        let stage = world.request("raced").supply(count).or_timeout(SECOND);
+        let behind = stage.clone().then(|number| *number);
+        world.pure(&behind);
+        for number in [2, 3] {
+            let (stage, won) = (stage.clone(), won.clone());
+            world.calls("completes", move || match stage.complete(number) {
+                Ok(()) => won.get().push(number.to_string()),
+                Err(back) => assert_eq!(back, number),
+            });
+        }
+        let (fails, cancels, fail_wins, cancel_wins) = (stage.clone(), stage.clone(), won.clone(), won.clone());
+        world.calls("fails", move || fails.fail("lost").then(|| fail_wins.get().push("lost".into())));
+        world.calls("cancels", move || cancels.cancel().then(|| cancel_wins.get().push("cancelled".into())));
+        let (outcome, ends) = (stage.clone(), behind.clone());
+        world.at_end("what is behind ends as the stage", move || told(outcome.wait()) == told(ends.wait()));
+        let outcome = stage.clone();
+        world.at_end("who is told to have settled it did", move || {
+            let by_a_caller = Some(told(outcome.wait())).filter(|outcome| outcome != "1" && !outcome.starts_with("timed out"));
+            *won.get() == by_a_caller.into_iter().collect::<Vec<_>>()
+        });
+        world.end_is(move || format!("{}, ran {}", told(stage.wait()), ran.get()));
+        behind
+    });
+    let mut wanted = vec!["1, ran 1".to_owned()];
+    for outcome in ["2", "3", "cancelled", "lost", "timed out after 1s"] {
+        wanted.extend([0, 1].map(|ran| format!("{outcome}, ran {ran}")));
+    }
+    assert_eq!(ends, wanted);
+}
+
+/// The first of three to come decides, one of which stands for a stage of another request, and one fails.
+#[test]
+fn the_first_to_come_decides() {
+    let ends = ends(|world| {
+        let (request, other) = (world.request("first"), world.request("other"));
+        let near = world.arrives(request.promise(), 1);
+        let sources = [near.clone(), world.arrives(other.promise(), 2), world.fails(request.promise(), "lost")];
+        let (first, either) = (request.first_of(&sources), near.either(&sources[1], |number| number * 10));
+        let (mut came, decides) = (None, first.clone());
+        world.check("the first to come decides", move || {
+            came = came.or_else(|| sources.iter().position(|source| source.is_settled()));
+            decides.peek().map(told) == came.and_then(|at| sources[at].peek().map(told))
+        });
+        let by_function = either.clone();
+        world.end_is(move || format!("{} {}", told(first.wait()), told(by_function.wait())));
+        either
+    });
+    assert_eq!(ends, ["1 10", "2 20", "lost 10", "lost 20"]);
+}
+
+/// A future goes once its stage is settled, wherever it stands: it isn't polled any more, and is dropped.
+#[test]
+fn a_future_goes_with_its_stage() {
+    struct Drops(Shared<bool>);
+    impl Drop for Drops {
+        fn drop(&mut self) {
+            *self.0.get() = true;
+        }
+    }
+    for by_limit in [false, true] {
+        let ends = ends(move |world| {
+            let (steps, is_gone) = (Shared::new(0), Shared::new(false));
+            let (counts, drops) = (steps.clone(), Drops(is_gone.clone()));
+            let stage = world.request("future").spawn(async move {
+                let _drops = drops;
+                for _ in 0..2 {
+                    *counts.get() += 1;
+                    GivesWay(false).await;
+                }
+                *counts.get() += 1;
+                Ok::<i32, Error>(7)
+            });
+            if by_limit {
+                drop(stage.clone().or_timeout(SECOND));
+            } else {
+                let gone = stage.clone();
+                world.calls("cancels", move || drop(gone.cancel_on_drop()));
+            }
+            let (settled, walked, mut last) = (stage.clone(), steps.clone(), None);
+            world.check("not polled once its stage is settled", move || {
+                let steps = *walked.get();
+                !settled.is_settled() || *last.get_or_insert(steps) == steps
+            });
+            world.at_end("dropped", move || *is_gone.get());
+            let outcome = stage.clone();
+            world.end_is(move || format!("{} {}", steps.get(), outcome.wait().is_ok()));
+            stage
+        });
+        assert_eq!(ends, ["0 false", "1 false", "2 false", "3 false", "3 true"], "by a limit: {by_limit}");
+    }
+}
+
+/// A history that is taken between any two moves comes again, and goes on where the one before ended.
+#[test]
+fn a_history_goes_on() {
+    let report = orders(|world| {
+        let (request, other) = (world.request("meanwhile").described(Describe::Types), world.request("other"));
+        let price = world.arrives_or_fails(other.promise(), 49, "away");
+        let doubled = request.adopt(&price).then(|price| price * 2).or_timeout(SECOND);
+        let by = request.clone();
+        let composed = doubled.clone().compose(move |price| {
+            let price = *price;
+            by.supply(move || price + 1)
+        });
+        world.calls("somebody", move || doubled.cancel());
+        let mut last = Vec::new();
+        world.check("it comes again and goes on", move || {
+            let history = request.history();
+            let goes_on = history.words().starts_with(&last);
+            last = history.words().to_vec();
+            goes_on && history.comes_again() && history.to_string().starts_with("meanwhile: ")
+        });
+        composed
+    });
+    is_sound(&report);
+    assert!(report.orders > 3, "{report}");
+}
