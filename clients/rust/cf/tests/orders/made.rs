@@ -1,6 +1,6 @@
 //! Random programs of user code, which `cf::testing` has to bring to the same ends with and without what it leaves out.
 //!
-//! `CF_PROGRAMS` says which, as `FIRST COUNT MOST`: the seeds from FIRST on, of which those with over MOST orders are left out. `CF_TOLD` names a file
+//! `CF_PROGRAMS` says which, as `FIRST COUNT MOST`: the seeds from FIRST on, of which those with over MOST orders are left out. `CF_ENDS` names a file
 //! for what was compared.
 use crate::services::Shared;
 use cf::testing::{Orders, Report, World};
@@ -297,7 +297,7 @@ fn random_programs_come_to_the_same_ends() {
         assert!(reduced.whole && both(&plain) == both(&reduced), "program {seed}: {program:?}\n{:?}\n{:?}", both(&plain), both(&reduced));
     }
     let told = format!("{compared} programs of {all} orders have the same ends in {tried}; {too_large} were too large");
-    if let Some(path) = std::env::var_os("CF_TOLD") {
+    if let Some(path) = std::env::var_os("CF_ENDS") {
         std::fs::write(path, &told).unwrap();
     }
     assert!(compared > count / 4, "{told}");
