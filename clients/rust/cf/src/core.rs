@@ -239,6 +239,8 @@ impl Core {
 
     /// Lets a stage time out after a while, or get this value, unless it is settled. The value goes as soon as the stage is settled.
     pub(crate) fn limit(self: &Arc<Core>, stage: u16, wait: Duration, gives: Option<Val>) {
+        #[cfg(feature = "testing")]
+        self.watched(|watch| watch.limited(self, stage, wait));
         let late = self.change(|inner, after| inner.limit(stage, wait, gives, after));
         drop(late);
         // The request asks for an alarm only where it has none that comes first.
@@ -248,6 +250,12 @@ impl Core {
     /// It is the moment of an alarm.
     pub(crate) fn rung(self: &Arc<Core>, alarm: u64) {
         self.change(|inner, after| inner.rung(alarm, after));
+    }
+
+    /// It is this moment, in a run of a test: such a run knows each limit, and rings no alarms.
+    #[cfg(feature = "testing")]
+    pub(crate) fn pass(self: &Arc<Core>, moment: u64) {
+        self.change(|inner, after| inner.pass(moment, after));
     }
 
     /// The moment of an alarm never comes, since that was dropped.

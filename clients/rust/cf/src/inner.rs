@@ -491,12 +491,16 @@ impl Inner {
         }
     }
 
-    /// An alarm is rung: time passes up to its moment. Then the next one is asked for.
+    /// An alarm is rung: time passes up to its moment.
     pub(crate) fn rung(&mut self, alarm: u64, after: &mut After) {
-        if !self.awaited.is_for(alarm) {
-            return;
+        if self.awaited.is_for(alarm) {
+            let moment = self.awaited.stop(after);
+            self.pass(moment, after);
         }
-        let moment = self.awaited.stop(after);
+    }
+
+    /// Time passes up to a moment. Then the next alarm is asked for.
+    pub(crate) fn pass(&mut self, moment: u64, after: &mut After) {
         self.ledger.pass(moment, &mut after.told);
         self.show_by(after, Inner::came_due);
         if let Some(next) = self.ledger.next_deadline() {

@@ -151,12 +151,6 @@ impl Ledger {
         self.machine().next_deadline().expect("the machine is there").map(|next| next.moment)
     }
 
-    /// The stage whose deadline comes next.
-    #[cfg(feature = "testing")]
-    pub(crate) fn next_limited(&mut self) -> Option<u16> {
-        self.machine().next_deadline().expect("the machine is there").map(|next| next.stage)
-    }
-
     /// Writes down an event by which a call settled a stage, beside the one that it was asked for.
     pub(crate) fn settled(&mut self) {
         self.record.event(Reply::Flag(true));

@@ -273,9 +273,10 @@ impl Run {
         let request = state.request(place.0);
         request.now = request.now.max(timer.due);
         match timer.rings {
-            Rings::Alarm(alarm) => {
+            Rings::Limit => {
+                let core = Arc::clone(&request.core);
                 drop(guard);
-                self.kit(|| alarm.ring())
+                self.kit(|| core.pass(timer.due))
             }
             Rings::Wait(who, waits, _) => {
                 state.touch(Thing::Flight(who), How::Changes);
@@ -489,12 +490,7 @@ impl Run {
         state.weight = closed.weight;
         state.needs_threads = closed.needs_threads;
         drop(state);
-        let State { requests, timers, flights, outside, callers, checks, at_end, end, awaited, .. } = closed;
-        for timer in timers {
-            if let Rings::Alarm(alarm) = timer.rings {
-                alarm.never();
-            }
-        }
+        let State { requests, flights, outside, callers, checks, at_end, end, awaited, .. } = closed;
         quietly(|| drop((flights, outside, callers, checks, at_end, end, awaited)));
         requests.into_iter().map(|request| request.core).collect()
     }

@@ -5,7 +5,6 @@
 use super::carrier::Carrier;
 use super::footprint::{Behind, Footprint, How, Thing};
 use super::moves::{Place, Who};
-use crate::clock::Alarm;
 use crate::core::Core;
 use crate::error::Error;
 use crate::ledger::done_again;
@@ -134,7 +133,8 @@ pub(crate) struct Timer {
 }
 
 pub(crate) enum Rings {
-    Alarm(Alarm),
+    /// The limit of a stage.
+    Limit,
     /// The wait of a flight, which is the so-manyth of it, and how long it is.
     Wait(Who, u32, Duration),
 }
@@ -255,7 +255,7 @@ impl State {
     /// Whether nobody wants a timer any more.
     pub(crate) fn is_lost(&self, timer: &Timer) -> bool {
         match &timer.rings {
-            Rings::Alarm(alarm) => !alarm.is_wanted(),
+            Rings::Limit => self.requests[usize::from(timer.place.0)].core.lock().slot(timer.place.1).is_settled(),
             Rings::Wait(who, waits, _) => {
                 let flight = self.flights.iter().find(|it| it.0 == *who).map(|it| &it.1);
                 flight.map_or(true, |flight| flight.waits != *waits || flight.wait.as_ref().map_or(true, Wait::is_over))

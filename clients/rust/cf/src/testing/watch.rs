@@ -99,6 +99,15 @@ impl Watch {
         }
     }
 
+    /// A stage gets a limit.
+    pub(crate) fn limited(&self, core: &Core, stage: u16, wait: Duration) {
+        let is_settled = core.lock().slot(stage).is_settled();
+        let mut state = self.run.lock();
+        if !is_settled && !state.is_closed {
+            state.add_timer((self.number, stage), wait, Rings::Limit);
+        }
+    }
+
     /// Somebody reads a stage.
     pub(crate) fn read(&self, stage: u16) {
         if self.here().is_some() {
@@ -191,23 +200,13 @@ impl Clock for WorldClock {
         Duration::from_nanos(state.requests.iter().map(|request| request.now).max().unwrap_or(0))
     }
 
-    fn after(&self, wait: Duration, alarm: Alarm) {
+    /// A run rings no alarms: it knows each limit.
+    fn after(&self, _wait: Duration, alarm: Alarm) {
         let core = alarm.core.upgrade();
-        let number = core.as_ref().and_then(|core| core.watch.as_ref().and_then(|watch| watch.number_in(&self.0)));
-        let stage = core.and_then(|core| core.lock().ledger.next_limited()).unwrap_or(0);
-        let mut state = self.0.lock();
-        match number {
-            Some(number) if !state.is_closed => {
-                let place = (number, stage);
-                state.add_timer(place, wait, Rings::Alarm(alarm));
-            }
-            Some(_) => alarm.never(),
-            None => {
-                state.fail("a request has the clock of the world and another executor");
-                drop(state);
-                alarm.never();
-            }
+        if core.and_then(|core| core.watch.as_ref().and_then(|watch| watch.number_in(&self.0))).is_none() {
+            self.0.lock().fail("a request has the clock of the world and another executor");
         }
+        alarm.never();
     }
 }
 
