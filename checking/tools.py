@@ -10,7 +10,8 @@ from checking.crates import TOP
 
 PROGRAMS = ["cf", "cf_look", "cf_bench"]  # that rows call
 DEBIAN = Path("/usr/share/cargo/registry")
-DEBIANS = "Debian's crates of futures, rayon, serde, serde_json, tokio and tracing"
+CRATES = ["futures", "getrandom", "rayon", "rusqlite", "rustix", "serde", "serde_json", "tokio", "tokio-postgres", "tracing"]
+DEBIANS = f"Debian's crates of {', '.join(CRATES)}"
 NOTHING = "int main(void) { return 0; }\n"
 
 
@@ -34,7 +35,7 @@ class Tools:
         pythons = ["/usr/bin/python3", self["python3"]]
         self.found["setuptools and wheel for Python"] = self.importing(pythons, "setuptools, wheel, venv, ensurepip")
         self.found["Python's own tests"] = self.importing(pythons, "test.test_concurrent_futures")
-        crates = [list(DEBIAN.glob(name + "-[0-9]*")) for name in ["futures", "rayon", "serde", "serde_json", "tokio", "tracing"]]
+        crates = [list(DEBIAN.glob(name + "-[0-9]*")) for name in CRATES]
         self.found[DEBIANS] = str(DEBIAN) if all(crates) else None
         browser = shutil.which("chromedriver") and (shutil.which("chromium") or shutil.which("google-chrome"))
         self.found["Chromium with its driver, selenium for Python"] = browser and self.importing(pythons, "selenium")

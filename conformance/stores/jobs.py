@@ -45,6 +45,7 @@ class Jobs:
     def __init__(self, engine, folder, mode, kills, cut=0.0, workers=4):
         self.mode, self.kills, self.many, self.rng, self.proxies = mode, kills, workers, random.Random(3), []
         self.over, self.hung = threading.Event(), False
+        self.rust = os.environ.get("CF_RUST_JOBS")  # clients/rust/cf-store/examples/jobs.rs, which every other worker runs then
         os.makedirs(folder)
         os.chmod(folder, 0o755)
         self.server, self.folder = servers.start(engine, folder), folder
@@ -54,9 +55,11 @@ class Jobs:
         if cut:
             self.proxies, self.address = self.server.proxied(cut)
 
-    def start(self):
+    def start(self, k):
         environment = dict(os.environ, PYTHONFAULTHANDLER="1", JOBS_EFFECTS=self.effects, PYTHONPATH=f"{HERE}{os.pathsep}{CLIENT}")
         command = [sys.executable, "-m", "cf.worker", "--store", self.address, "--lease", "0.7", "--threads", "2", "jobs_functions"]
+        if self.rust and k % 2:
+            command = [self.rust, self.address, self.effects]
         with open(f"{self.folder}/stderr", "a") as errors:
             return subprocess.Popen(command, stderr=errors, env=environment)
 
@@ -76,7 +79,7 @@ class Jobs:
     def __call__(self):
         """Does it: the counts, and what is wrong."""
         call, tries = MODES[self.mode]
-        self.workers, count, ends, effects = [self.start() for _ in range(self.many)], collections.Counter(), {}, {}
+        self.workers, count, ends, effects = [self.start(k) for k in range(self.many)], collections.Counter(), {}, {}
         workers, settled = self.workers, 0
         service = DurableService(connect(self.effects), 0, functions=functions, lease=5)
         watch = threading.Thread(target=self.watch, args=(ends,))
@@ -97,13 +100,15 @@ class Jobs:
                     count["died by themselves"] += workers[k].poll() is not None
                     workers[k].kill()
                     workers[k].wait()
-                    workers[k] = self.start()
+                    workers[k] = self.start(k)
                     count["kills"] += 1
             for it in ends.values():
                 while not it.done() and not self.hung:
                     time.sleep(0.02)
             if self.hung:
                 return count, [f"nothing went on for {HANG} s: {Path(self.folder, 'stderr').read_text()[-10000:]}"]
+            with open(f"{self.folder}/histories", "w") as accounts:
+                accounts.writelines(service.open(name).history().account() + "\n" for name in effects)
             return self.told(effects, count)
         finally:
             self.over.set()

@@ -20,6 +20,7 @@ class Waiting(Case):
         r = self.request
         awaited = r.promise()
         sleeping = [r.supply(time.sleep, 0.01) for _ in range(5)]
+        self.assertEqual(concurrent.futures.wait(sleeping, 30).not_done, set())
         self.assertEqual(concurrent.futures.wait([*sleeping, awaited], 0.1).not_done, {awaited})
         first = concurrent.futures.wait([*sleeping, awaited], return_when="FIRST_COMPLETED")
         self.assertEqual(first.not_done, {awaited})

@@ -115,7 +115,7 @@ impl Changes {
 
     /// Makes a call that tells of changes: where to, for how many there is room, and where it writes how many they are.
     #[inline]
-    fn tell(
+    pub(crate) fn tell(
         &mut self,
         handle: &mut Handle,
         call: impl FnOnce(*mut sys::cf_handle, *mut sys::cf_news, usize, *mut usize) -> u32,
@@ -131,9 +131,15 @@ impl Changes {
         answer
     }
 
+    /// Whether there was more to tell than room for it.
+    #[inline]
+    pub(crate) fn misses(&self) -> bool {
+        self.count > self.news.len()
+    }
+
     /// Asks for what the word at a place changed, where that was more than there was room for.
     #[cold]
-    fn tell_more(&mut self, handle: &mut Handle, place: usize) -> Result<(), Refused> {
+    pub(crate) fn tell_more(&mut self, handle: &mut Handle, place: usize) -> Result<(), Refused> {
         let mut stages = vec![0; self.count];
         let (first, room) = (stages.as_mut_ptr(), stages.len());
         // SAFETY: alone, pointers: `h` and what is told to are this call's, and `first` points to as many numbers as said.
@@ -215,7 +221,7 @@ impl Ledger {
             Ok(()) | Err(Refused::NOTHING) => {}
             Err(refused) => return Err(refused),
         }
-        if changes.count > changes.news.len() {
+        if changes.misses() {
             changes.tell_more(&mut self.handle, step.place)?;
         }
         Ok(step_out(held, &task))
@@ -293,7 +299,7 @@ fn apply(handle: &mut Handle, word: u64, changes: &mut Changes) -> Result<Reply,
     let told = &mut reply;
     // SAFETY: alone, pointers: `h` and what is told to are this call's, and `news` points to as many elements as said.
     changes.tell(handle, |h, news, room, n| unsafe { sys::cf_ledger_apply(h, word, told, news, room, n) })?;
-    if changes.count > changes.news.len() {
+    if changes.misses() {
         let last = count(handle)? - 1;
         changes.tell_more(handle, last)?;
     }
@@ -301,12 +307,12 @@ fn apply(handle: &mut Handle, word: u64, changes: &mut Changes) -> Result<Reply,
 }
 
 /// How many words there are.
-fn count(handle: &mut Handle) -> Result<usize, Refused> {
+pub(crate) fn count(handle: &mut Handle) -> Result<usize, Refused> {
     // SAFETY: alone, pointers: `h` and what is told to are this call's, and there is room for no word.
     handle.tell(|h, told| unsafe { sys::cf_ledger_words(h, 0, std::ptr::null_mut(), 0, told) })
 }
 
-// What a request is asked, too, which has a ledger.
+// What requests and views of rows are asked, too, which have a ledger.
 
 /// The words of all that was done.
 pub(crate) fn words(handle: &mut Handle) -> Result<Vec<u64>, Refused> {

@@ -3,7 +3,8 @@
 //! A [`PlanBuilder`] makes a [`Plan`], and that any number of graphs and desks. A [`Graph`] goes to any thread, and is in one call at a
 //! time, since each takes it by `&mut`. A [`Desk`] is a graph that threads share without a lock, each by a [`Caller`] of its own; closed
 //! with all of them it gives the one history of what they did. A [`Ledger`] is a graph that keeps the words of all that was done to it, a
-//! [`Request`] a ledger that says what is to be done next, and a [`Sweep`] a graph whose functions are called in one go. A [`Tale`] tells
+//! [`Request`] a ledger that says what is to be done next, a [`Row`] what one session
+//! knows of the words in a store, and a [`Sweep`] a graph whose functions are called in one go. A [`Tale`] tells
 //! what words did, as texts. What C owes by docs/C.md is met by the types: nothing copies a handle, and dropping frees it. `src/handle.rs`
 //! says how each thing owed is met, and `tests/owners.rs` tries to break it.
 //!
@@ -70,6 +71,7 @@ mod ledger;
 mod plan;
 mod refused;
 mod request;
+mod row;
 mod step;
 mod sweep;
 mod tale;
@@ -84,6 +86,7 @@ pub use ledger::{Changes, Ledger, Misfit, News, Stage, State};
 pub use plan::{Form, Limit, Plan, PlanBuilder, Sizes};
 pub use refused::Refused;
 pub use request::{Calls, Deadline, Request, RequestSizes, Told};
+pub use row::{Entry, Row, RowOpening};
 pub use step::{Step, Taken};
 pub use sweep::Sweep;
 pub use tale::{Said, Tale, Telling};

@@ -1,0 +1,123 @@
+//! The text of a request's plan, of which each process builds the same graph. It is the JSON that Python's `cf.shared` writes.
+use crate::error::StoreError;
+use cf_graph::{Form, Plan, PlanBuilder};
+use serde::{Deserialize, Serialize};
+use serde_json::Value;
+
+/// The format of plans in stores.
+const FORMAT: u32 = 3;
+
+/// What a plan, or the payload of the word that attached it, says of a stage.
+#[derive(Clone, Debug, Default, PartialEq, Serialize, Deserialize)]
+pub(crate) struct Said {
+    pub(crate) name: String,
+    /// Its function's name.
+    #[serde(rename = "fn", default, skip_serializing_if = "Option::is_none")]
+    pub(crate) function: Option<String>,
+    #[serde(default, skip_serializing_if = "Option::is_none")]
+    pub(crate) version: Option<u32>,
+    /// What its function is called with, where it has no sources.
+    #[serde(default, skip_serializing_if = "Vec::is_empty")]
+    pub(crate) args: Vec<Value>,
+    /// What it is called with by name, as only Python's are.
+    #[serde(default, skip_serializing_if = "Option::is_none")]
+    pub(crate) kwargs: Option<Value>,
+    /// The stage whose function a further try calls.
+    #[serde(default, skip_serializing_if = "Option::is_none")]
+    pub(crate) again: Option<u16>,
+    /// The promise for what a composing stage's function gives.
+    #[serde(default, skip_serializing_if = "Option::is_none")]
+    pub(crate) to: Option<u16>,
+    /// What goes along of the context in which it was attached.
+    #[serde(default, skip_serializing_if = "Option::is_none")]
+    pub(crate) context: Option<Value>,
+}
+
+#[derive(Deserialize)]
+struct Text {
+    cf: u32,
+    stages: Vec<Row>,
+}
+
+#[derive(Deserialize)]
+struct Row {
+    form: String,
+    #[serde(default)]
+    of: Vec<u16>,
+    #[serde(flatten)]
+    said: Said,
+}
+
+/// A plan that was read.
+#[derive(Debug)]
+pub(crate) struct SharedPlan {
+    pub(crate) plan: Plan,
+    pub(crate) stages: Vec<(Form, Vec<u16>, Said)>,
+}
+
+/// The text of a plan without stages.
+pub(crate) fn empty() -> String {
+    format!(r#"{{"cf":{FORMAT},"flow":"","stages":[]}}"#)
+}
+
+/// Reads the text of a request's plan.
+pub(crate) fn read(text: &str, request: &str) -> Result<SharedPlan, StoreError> {
+    let broken = |why: &dyn std::fmt::Display| StoreError::broken(request, 0, format!("its plan can't be read: {why}"));
+    let text: Text = serde_json::from_str(text).map_err(|error| broken(&error))?;
+    if text.cf != FORMAT {
+        return Err(broken(&format!("it is of version {}", text.cf)));
+    }
+    let mut builder = PlanBuilder::new()?;
+    let mut stages = Vec::with_capacity(text.stages.len());
+    for (number, row) in text.stages.into_iter().enumerate() {
+        let form = form_of(&row.form).ok_or_else(|| broken(&format!("it has a form {:?}", row.form)))?;
+        let function = has_function(form).then_some(number as u16);
+        builder.stage(form, &row.of, function).map_err(|refused| broken(&refused))?;
+        stages.push((form, row.of, checked(row.said, number).map_err(|why| broken(&why))?));
+    }
+    let plan = builder.build().map_err(|refused| broken(&refused))?;
+    Ok(SharedPlan { plan, stages })
+}
+
+/// What the payload of an attached stage says.
+pub(crate) fn said_in(payload: &[u8], number: usize) -> Result<Said, String> {
+    checked(serde_json::from_slice(payload).map_err(|error| error.to_string())?, number)
+}
+
+/// The stages that it speaks of are lower.
+fn checked(said: Said, number: usize) -> Result<Said, String> {
+    if [said.again, said.to].into_iter().flatten().any(|stage| usize::from(stage) >= number.max(1)) {
+        return Err(format!("it names a stage that isn't lower than {number}"));
+    }
+    Ok(said)
+}
+
+/// Whether a stage of this form has a function.
+pub(crate) fn has_function(form: Form) -> bool {
+    !matches!(form, Form::Source | Form::AllOf | Form::AnyOf)
+}
+
+fn form_of(name: &str) -> Option<Form> {
+    let forms = [
+        ("source", Form::Source),
+        ("supply", Form::Supply),
+        ("runAsync", Form::RunAsync),
+        ("apply", Form::Apply),
+        ("accept", Form::Accept),
+        ("thenRun", Form::ThenRun),
+        ("combine", Form::Combine),
+        ("acceptBoth", Form::AcceptBoth),
+        ("runBoth", Form::RunBoth),
+        ("applyEither", Form::ApplyEither),
+        ("acceptEither", Form::AcceptEither),
+        ("runEither", Form::RunEither),
+        ("compose", Form::Compose),
+        ("handle", Form::Handle),
+        ("whenComplete", Form::WhenComplete),
+        ("exceptionally", Form::Exceptionally),
+        ("allOf", Form::AllOf),
+        ("anyOf", Form::AnyOf),
+        ("exceptionallyCompose", Form::ExceptionallyCompose),
+    ];
+    forms.into_iter().find_map(|(known, form)| (known == name).then_some(form))
+}

@@ -1,0 +1,377 @@
+//! Rows in tables of a PostgreSQL database, which machines share, Python's processes too.
+use crate::error::StoreError;
+use crate::store::{in_a_row, Mark, Opened, Put, Store, Timer};
+use cf_graph::Entry;
+use std::collections::BTreeMap;
+use std::future::poll_fn;
+use std::sync::atomic::{AtomicBool, Ordering};
+use std::sync::{mpsc, Arc, Mutex, MutexGuard, PoisonError};
+use std::thread;
+use std::time::Duration;
+use tokio::runtime::{Builder, Runtime};
+use tokio::sync::mpsc as messages;
+use tokio_postgres::error::SqlState;
+use tokio_postgres::types::ToSql;
+use tokio_postgres::{AsyncMessage, Client, Config, NoTls, Row};
+
+const SCHEMA: &str = "
+    create table if not exists cf_request (id bigserial primary key, name text not null unique, plan text not null,
+        opened double precision not null, closed double precision, made_by xid8 not null default pg_current_xact_id());
+    create index if not exists cf_request_open on cf_request (made_by) where closed is null;
+    create table if not exists cf_word (request bigint, at int, word bigint not null, token bigint not null,
+        payload bytea, made_by xid8 not null default pg_current_xact_id(), primary key (request, at));
+    create index if not exists cf_word_made_by on cf_word (made_by);
+    create table if not exists cf_beat (session bigint primary key, count bigint not null);
+    create table if not exists cf_timer (request bigint, stage int, due double precision not null,
+        payload bytea not null, primary key (request, stage));
+    create index if not exists cf_timer_due on cf_timer (due);
+    create table if not exists cf_glance (request bigint primary key, words int not null, said text not null);
+    create table if not exists cf_name (request bigint, session bigint, name text not null,
+        primary key (request, session));
+";
+const NOW: &str = "extract(epoch from clock_timestamp())::double precision";
+const MARK: &str = "pg_snapshot_xmin(pg_current_snapshot())::text::bigint";
+/// The number of the lock under which tables are made.
+const SET_UP: i32 = 6_318_042;
+/// With the request's number, that of the lock under which it is closed and opened again. A statement of its own takes it, so that the next one sees
+/// all that stands by then: who closes it sees the words of all that have opened it again, and who opens it again sees that it was closed.
+const CLOSING: i32 = 6_318_043;
+/// Settings with which nothing that was answered is lost.
+const SAFE: [(&str, &str); 3] = [("fsync", "on"), ("full_page_writes", "on"), ("transaction_read_only", "off")];
+/// After so long without a sign a connection is given up.
+const SILENCE: Duration = Duration::from_secs(20);
+/// Between two notices: the first goes at once.
+const BETWEEN_NOTICES: Duration = Duration::from_millis(10);
+
+/// A database. Each connection sets `synchronous_commit` to on, where the server hasn't more; a server without `fsync` or `full_page_writes`, or one
+/// that can only be read, is refused. It needs PostgreSQL 13 or later. Connections have no TLS.
+///
+/// Those who wait are woken by `NOTIFY` of a connection of its own, behind the commit: within the put it takes a lock of the whole database.
+#[derive(Debug)]
+pub struct Postgres {
+    config: Config,
+    /// Connections that nobody uses now.
+    idle: Mutex<Vec<Connection>>,
+    /// One that is told of notices.
+    listens: Mutex<Option<Connection>>,
+    notices: Notices,
+}
+
+/// A connection, which does its work while it is asked.
+#[derive(Debug)]
+struct Connection {
+    runtime: Runtime,
+    client: Client,
+    told: messages::UnboundedReceiver<()>,
+}
+
+/// A thread that sends notices, once there is one to send.
+#[derive(Debug)]
+struct Notices {
+    wanted: Arc<AtomicBool>,
+    gives: Mutex<Option<mpsc::Sender<()>>>,
+}
+
+type Failed = tokio_postgres::Error;
+type Values<'a> = &'a [&'a (dyn ToSql + Sync)];
+
+impl Connection {
+    fn new(config: &Config) -> Result<Connection, StoreError> {
+        let runtime = Builder::new_current_thread().enable_all().build().map_err(|error| StoreError::Unknown(error.to_string()))?;
+        let (client, mut connection) = runtime.block_on(config.connect(NoTls)).map_err(|error| told(&error))?;
+        let (gives, gets) = messages::unbounded_channel();
+        runtime.spawn(async move {
+            while let Some(Ok(message)) = poll_fn(|context| connection.poll_message(context)).await {
+                if let AsyncMessage::Notification(_) = message {
+                    let _nobody_listens = gives.send(());
+                }
+            }
+        });
+        let made = Connection { runtime, client, told: gets };
+        for (name, wanted) in SAFE {
+            let found = made.shown(name)?;
+            if found != wanted {
+                return Err(StoreError::Refused(format!("{name} is {found}, with which words are lost or can't be put")));
+            }
+        }
+        if ["off", "local"].contains(&made.shown("synchronous_commit")?.as_str()) {
+            made.all("set synchronous_commit = on")?;
+        }
+        Ok(made)
+    }
+
+    fn shown(&self, name: &str) -> Result<String, StoreError> {
+        let rows = self.rows(&format!("select current_setting('{name}')"), &[])?;
+        Ok(rows.first().map(|row| row.get(0)).unwrap_or_default())
+    }
+
+    /// Statements without values.
+    fn all(&self, statements: &str) -> Result<(), StoreError> {
+        self.within(self.client.batch_execute(statements))
+    }
+
+    fn rows(&self, statement: &str, values: Values<'_>) -> Result<Vec<Row>, StoreError> {
+        self.within(self.client.query(statement, values))
+    }
+
+    /// What comes of a question, where it comes in time.
+    fn within<T>(&self, asked: impl std::future::Future<Output = Result<T, Failed>>) -> Result<T, StoreError> {
+        let answered = self.runtime.block_on(async { tokio::time::timeout(SILENCE, asked).await });
+        answered.map_err(|_| StoreError::Unknown(format!("no answer for {SILENCE:?}")))?.map_err(|error| told(&error))
+    }
+}
+
+/// What an error of the database's is here. A place that is taken is told by who puts.
+fn told(error: &Failed) -> StoreError {
+    match error.code() {
+        None => StoreError::Unknown(error.to_string()),
+        Some(code) if is_away(code) => StoreError::Unknown(error.to_string()),
+        Some(_) => StoreError::Refused(error.as_db_error().map_or_else(|| error.to_string(), |it| it.message().to_owned())),
+    }
+}
+
+/// Whether an error is of a server that is away, or can't write now.
+fn is_away(code: &SqlState) -> bool {
+    let class = code.code().get(..2).unwrap_or_default();
+    ["08", "53", "57", "58", "40"].contains(&class) || *code == SqlState::READ_ONLY_SQL_TRANSACTION
+}
+
+impl Postgres {
+    /// A database by its address, as `postgresql://user@host/database`.
+    pub fn connect(address: &str) -> Result<Postgres, StoreError> {
+        let mut config: Config = address.parse().map_err(|error: Failed| StoreError::Refused(error.to_string()))?;
+        config.connect_timeout(Duration::from_secs(5)).keepalives_idle(Duration::from_secs(10));
+        let first = Connection::new(&config)?;
+        first.all(&format!("select pg_advisory_lock({SET_UP})"))?; // (two that make a table at once are refused)
+        first.all(SCHEMA)?;
+        first.all(&format!("select pg_advisory_unlock({SET_UP})"))?;
+        let notices = Notices { wanted: Arc::default(), gives: Mutex::default() };
+        Ok(Postgres { config, idle: Mutex::new(vec![first]), listens: Mutex::default(), notices })
+    }
+
+    /// Uses a connection. One that failed isn't used again, unless it was the question's fault.
+    fn using<T>(&self, act: impl FnOnce(&mut Connection) -> Result<T, StoreError>) -> Result<T, StoreError> {
+        let idle = locked(&self.idle).pop();
+        let mut connection = idle.filter(|it| !it.client.is_closed()).map_or_else(|| Connection::new(&self.config), Ok)?;
+        let told = act(&mut connection);
+        if !matches!(told, Err(StoreError::Unknown(_))) {
+            locked(&self.idle).push(connection);
+        }
+        told
+    }
+
+    fn ask(&self, statement: &str, values: Values<'_>) -> Result<Vec<Row>, StoreError> {
+        self.using(|connection| connection.rows(statement, values))
+    }
+
+    /// Does a statement for a request of this number, which gives a row if it is there.
+    fn ask_of(&self, name: &str, statement: &str, values: Values<'_>) -> Result<Vec<Row>, StoreError> {
+        let rows = self.ask(statement, values)?;
+        if rows.is_empty() {
+            return Err(StoreError::Gone(name.into()));
+        }
+        Ok(rows)
+    }
+
+    /// The same under the lock of what is closed.
+    fn closing(&self, name: &str, number: i64, statement: &str, values: Values<'_>) -> Result<Vec<Row>, StoreError> {
+        let rows = self.using(|connection| {
+            let Connection { runtime, client, .. } = connection;
+            let asked = async {
+                let transaction = client.transaction().await?;
+                transaction.query("select pg_advisory_xact_lock($1, $2)", &[&CLOSING, &((number % (1 << 31)) as i32)]).await?;
+                let rows = transaction.query(statement, values).await?;
+                transaction.commit().await.map(|()| rows)
+            };
+            let answered = runtime.block_on(async { tokio::time::timeout(SILENCE, asked).await });
+            answered.map_err(|_| StoreError::Unknown(format!("no answer for {SILENCE:?}")))?.map_err(|error| told(&error))
+        })?;
+        if rows.is_empty() {
+            return Err(StoreError::Gone(name.into()));
+        }
+        Ok(rows)
+    }
+
+    /// Wakes who waits. What was put stands, so nothing is refused here: who gets no notice looks by himself.
+    fn notify(&self) {
+        self.notices.wanted.store(true, Ordering::SeqCst);
+        let mut gives = locked(&self.notices.gives);
+        if gives.as_ref().map_or(true, |it| it.send(()).is_err()) {
+            let (first, gets) = mpsc::channel();
+            let (config, wanted) = (self.config.clone(), Arc::clone(&self.notices.wanted));
+            let started = thread::Builder::new().name("cf-notify".into()).spawn(move || send_notices(&config, &wanted, &gets));
+            if started.is_ok() && first.send(()).is_ok() {
+                *gives = Some(first);
+            }
+        }
+    }
+}
+
+/// Sends a notice each time one is wanted, until nobody can want one any more.
+fn send_notices(config: &Config, wanted: &AtomicBool, gets: &mpsc::Receiver<()>) {
+    let mut connection = None;
+    while gets.recv().is_ok() {
+        if !wanted.swap(false, Ordering::SeqCst) {
+            continue;
+        }
+        if connection.is_none() {
+            connection = Connection::new(config).and_then(|made| made.all("set synchronous_commit = off").map(|()| made)).ok();
+        }
+        if !matches!(connection.as_ref().map(|it| it.all("notify cf")), Some(Ok(()))) {
+            connection = None;
+        }
+        thread::sleep(BETWEEN_NOTICES);
+    }
+}
+
+impl Store for Postgres {
+    fn open(&self, name: &str, plan: &str) -> Result<Opened, StoreError> {
+        loop {
+            if let Some(found) = self.find(name)? {
+                return Ok(found);
+            }
+            self.ask(&format!("insert into cf_request (name, plan, opened) values ($1, $2, {NOW}) on conflict do nothing"), &[&name, &plan])?;
+        }
+    }
+
+    fn find(&self, name: &str) -> Result<Option<Opened>, StoreError> {
+        let rows = self.ask("select id, plan, opened from cf_request where name = $1", &[&name])?;
+        Ok(rows.first().map(|row| Opened { name: name.into(), number: row.get(0), plan: row.get(1), opened: row.get(2) }))
+    }
+
+    fn append(&self, put: Put<'_>) -> Result<Option<Vec<Entry>>, StoreError> {
+        let places: Vec<i32> = (put.at as i32..).take(put.entries.len()).collect();
+        let words: Vec<i64> = put.entries.iter().map(|entry| entry.word as i64).collect();
+        let tokens: Vec<i64> = put.entries.iter().map(|entry| entry.token as i64).collect();
+        let payloads: Vec<Option<&[u8]>> = (put.at + 1..).take(put.entries.len()).map(|place| put.payloads.get(&place).map(Vec::as_slice)).collect();
+        // (one statement: where a place is taken nothing of it stands)
+        let statement = "insert into cf_word select id, v.* from cf_request, \
+                         unnest($2::int[], $3::bigint[], $4::bigint[], $5::bytea[]) as v where id = $1";
+        let landed = self.using(|connection| {
+            let values: Values<'_> = &[&put.number, &places, &words, &tokens, &payloads];
+            let asked = connection.client.execute(statement, values);
+            let answered = connection.runtime.block_on(async { tokio::time::timeout(SILENCE, asked).await });
+            match answered.map_err(|_| StoreError::Unknown(format!("no answer for {SILENCE:?}")))? {
+                Ok(many) => Ok(many == put.entries.len() as u64),
+                Err(error) if error.code() == Some(&SqlState::UNIQUE_VIOLATION) => Ok(false),
+                Err(error) => Err(told(&error)),
+            }
+        })?;
+        if landed {
+            self.notify();
+            return Ok(None);
+        }
+        let stands = self.read(put.request, put.number, put.at)?;
+        if stands.is_empty() {
+            return Err(StoreError::Gone(put.request.into()));
+        }
+        Ok(Some(stands))
+    }
+
+    fn read(&self, name: &str, number: i64, at: usize) -> Result<Vec<Entry>, StoreError> {
+        let statement = "select at, word, token from cf_request left join cf_word on request = id and at >= $1 where id = $2 order by at";
+        let rows = self.ask_of(name, statement, &[&(at as i32), &number])?;
+        let stands = |row: &Row| Some((i64::from(row.get::<_, Option<i32>>(0)?), row.get(1), row.get(2)));
+        in_a_row(name, at, rows.iter().filter_map(stands))
+    }
+
+    fn payload(&self, name: &str, number: i64, place: usize) -> Result<Option<Vec<u8>>, StoreError> {
+        let statement = "select payload from cf_request left join cf_word on request = id and at = $1 where id = $2";
+        let rows = self.ask_of(name, statement, &[&(place as i32 - 1), &number])?;
+        Ok(rows[0].get(0))
+    }
+
+    fn news(&self, since: Option<Mark>) -> Result<(BTreeMap<String, usize>, Mark), StoreError> {
+        // All transactions below the mark had ended when it was read, so what they did was told.
+        let (since, all) = since.map_or((0, true), |(since, _)| (since, false));
+        let ends = "select name, (select max(at) + 1 from cf_word where request = id) from cf_request where closed is null";
+        let longer = "select name, 0 from cf_request where closed is null and made_by >= $1::text::xid8 union all \
+                      select name, max(at) + 1 from cf_word w join cf_request on id = request \
+                      where closed is null and w.made_by >= $1::text::xid8 group by name";
+        let mark: i64 = self.ask(&format!("select {MARK}"), &[])?[0].get(0);
+        let rows = if all { self.ask(ends, &[])? } else { self.ask(longer, &[&since.to_string()])? };
+        let mut told = BTreeMap::new();
+        for row in rows {
+            let many = row.get::<_, Option<i32>>(1).unwrap_or(0) as usize;
+            let known = told.entry(row.get::<_, String>(0)).or_insert(0);
+            *known = many.max(*known);
+        }
+        Ok((told, (mark, 0)))
+    }
+
+    fn changed(&self, wait: Duration) -> Result<(), StoreError> {
+        let mut listens = locked(&self.listens);
+        let Some(connection) = listens.as_mut().filter(|it| !it.client.is_closed()) else {
+            let made = Connection::new(&self.config)?;
+            made.all("listen cf")?;
+            *listens = Some(made);
+            return Ok(());
+        };
+        let Connection { runtime, told, .. } = connection;
+        let _nothing_new = runtime.block_on(async { tokio::time::timeout(wait, told.recv()).await });
+        while told.try_recv().is_ok() {}
+        Ok(())
+    }
+
+    fn end(&self, name: &str, number: i64, at: usize) -> Result<bool, StoreError> {
+        let statement = format!(
+            "with closed as (update cf_request set closed = {NOW} where id = $1 and closed is null and \
+             (select coalesce(max(at) + 1, 0) from cf_word where request = id) = $2 returning id), \
+             timers as (delete from cf_timer where request in (select id from closed)), \
+             glances as (delete from cf_glance where request in (select id from closed)) \
+             select exists (select 1 from closed) from cf_request where id = $1"
+        );
+        Ok(self.closing(name, number, &statement, &[&number, &(at as i32)])?[0].get(0))
+    }
+
+    fn reopen(&self, name: &str, number: i64) -> Result<(), StoreError> {
+        let statement = "with opened as (update cf_request set closed = null, made_by = pg_current_xact_id() \
+                         where id = $1 and closed is not null returning id) select 1 from cf_request where id = $1";
+        self.closing(name, number, statement, &[&number]).map(|_| ())
+    }
+
+    fn beat(&self, session: u64) -> Result<(), StoreError> {
+        let statement = "insert into cf_beat values ($1, 1) on conflict (session) do update set count = cf_beat.count + 1";
+        self.ask(statement, &[&(session as i64)]).map(|_| ())
+    }
+
+    fn beats(&self) -> Result<BTreeMap<u64, i64>, StoreError> {
+        let rows = self.ask("select session, count from cf_beat", &[])?;
+        Ok(rows.iter().map(|row| (row.get::<_, i64>(0) as u64, row.get(1))).collect())
+    }
+
+    fn drop_beat(&self, session: u64) -> Result<(), StoreError> {
+        let statement = "with names as (delete from cf_name where request = 0 and session = $1) delete from cf_beat where session = $1";
+        self.ask(statement, &[&(session as i64)]).map(|_| ())
+    }
+
+    fn name_session(&self, session: u64, name: &str) -> Result<(), StoreError> {
+        let statement = "insert into cf_name values (0, $1, $2) on conflict (request, session) do update set name = excluded.name";
+        self.ask(statement, &[&(session as i64), &name]).map(|_| ())
+    }
+
+    fn now(&self) -> Result<f64, StoreError> {
+        Ok(self.ask(&format!("select {NOW}"), &[])?[0].get(0))
+    }
+
+    fn set_timer(&self, timer: &Timer) -> Result<(), StoreError> {
+        let statement = "insert into cf_timer select id, $1, $2, $3 from cf_request where id = $4 \
+                         on conflict (request, stage) do update set due = excluded.due, payload = excluded.payload returning 1";
+        self.ask_of(&timer.request, statement, &[&i32::from(timer.stage), &timer.due, &timer.payload, &timer.number]).map(|_| ())
+    }
+
+    fn due(&self, now: f64) -> Result<Vec<Timer>, StoreError> {
+        let statement = "select name, stage, due, payload, id from cf_timer join cf_request on id = request where due <= $1 order by due";
+        let read =
+            |row: Row| Timer { request: row.get(0), stage: row.get::<_, i32>(1) as u16, due: row.get(2), payload: row.get(3), number: row.get(4) };
+        Ok(self.ask(statement, &[&now])?.into_iter().map(read).collect())
+    }
+
+    fn drop_timer(&self, timer: &Timer) -> Result<(), StoreError> {
+        self.ask("delete from cf_timer where request = $1 and stage = $2", &[&timer.number, &i32::from(timer.stage)]).map(|_| ())
+    }
+}
+
+fn locked<T>(mutex: &Mutex<T>) -> MutexGuard<'_, T> {
+    mutex.lock().unwrap_or_else(PoisonError::into_inner)
+}

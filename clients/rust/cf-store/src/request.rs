@@ -1,0 +1,415 @@
+//! What a program has of a request in a store: the request and its stages.
+use crate::error::{Error, Failed, StoreError};
+use crate::plan::Said;
+use crate::service::Shared;
+use crate::store::Timer;
+use crate::view::{bytes_of, Done, View, Wanted};
+use cf_graph::{Answer, Call, Failure, Form, Of, Outcome, Reply, State, Value};
+use serde::de::DeserializeOwned;
+use serde::Serialize;
+use serde_json::Value as Json;
+use std::fmt;
+use std::sync::atomic::{AtomicBool, AtomicUsize, Ordering};
+use std::sync::{Arc, Condvar, Mutex, MutexGuard, PoisonError};
+use std::time::{Duration, Instant};
+
+/// A request in a store: [`Service::request`](crate::Service::request) and [`open`](crate::Service::open) give one. Any thread may use it, and
+/// processes share it. A clone is the same request.
+///
+/// Each call that changes something is in the store when it returns. It is refused with
+///
+/// - [`StoreError::Unknown`] where the store didn't answer for a minute: what was asked may stand or not;
+/// - [`StoreError::Broken`] and [`StoreError::Gone`] where the row can't be gone on with;
+/// - [`StoreError::Full`] where there would be more than 4,096 stages;
+/// - [`StoreError::NotRegistered`] where a function isn't registered.
+#[derive(Clone)]
+pub struct Request {
+    pub(crate) inner: Arc<Inner>,
+    pub(crate) service: Arc<Shared>,
+}
+
+/// A stage of a request in a store. A clone is the same stage.
+#[derive(Clone, Debug)]
+pub struct Stage {
+    request: Request,
+    number: u16,
+}
+
+/// What a process has once of each request.
+pub(crate) struct Inner {
+    pub(crate) name: String,
+    pub(crate) number: i64,
+    view: Mutex<View>,
+    /// Told when stages were settled, and when the service ends.
+    changed: Condvar,
+    /// How many entries were seen.
+    pub(crate) seen: AtomicUsize,
+    /// Whether a thread is to look what is to do.
+    pub(crate) is_queued: AtomicBool,
+    /// Whether it is closed in the store, as far as is known.
+    pub(crate) is_closed: AtomicBool,
+    /// Whether that has yet to be taken back.
+    pub(crate) reopens: AtomicBool,
+    /// Why it can't be gone on with.
+    fault: Mutex<Option<StoreError>>,
+}
+
+impl Inner {
+    pub(crate) fn new(view: View) -> Inner {
+        Inner {
+            name: view.opened.name.clone(),
+            number: view.opened.number,
+            seen: AtomicUsize::new(view.seen()),
+            view: Mutex::new(view),
+            changed: Condvar::new(),
+            is_queued: AtomicBool::new(false),
+            is_closed: AtomicBool::new(false),
+            reopens: AtomicBool::new(false),
+            fault: Mutex::new(None),
+        }
+    }
+
+    pub(crate) fn view(&self) -> MutexGuard<'_, View> {
+        self.view.lock().unwrap_or_else(PoisonError::into_inner)
+    }
+
+    /// The view, where no other thread has it now.
+    pub(crate) fn try_view(&self) -> Option<MutexGuard<'_, View>> {
+        self.view.try_lock().ok()
+    }
+
+    /// Tells those who wait what was done.
+    pub(crate) fn show(&self, view: MutexGuard<'_, View>) {
+        self.seen.store(view.seen(), Ordering::Relaxed);
+        drop(view);
+        self.changed.notify_all();
+    }
+
+    pub(crate) fn catch_up(&self) -> Result<(), StoreError> {
+        let mut view = self.view();
+        let told = view.catch_up();
+        self.show(view);
+        told.map(|_| ())
+    }
+
+    /// Puts words: what they did, which is nothing where none was wanted.
+    pub(crate) fn act(&self, decide: impl FnMut(&mut View) -> Result<Vec<Wanted>, StoreError>) -> Result<Vec<Done>, StoreError> {
+        let mut view = self.view();
+        let told = view.act(decide);
+        self.show(view);
+        told.map(|(done, _)| done)
+    }
+
+    /// Has those who wait told that it can't be gone on with.
+    pub(crate) fn fail(&self, fault: StoreError) {
+        *self.fault.lock().unwrap_or_else(PoisonError::into_inner) = Some(fault);
+        drop(self.view());
+        self.changed.notify_all();
+    }
+
+    /// Has those who wait look again.
+    pub(crate) fn wake(&self) {
+        drop(self.view());
+        self.changed.notify_all();
+    }
+}
+
+impl Request {
+    /// The request's name, by which other processes find it.
+    pub fn name(&self) -> &str {
+        &self.inner.name
+    }
+
+    /// Has a registered function called, in its latest version, by any process that works on the request. `args` are what it is called with.
+    pub fn supply(&self, function: &str, args: &[Json]) -> Result<Stage, StoreError> {
+        let mut said = self.said(function)?;
+        said.args = args.to_vec();
+        self.attach(Form::Supply, Of::None, said)
+    }
+
+    /// A stage without a function, which somebody settles, in any process.
+    pub fn promise(&self, name: &str) -> Result<Stage, StoreError> {
+        self.attach(Form::Source, Of::None, Said { name: name.into(), ..Said::default() })
+    }
+
+    /// A stage that ends once all of these are settled: with null if all have values, else as the first one in this order that has none. For n stages
+    /// it takes n - 1, at least one.
+    pub fn all_of(&self, of: &[&Stage]) -> Result<Stage, StoreError> {
+        self.tree(Form::AllOf, of, "all of")
+    }
+
+    /// A stage that ends as the first of these that is settled, be it with an error. For n stages it takes n - 1, at least one.
+    pub fn first_of(&self, of: &[&Stage]) -> Result<Stage, StoreError> {
+        self.tree(Form::AnyOf, of, "first of")
+    }
+
+    /// The stage of a number, in the order in which they were attached, if there is one by what this process has read.
+    pub fn stage(&self, number: u16) -> Option<Stage> {
+        let there = usize::from(number) < self.inner.view().len();
+        there.then(|| Stage { request: self.clone(), number })
+    }
+
+    /// The first stage of a name, if there is one.
+    pub fn named(&self, name: &str) -> Result<Option<Stage>, StoreError> {
+        self.inner.catch_up()?;
+        let mut view = self.inner.view();
+        for number in 0..view.len() as u16 {
+            if view.said(number)?.name == name {
+                return Ok(Some(Stage { request: self.clone(), number }));
+            }
+        }
+        Ok(None)
+    }
+
+    /// Reads what other processes have put since.
+    pub fn refresh(&self) -> Result<(), StoreError> {
+        self.inner.catch_up()
+    }
+
+    /// Closes the request: nothing is left to do in it, and workers look at it no more. Its timers are forgotten. A flow's request is closed by itself
+    /// once all its stages are settled. A stage that is attached opens a request again.
+    pub fn end(&self) -> Result<(), StoreError> {
+        self.inner.catch_up()?;
+        let seen = self.inner.seen.load(Ordering::Relaxed);
+        self.service.sure(|| self.service.store.end(&self.inner.name, self.inner.number, seen))?;
+        self.inner.is_closed.store(true, Ordering::Relaxed);
+        Ok(())
+    }
+
+    fn said(&self, function: &str) -> Result<Said, StoreError> {
+        let version = self.service.functions.latest(function).ok_or_else(|| StoreError::NotRegistered(function.into()))?;
+        Ok(Said { name: function.into(), function: Some(function.into()), version: Some(version), ..Said::default() })
+    }
+
+    fn attach(&self, form: Form, of: Of, said: Said) -> Result<Stage, StoreError> {
+        let payload = serde_json::to_vec(&said).map_err(|error| StoreError::Refused(error.to_string()))?;
+        let may_be_closed = self.inner.view().is_planned() || self.inner.is_closed.load(Ordering::Relaxed);
+        if may_be_closed {
+            // (also where this call fails, a thread of the service does it)
+            self.inner.reopens.store(true, Ordering::Relaxed);
+            self.service.keep(&self.inner);
+        }
+        let done = self.inner.act(|view| {
+            let function = crate::plan::has_function(form).then_some(view.len() as u16);
+            Ok(vec![Wanted { call: Call::Attach(form, of, function), payload: Some(payload.clone()) }])
+        });
+        let reopened = if done.is_ok() { self.service.reopen(&self.inner) } else { Ok(()) };
+        self.service.serve(&self.inner);
+        reopened?;
+        match done?.first().map(|it| it.reply) {
+            Some(Reply::Attached(Some(number))) => Ok(Stage { request: self.clone(), number }),
+            _ => Err(StoreError::Full),
+        }
+    }
+
+    /// An attached stage has at most two sources; a tree of them tells what one stage of all would.
+    fn tree(&self, form: Form, of: &[&Stage], name: &str) -> Result<Stage, StoreError> {
+        let mut row: Vec<u16> = of.iter().map(|it| it.number).collect();
+        let said = || Said { name: name.into(), ..Said::default() };
+        while row.len() > 2 {
+            let mut above = Vec::with_capacity(row.len() / 2 + 1);
+            for pair in row.chunks(2) {
+                above.push(match *pair {
+                    [first, second] => self.attach(form, Of::Two(first, second), said())?.number,
+                    _ => pair[0],
+                });
+            }
+            row = above;
+        }
+        let of = match *row.as_slice() {
+            [] => Of::None,
+            [first] => Of::One(first),
+            _ => Of::Two(row[0], row[1]),
+        };
+        self.attach(form, of, said())
+    }
+}
+
+impl Stage {
+    /// Its number in the request.
+    pub fn number(&self) -> u16 {
+        self.number
+    }
+
+    /// What histories call it: the name of its function, or of the promise.
+    pub fn name(&self) -> Result<String, StoreError> {
+        Ok(self.request.inner.view().said(self.number)?.name)
+    }
+
+    /// Has a registered function called with the value of this stage.
+    pub fn then(&self, function: &str) -> Result<Stage, StoreError> {
+        self.behind(Form::Apply, Of::One(self.number), function)
+    }
+
+    /// Has a registered function called with the values of this stage and another one of the request.
+    pub fn combine(&self, other: &Stage, function: &str) -> Result<Stage, StoreError> {
+        self.behind(Form::Combine, Of::Two(self.number, other.number), function)
+    }
+
+    /// Has a registered function called with the value of this stage or of another one of the request, whichever is settled first.
+    pub fn either(&self, other: &Stage, function: &str) -> Result<Stage, StoreError> {
+        self.behind(Form::ApplyEither, Of::Two(self.number, other.number), function)
+    }
+
+    /// Has a registered function called with the value, or null, and the [`Failed`], or null.
+    pub fn handle(&self, function: &str) -> Result<Stage, StoreError> {
+        self.behind(Form::Handle, Of::One(self.number), function)
+    }
+
+    /// Has a registered function called with the [`Failed`] that this stage ends in, if it does, and takes its result.
+    pub fn recover(&self, function: &str) -> Result<Stage, StoreError> {
+        self.behind(Form::Exceptionally, Of::One(self.number), function)
+    }
+
+    /// Plans further tries, for the case that the process that runs this stage's function dies. The function may have done its work before, and does
+    /// it once more with each try. It gives the last try, which passes on the value of an earlier one.
+    pub fn again(&self, times: usize) -> Result<Stage, StoreError> {
+        let name = format!("{} again", self.name()?);
+        let (mut stage, again) = (self.clone(), Some(self.number));
+        for _ in 0..times {
+            stage = self.request.attach(Form::Exceptionally, Of::One(stage.number), Said { name: name.clone(), again, ..Said::default() })?;
+        }
+        Ok(stage)
+    }
+
+    fn behind(&self, form: Form, of: Of, function: &str) -> Result<Stage, StoreError> {
+        self.request.attach(form, of, self.request.said(function)?)
+    }
+
+    /// Settles the stage with a value, unless it is settled. Whether this call settled it.
+    pub fn complete<T: Serialize + ?Sized>(&self, value: &T) -> Result<bool, StoreError> {
+        let payload = payload_of(value)?;
+        self.settle(Call::Complete(self.number, Value::Nil), payload, false)
+    }
+
+    /// Settles the stage with an error, unless it is settled. Whether this call settled it.
+    pub fn fail(&self, failed: &Failed) -> Result<bool, StoreError> {
+        self.settle(Call::Fail(self.number, 0), Some(bytes_of(failed)), false)
+    }
+
+    /// Cancels the stage, unless it is settled or its function runs in some process. Whether it is cancelled after the call.
+    pub fn cancel(&self) -> Result<bool, StoreError> {
+        self.settle(Call::Cancel(self.number), None, true)
+    }
+
+    /// Cancels the stage, unless it is settled, also while its function runs, whose answer comes too late then. Whether it is cancelled after the
+    /// call.
+    pub fn abandon(&self) -> Result<bool, StoreError> {
+        self.settle(Call::Cancel(self.number), None, false)
+    }
+
+    fn settle(&self, call: Call, payload: Option<Vec<u8>>, waits: bool) -> Result<bool, StoreError> {
+        let (inner, number) = (&self.request.inner, self.number);
+        let done = inner.act(|view| {
+            let rests = view.is_settled(number) || waits && view.is_claimed(number);
+            Ok(if rests { vec![] } else { vec![Wanted { call, payload: payload.clone() }] })
+        });
+        self.request.service.serve(inner);
+        match done?.first().map(|it| it.reply) {
+            Some(Reply::Flag(won)) => Ok(won),
+            _ => Ok(matches!(call, Call::Cancel(_)) && inner.view().state(number) == CANCELLED),
+        }
+    }
+
+    /// Sets a timer in the store, by which the stage times out unless it is settled. Any process that works on the request fires it. A stage has one
+    /// timer; a second call replaces the first one's.
+    pub fn or_timeout(&self, wait: Duration) -> Result<(), StoreError> {
+        let text = format!("{} took longer than {} s", self.name()?, wait.as_secs_f64());
+        self.later(wait, b'E', &bytes_of(&Failed::new("TimeoutError", text)))
+    }
+
+    /// Sets a timer in the store, by which the stage gets a value unless it is settled, as [`or_timeout`](Stage::or_timeout).
+    pub fn complete_on_timeout<T: Serialize + ?Sized>(&self, value: &T, wait: Duration) -> Result<(), StoreError> {
+        match payload_of(value)? {
+            Some(value) => self.later(wait, b'V', &value),
+            None => self.later(wait, b'N', &[]),
+        }
+    }
+
+    fn later(&self, wait: Duration, kind: u8, what: &[u8]) -> Result<(), StoreError> {
+        let (inner, service) = (&self.request.inner, &self.request.service);
+        if inner.view().is_settled(self.number) {
+            return Ok(());
+        }
+        let payload = [&[kind], what].concat();
+        service.sure(|| {
+            let due = service.store.now()? + wait.as_secs_f64();
+            service.store.set_timer(&Timer { request: inner.name.clone(), number: inner.number, stage: self.number, due, payload: payload.clone() })
+        })
+    }
+
+    /// Waits until the stage is settled, also while the store doesn't answer, and gives its value.
+    pub fn wait<T: DeserializeOwned>(&self) -> Result<T, Error> {
+        self.wait_until(None).and_then(|told| told.ok_or(Error::Cancelled))
+    }
+
+    /// The same, for so long at most: nothing where the stage isn't settled by then.
+    pub fn wait_timeout<T: DeserializeOwned>(&self, wait: Duration) -> Result<Option<T>, Error> {
+        self.wait_until(Some(Instant::now() + wait))
+    }
+
+    /// What the stage has come to by what this process has read, if it is settled.
+    pub fn peek<T: DeserializeOwned>(&self) -> Result<Option<T>, Error> {
+        self.wait_until(Some(Instant::now()))
+    }
+
+    fn wait_until<T: DeserializeOwned>(&self, until: Option<Instant>) -> Result<Option<T>, Error> {
+        let inner = &self.request.inner;
+        let mut view = inner.view();
+        loop {
+            match view.end_of(self.number) {
+                Ok(Some(end)) => {
+                    return end.and_then(|value| serde_json::from_value(value).map(Some).map_err(|why| Error::Unreadable(why.to_string())))
+                }
+                Ok(None) | Err(StoreError::Unknown(_)) => {}
+                Err(fault) => return Err(fault.into()),
+            }
+            if let Some(fault) = &*inner.fault.lock().unwrap_or_else(PoisonError::into_inner) {
+                return Err(fault.clone().into());
+            }
+            if self.request.service.is_over() {
+                return Err(StoreError::Refused("the service is shut down".into()).into());
+            }
+            let left = until.map(|it| it.saturating_duration_since(Instant::now()));
+            if left == Some(Duration::ZERO) {
+                return Ok(None);
+            }
+            let wait = left.unwrap_or(Duration::from_secs(3600));
+            view = inner.changed.wait_timeout(view, wait).unwrap_or_else(PoisonError::into_inner).0;
+        }
+    }
+}
+
+const CANCELLED: State = State::Settled(Outcome::Fault { cause: cf_graph::Cause::Cancelled, wrapped: false });
+
+/// The bytes of a value, or nothing for null.
+pub(crate) fn payload_of<T: Serialize + ?Sized>(value: &T) -> Result<Option<Vec<u8>>, StoreError> {
+    let bytes = serde_json::to_vec(value).map_err(|error| StoreError::Refused(error.to_string()))?;
+    Ok((bytes != b"null").then_some(bytes))
+}
+
+/// What a timer does to its stage.
+pub(crate) fn fired(timer: &Timer) -> Wanted {
+    let what = timer.payload.get(1..).map(<[u8]>::to_vec);
+    match timer.payload.first() {
+        Some(b'E') => Wanted { call: Call::FailAs(timer.stage, Failure::TimedOut), payload: what },
+        Some(b'V') => Wanted { call: Call::Complete(timer.stage, Value::Nil), payload: what },
+        _ => Wanted { call: Call::Complete(timer.stage, Value::Nil), payload: None },
+    }
+}
+
+/// What a function came to.
+pub(crate) fn finish(stage: u16, result: Result<Json, Failed>) -> Wanted {
+    let (answer, payload) = match result {
+        Ok(Json::Null) => (Answer::Give(Value::Nil), None),
+        Ok(value) => (Answer::Give(Value::Nil), Some(value.to_string().into_bytes())),
+        Err(failed) => (Answer::Throw(0), Some(bytes_of(&failed))),
+    };
+    Wanted { call: Call::Finish(stage, answer), payload }
+}
+
+impl fmt::Debug for Request {
+    fn fmt(&self, f: &mut fmt::Formatter<'_>) -> fmt::Result {
+        f.debug_struct("Request").field("name", &self.inner.name).finish_non_exhaustive()
+    }
+}

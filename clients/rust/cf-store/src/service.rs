@@ -1,0 +1,734 @@
+//! The threads that work on requests: a pool that runs functions, and the pump, which looks what is new.
+use crate::error::{Error, Failed, StoreError, ABANDONED};
+use crate::functions::{self, Functions};
+use crate::plan::{self, Said};
+use crate::request::{finish, fired, Inner, Request};
+use crate::store::{Mark, Opened, Store, Timer};
+use crate::view::{by_chance, bytes_of, sure, View, Wanted, SESSION_BITS};
+use cf_graph::{Args, Call, Claimed, Form, Reply};
+use serde_json::Value as Json;
+use std::collections::{BTreeMap, HashSet, VecDeque};
+use std::fmt;
+use std::sync::atomic::{AtomicBool, Ordering};
+use std::sync::{Arc, Condvar, Mutex, MutexGuard, PoisonError, Weak};
+use std::thread::{self, JoinHandle};
+use std::time::{Duration, Instant};
+
+/// How often timers are looked for.
+const BETWEEN_TIMERS: Duration = Duration::from_millis(20);
+/// How long the pump waits for news at most.
+const LONGEST_PAUSE: Duration = Duration::from_millis(200);
+/// After so many leases the beats of a session that is gone are dropped.
+const LONG_GONE: u32 = 100;
+
+/// How a service works.
+#[derive(Clone, Debug)]
+#[non_exhaustive]
+pub struct Options {
+    /// How many threads run functions, 4 by default. With 0 this process runs none.
+    pub threads: usize,
+    /// After how long without a sign of life another process takes this one for gone, and abandons the stages whose functions it runs. By default
+    /// 10 s.
+    pub lease: Duration,
+    /// Whether it works on all requests that are open in the store, and not only on those that were opened here.
+    pub takes_all: bool,
+    /// Told what goes wrong where nobody waits for it. By default it is written to standard error.
+    pub warns: fn(&str),
+}
+
+impl Default for Options {
+    fn default() -> Options {
+        Options { threads: 4, lease: Duration::from_secs(10), takes_all: false, warns: |text| eprintln!("cf-store: {text}") }
+    }
+}
+
+/// A process, or a part of one, that works on requests of a store. When it is dropped it begins nothing more, and waits for the functions that run;
+/// what is open stays in the store, and others go on with it.
+#[derive(Debug)]
+pub struct Service {
+    shared: Arc<Shared>,
+    threads: Vec<JoinHandle<()>>,
+}
+
+/// What the threads of a service have in common.
+pub(crate) struct Shared {
+    pub(crate) store: Arc<dyn Store>,
+    pub(crate) functions: Functions,
+    options: Options,
+    session: u64,
+    requests: Mutex<BTreeMap<String, Kept>>,
+    jobs: Mutex<VecDeque<Job>>,
+    work: Condvar,
+    stops: AtomicBool,
+    watcher: Mutex<Watcher>,
+    /// Functions that aren't known here, of which that was said.
+    unknown: Mutex<HashSet<(String, u32)>>,
+    /// Timers that are being fired.
+    firing: Mutex<HashSet<(String, u16)>>,
+}
+
+/// A request that this process knows.
+enum Kept {
+    Open(Arc<Inner>),
+    /// It was closed, and somebody here may have it.
+    Closed(Weak<Inner>),
+    Broken,
+}
+
+enum Job {
+    Look(Arc<Inner>),
+    Fire(Timer),
+    LetGo(Arc<Inner>),
+}
+
+/// A stage that this session has, with its function and what that is called with, or with what it ends in without a call.
+struct Task {
+    stage: u16,
+    name: String,
+    version: u32,
+    given: Result<Vec<Json>, Failed>,
+}
+
+impl Service {
+    /// A service of a store that runs these functions, with the usual [`Options`].
+    pub fn new(store: impl Store + 'static, functions: Functions) -> Result<Service, StoreError> {
+        Service::with(store, functions, Options::default())
+    }
+
+    /// The same with options.
+    pub fn with(store: impl Store + 'static, functions: Functions, options: Options) -> Result<Service, StoreError> {
+        let shared = Arc::new(Shared {
+            store: Arc::new(store),
+            functions,
+            watcher: Mutex::new(Watcher { seen: BTreeMap::new(), time: Duration::ZERO, last: Instant::now(), lease: options.lease }),
+            session: by_chance(SESSION_BITS),
+            requests: Mutex::default(),
+            jobs: Mutex::default(),
+            work: Condvar::new(),
+            stops: AtomicBool::new(false),
+            unknown: Mutex::default(),
+            firing: Mutex::default(),
+            options,
+        });
+        let mut service = Service { shared, threads: Vec::new() };
+        // (where one can't be started, those that were end as the service is dropped)
+        service.start("cf-store-pump", Shared::pump)?;
+        for number in 0..service.shared.options.threads.max(1) {
+            service.start(&format!("cf-store-{number}"), Shared::run)?;
+        }
+        Ok(service)
+    }
+
+    fn start(&mut self, name: &str, run: fn(&Arc<Shared>)) -> Result<(), StoreError> {
+        let shared = Arc::clone(&self.shared);
+        let started = thread::Builder::new().name(name.into()).spawn(move || run(&shared));
+        self.threads.push(started.map_err(|error| StoreError::Refused(error.to_string()))?);
+        Ok(())
+    }
+
+    /// Opens a request without stages, or gives the one of this name as it stands in the store.
+    pub fn request(&self, name: &str) -> Result<Request, StoreError> {
+        let found = self.shared.sure(|| self.shared.store.open(name, &plan::empty()))?;
+        self.shared.opened(found)
+    }
+
+    /// A request that stands in the store. [`StoreError::Gone`] where there is none of this name.
+    pub fn open(&self, name: &str) -> Result<Request, StoreError> {
+        let found = self.shared.sure(|| self.shared.store.find(name))?;
+        self.shared.opened(found.ok_or_else(|| StoreError::Gone(name.into()))?)
+    }
+
+    /// Goes on with all requests that are open in the store, as after a crash, and gives them. Those that are broken are left out, and told.
+    pub fn resume(&self) -> Result<Vec<Request>, StoreError> {
+        let (open, _) = self.shared.sure(|| self.shared.store.news(None))?;
+        let mut resumed = Vec::new();
+        for name in open.keys() {
+            match self.open(name) {
+                Ok(request) => resumed.push(request),
+                Err(StoreError::Gone(_)) => {}
+                Err(StoreError::Broken { .. }) => {} // (it was told)
+                Err(error) => return Err(error),
+            }
+        }
+        Ok(resumed)
+    }
+}
+
+impl Drop for Service {
+    fn drop(&mut self) {
+        self.shared.stops.store(true, Ordering::SeqCst);
+        drop(self.shared.jobs());
+        self.shared.work.notify_all();
+        for thread in self.threads.drain(..) {
+            let _panicked = thread.join();
+        }
+        for inner in self.shared.all() {
+            inner.wake();
+        }
+        let _others_see_its_silence = self.shared.store.drop_beat(self.shared.session);
+    }
+}
+
+fn locked<T>(mutex: &Mutex<T>) -> MutexGuard<'_, T> {
+    mutex.lock().unwrap_or_else(PoisonError::into_inner)
+}
+
+impl Shared {
+    pub(crate) fn is_over(&self) -> bool {
+        self.stops.load(Ordering::SeqCst)
+    }
+
+    pub(crate) fn sure<T>(&self, call: impl FnMut() -> Result<T, StoreError>) -> Result<T, StoreError> {
+        sure(call)
+    }
+
+    fn warn(&self, name: &str, what: &dyn fmt::Display) {
+        (self.options.warns)(&format!("request {name:?}: {what}"));
+    }
+
+    fn jobs(&self) -> MutexGuard<'_, VecDeque<Job>> {
+        locked(&self.jobs)
+    }
+
+    fn submit(&self, job: Job) {
+        self.jobs().push_back(job);
+        self.work.notify_one();
+    }
+
+    // The requests that are known here.
+
+    fn opened(self: &Arc<Shared>, found: Opened) -> Result<Request, StoreError> {
+        let name = found.name.clone();
+        let inner = self.kept(found).map_err(|error| {
+            self.give_up(&name, None, &error);
+            error
+        })?;
+        self.serve(&inner);
+        Ok(Request { inner, service: Arc::clone(self) })
+    }
+
+    /// The one value of a request that this service has.
+    fn kept(&self, found: Opened) -> Result<Arc<Inner>, StoreError> {
+        let number = found.number;
+        if let Some(known) = self.known(&found.name).filter(|it| it.number == number) {
+            known.catch_up()?;
+            return Ok(known);
+        }
+        let made = Arc::new(Inner::new(View::new(Arc::clone(&self.store), found, self.session)?));
+        made.catch_up()?;
+        let mut requests = locked(&self.requests);
+        if let Some(Kept::Open(known)) = requests.get(&made.name) {
+            if known.number >= number {
+                return Ok(Arc::clone(known)); // (another thread has made it meanwhile)
+            }
+            known.fail(StoreError::Gone(made.name.clone())); // it was dropped, and another of its name opened
+        }
+        requests.insert(made.name.clone(), Kept::Open(Arc::clone(&made)));
+        Ok(made)
+    }
+
+    /// A request that is known here, also one that was closed and that others have opened again.
+    fn known(&self, name: &str) -> Option<Arc<Inner>> {
+        let mut requests = locked(&self.requests);
+        let known = match requests.get(name)? {
+            Kept::Open(inner) => return Some(Arc::clone(inner)),
+            Kept::Closed(inner) => inner.upgrade()?,
+            Kept::Broken => return None,
+        };
+        requests.insert(name.into(), Kept::Open(Arc::clone(&known)));
+        Some(known)
+    }
+
+    fn is_broken(&self, name: &str) -> bool {
+        matches!(locked(&self.requests).get(name), Some(Kept::Broken))
+    }
+
+    fn all(&self) -> Vec<Arc<Inner>> {
+        let requests = locked(&self.requests);
+        let open = |kept: &Kept| match kept {
+            Kept::Open(inner) => Some(Arc::clone(inner)),
+            Kept::Closed(inner) => inner.upgrade(),
+            Kept::Broken => None,
+        };
+        requests.values().filter_map(open).collect()
+    }
+
+    /// Goes on with a request, unless there is another of its name by now.
+    pub(crate) fn keep(&self, inner: &Arc<Inner>) {
+        let mut requests = locked(&self.requests);
+        let is_its = match requests.get(&inner.name) {
+            Some(Kept::Open(known)) => Arc::ptr_eq(known, inner),
+            Some(Kept::Closed(known)) => known.upgrade().map_or(true, |known| Arc::ptr_eq(&known, inner)),
+            Some(Kept::Broken) => false,
+            None => true,
+        };
+        if is_its {
+            requests.insert(inner.name.clone(), Kept::Open(Arc::clone(inner)));
+        }
+    }
+
+    /// Leaves a request alone that can't be gone on with. Others go on.
+    fn give_up(&self, name: &str, inner: Option<&Arc<Inner>>, error: &StoreError) {
+        if matches!(error, StoreError::Broken { .. } | StoreError::Gone(_)) {
+            self.warn(name, error);
+            let mut requests = locked(&self.requests);
+            match error {
+                StoreError::Broken { .. } => drop(requests.insert(name.into(), Kept::Broken)),
+                _ => drop(requests.remove(name)), // (another of its name may be opened)
+            }
+            drop(requests);
+            if let Some(inner) = inner {
+                inner.fail(error.clone());
+            }
+        }
+    }
+
+    /// Opens it again in the store, where it may be closed and stages were attached.
+    pub(crate) fn reopen(&self, inner: &Arc<Inner>) -> Result<(), StoreError> {
+        if inner.reopens.load(Ordering::Relaxed) {
+            self.sure(|| self.store.reopen(&inner.name, inner.number))?;
+            inner.reopens.store(false, Ordering::Relaxed);
+            inner.is_closed.store(false, Ordering::Relaxed);
+            self.keep(inner);
+        }
+        Ok(())
+    }
+
+    /// Lets a thread look what is to do in a request.
+    pub(crate) fn serve(&self, inner: &Arc<Inner>) {
+        if !self.is_over() && !inner.is_queued.swap(true, Ordering::SeqCst) {
+            self.submit(Job::Look(Arc::clone(inner)));
+        }
+    }
+
+    // The pump: what is new, who is gone, what is due.
+
+    fn pump(self: &Arc<Shared>) {
+        let (mut next_beat, mut next_look, mut mark, mut is_named) = (Instant::now(), Instant::now(), None, false);
+        while !self.is_over() {
+            let pause = LONGEST_PAUSE.min(self.options.lease / 5);
+            let round = self.round(&mut next_beat, &mut next_look, &mut mark, &mut is_named).and_then(|()| self.store.changed(pause));
+            if let Err(error) = round {
+                (self.options.warns)(&error.to_string());
+                thread::sleep(LONGEST_PAUSE);
+            }
+        }
+    }
+
+    fn round(
+        self: &Arc<Shared>,
+        next_beat: &mut Instant,
+        next_look: &mut Instant,
+        mark: &mut Option<Mark>,
+        is_named: &mut bool,
+    ) -> Result<(), StoreError> {
+        let now = Instant::now();
+        let looks = now >= *next_beat;
+        if looks {
+            *next_beat = now + self.options.lease / 5;
+            self.beat(is_named)?;
+        }
+        if now >= *next_look {
+            *next_look = now + BETWEEN_TIMERS;
+            self.look_for_timers()?;
+        }
+        let known = if looks { self.all() } else { Vec::new() }; // (before the store is asked: what is opened meanwhile isn't in its answer)
+        let (ends, next) = self.store.news(if looks { None } else { *mark })?;
+        for inner in known.into_iter().filter(|it| !ends.contains_key(&it.name) && !it.is_closed.load(Ordering::Relaxed)) {
+            self.submit(Job::LetGo(inner));
+        }
+        for (name, end) in ends {
+            let Some(inner) = self.taken(&name) else { continue };
+            let seen = inner.seen.load(Ordering::Relaxed);
+            if end > seen || (looks || end == 0) && self.needs(&inner) {
+                self.serve(&inner);
+            }
+        }
+        *mark = Some(next);
+        Ok(())
+    }
+
+    fn beat(&self, is_named: &mut bool) -> Result<(), StoreError> {
+        self.store.beat(self.session)?;
+        if !*is_named {
+            self.store.name_session(self.session, &format!("rust {}", std::process::id()))?;
+            *is_named = true;
+        }
+        let gone = locked(&self.watcher).look(self.store.beats());
+        gone.into_iter().try_for_each(|session| self.store.drop_beat(session))
+    }
+
+    /// A request of the store that this service works on.
+    fn taken(self: &Arc<Shared>, name: &str) -> Option<Arc<Inner>> {
+        if let Some(known) = self.known(name) {
+            return Some(known);
+        }
+        if !self.options.takes_all || self.is_broken(name) {
+            return None;
+        }
+        let found = self.sure(|| self.store.find(name)).ok()??;
+        self.kept(found).map_err(|error| self.give_up(name, None, &error)).ok()
+    }
+
+    /// Whether something is to do in a request without a new word.
+    fn needs(&self, inner: &Inner) -> bool {
+        let Some(mut view) = inner.try_view() else { return false }; // (who has it looks)
+        let reopens = inner.reopens.load(Ordering::Relaxed);
+        reopens || view.has_left() || view.open_claims().into_iter().any(|(_, session)| self.is_gone(session)) || self.is_finished(&view)
+    }
+
+    fn is_gone(&self, session: u64) -> bool {
+        session != self.session && locked(&self.watcher).is_gone(session)
+    }
+
+    /// Whether it is a flow's, and nothing is left to do.
+    fn is_finished(&self, view: &View) -> bool {
+        view.is_planned() && view.is_done(|session| self.is_gone(session))
+    }
+
+    fn look_for_timers(self: &Arc<Shared>) -> Result<(), StoreError> {
+        for timer in self.store.due(self.store.now()?)? {
+            let is_its = self.options.takes_all || matches!(locked(&self.requests).get(&timer.request), Some(Kept::Open(_)));
+            if is_its && locked(&self.firing).insert((timer.request.clone(), timer.stage)) {
+                self.submit(Job::Fire(timer));
+            }
+        }
+        Ok(())
+    }
+
+    fn fire(self: &Arc<Shared>, timer: &Timer) -> Result<(), StoreError> {
+        if let Some(inner) = self.taken(&timer.request).filter(|it| timer.number == 0 || timer.number == it.number) {
+            inner.catch_up()?; // (a timer is set behind the word of its stage)
+            inner.act(|view| {
+                let is_there = usize::from(timer.stage) < view.len();
+                Ok(if !is_there || view.is_settled(timer.stage) { vec![] } else { vec![fired(timer)] })
+            })?;
+            self.serve(&inner);
+        }
+        self.store.drop_timer(timer)
+    }
+
+    /// Forgets a request that is closed, once all is told.
+    fn let_go(&self, inner: &Arc<Inner>) -> Result<(), StoreError> {
+        inner.catch_up()?;
+        self.reopen(inner)?;
+        let mut requests = locked(&self.requests);
+        if matches!(requests.get(&inner.name), Some(Kept::Open(known)) if Arc::ptr_eq(known, inner)) {
+            inner.is_closed.store(true, Ordering::Relaxed);
+            requests.insert(inner.name.clone(), Kept::Closed(Arc::downgrade(inner)));
+        }
+        Ok(())
+    }
+
+    // Work.
+
+    fn run(self: &Arc<Shared>) {
+        loop {
+            let mut jobs = self.jobs();
+            let job = loop {
+                if self.is_over() {
+                    return;
+                }
+                match jobs.pop_front() {
+                    Some(job) => break job,
+                    None => jobs = self.work.wait(jobs).unwrap_or_else(PoisonError::into_inner),
+                }
+            };
+            drop(jobs);
+            self.do_job(&job);
+        }
+    }
+
+    fn do_job(self: &Arc<Shared>, job: &Job) {
+        let (name, inner, told) = match job {
+            Job::Look(inner) => (&inner.name, Some(inner), self.work_on(inner)),
+            Job::LetGo(inner) => (&inner.name, Some(inner), self.let_go(inner)),
+            Job::Fire(timer) => {
+                let told = self.fire(timer);
+                locked(&self.firing).remove(&(timer.request.clone(), timer.stage));
+                (&timer.request, None, told)
+            }
+        };
+        match told {
+            Ok(()) => {}
+            Err(error @ (StoreError::Broken { .. } | StoreError::Gone(_))) => self.give_up(name, inner, &error),
+            Err(error) => self.warn(name, &error),
+        }
+    }
+
+    fn work_on(&self, inner: &Arc<Inner>) -> Result<(), StoreError> {
+        inner.is_queued.store(false, Ordering::SeqCst);
+        inner.catch_up()?;
+        self.reopen(inner)?;
+        self.abandon(inner)?;
+        self.relay(inner)?;
+        let mut task = self.first(inner)?;
+        while let Some(mut it) = task {
+            let result = self.called(&mut it);
+            task = self.next(inner, Some((it.stage, result)))?;
+            if task.is_none() {
+                task = self.first(inner)?;
+            }
+        }
+        self.relay(inner)?;
+        if self.is_finished(&inner.view()) {
+            let seen = inner.seen.load(Ordering::Relaxed);
+            self.store.end(&inner.name, inner.number, seen)?;
+        }
+        Ok(())
+    }
+
+    /// A stage that this session has by now, or else claims.
+    fn first(&self, inner: &Arc<Inner>) -> Result<Option<Task>, StoreError> {
+        loop {
+            let Some((stage, args)) = inner.view().take_found() else { return self.next(inner, None) };
+            let is_open = {
+                let view = inner.view();
+                view.is_held(stage) && !view.is_settled(stage)
+            };
+            let task = if is_open { self.task(inner, stage, args).map(Some) } else { self.next(inner, Some((stage, Ok(Json::Null)))) };
+            match task {
+                Ok(None) => {}
+                Ok(some) => return Ok(some),
+                Err(error) => {
+                    inner.view().put_back(stage, args); // it is tried again later
+                    return Err(error);
+                }
+            }
+        }
+    }
+
+    /// Fails the stages whose session is gone. If it isn't, the row says who was first.
+    fn abandon(&self, inner: &Arc<Inner>) -> Result<(), StoreError> {
+        let claims = inner.view().open_claims();
+        for (stage, session) in claims.into_iter().filter(|(_, session)| self.is_gone(*session)) {
+            let name = inner.view().said(stage)?.name;
+            let failed = Failed::new(ABANDONED, format!("the worker that ran {name} is gone, and it may have run"));
+            inner.act(|view| {
+                let is_so = view.open_claims().contains(&(stage, session));
+                let wanted = || Wanted { call: Call::Fail(stage, 0), payload: Some(bytes_of(&failed)) };
+                Ok(is_so.then(wanted).into_iter().collect())
+            })?;
+        }
+        Ok(())
+    }
+
+    fn relay(&self, inner: &Arc<Inner>) -> Result<(), StoreError> {
+        while !inner.act(|view| Ok(view.relay()?.into_iter().collect()))?.is_empty() {}
+        Ok(())
+    }
+
+    /// Puts a finish, and with it the claim of the next stage, if there is one; what was claimed. While the store is away a finish is put again and
+    /// again: its function has run. A value that the store refuses fails its stage.
+    fn next(&self, inner: &Arc<Inner>, mut ended: Option<(u16, Result<Json, Failed>)>) -> Result<Option<Task>, StoreError> {
+        let mut chosen = Vec::new();
+        let done = loop {
+            let told = inner.act(|view| {
+                let held = ended.as_ref().filter(|(stage, _)| view.is_held(*stage));
+                let mut wanted: Vec<_> = held.map(|(stage, result)| finish(*stage, result.clone())).into_iter().collect();
+                chosen = self.choice(view, &inner.name, ended.as_ref())?;
+                wanted.extend(chosen.first().map(|stage| Wanted { call: Call::Claim(*stage), payload: None }));
+                Ok(wanted)
+            });
+            match (told, &mut ended) {
+                (Ok(done), _) => break done,
+                (Err(StoreError::Unknown(why)), Some(_)) if !self.is_over() => self.warn(&inner.name, &why),
+                (Err(StoreError::Refused(why)), Some((_, result))) if !self.is_over() => {
+                    self.warn(&inner.name, &why);
+                    *result = Err(Failed::new("StoreError", why));
+                    thread::sleep(LONGEST_PAUSE);
+                }
+                (Err(error), _) => return Err(error),
+            }
+        };
+        if chosen.len() > 1 {
+            self.serve(inner);
+        }
+        match (done.last().map(|it| (it.call, it.reply)), chosen.first()) {
+            (Some((Call::Claim(stage), Reply::Claimed(Claimed::Granted(args)))), Some(first)) if stage == *first => {
+                let task = self.task(inner, stage, args);
+                if task.is_err() {
+                    inner.view().put_back(stage, args);
+                }
+                task.map(Some)
+            }
+            _ => Ok(None),
+        }
+    }
+
+    /// Up to two stages that this session could claim: those that are ready, or that the finish makes ready.
+    fn choice(&self, view: &mut View, name: &str, ended: Option<&(u16, Result<Json, Failed>)>) -> Result<Vec<u16>, StoreError> {
+        if self.is_over() || self.options.threads == 0 {
+            return Ok(Vec::new());
+        }
+        let mut ready = view.ready()?;
+        if let Some((stage, result)) = ended.filter(|(stage, _)| !view.is_settled(*stage)) {
+            let goes_on = |form: Form| match form {
+                Form::Handle | Form::WhenComplete => true,
+                Form::Apply => result.is_ok(),
+                Form::Exceptionally => result.is_err(),
+                _ => false,
+            };
+            ready.extend(view.alone_behind(*stage).into_iter().filter(|it| goes_on(view.form(*it).0)));
+        }
+        let mut chosen = Vec::new();
+        for stage in ready {
+            if chosen.len() < 2 && self.knows(view, name, stage)? {
+                chosen.push(stage);
+            }
+        }
+        Ok(chosen)
+    }
+
+    /// What is said of the function that a stage calls, and of the stage that it tries again.
+    fn said(&self, view: &mut View, stage: u16) -> Result<(Said, Option<u16>), StoreError> {
+        let said = view.said(stage)?;
+        match said.again {
+            Some(again) => Ok((view.said(again)?, Some(again))),
+            None => Ok((said, None)),
+        }
+    }
+
+    /// Whether a stage's function is registered here, and one that Rust can call: others may have it. Those that compose, and those with arguments by
+    /// name, are Python's.
+    fn knows(&self, view: &mut View, name: &str, stage: u16) -> Result<bool, StoreError> {
+        let (said, _) = self.said(view, stage)?;
+        let (function, version) = (said.function.unwrap_or_default(), said.version.unwrap_or_default());
+        let is_composing = matches!(view.form(stage).0, Form::Compose | Form::ExceptionallyCompose);
+        let knows = !is_composing && said.kwargs.is_none() && self.functions.of(&function, version).is_some();
+        if !knows && locked(&self.unknown).insert((function.clone(), version)) {
+            self.warn(name, &format!("stage {stage}: function {function:?}, version {version}, isn't known here"));
+        }
+        Ok(knows)
+    }
+
+    /// What is to be done for a stage that was claimed.
+    fn task(&self, inner: &Inner, stage: u16, args: Args) -> Result<Task, StoreError> {
+        let view = &mut inner.view();
+        let (said, again) = self.said(view, stage)?;
+        let mut given = arguments(view, stage, args)?;
+        if let Some(first) = again {
+            given = match given.pop().map(serde_json::from_value::<Failed>) {
+                Some(Ok(failed)) if failed.kind == ABANDONED => again_with(view, first)?,
+                Some(Ok(failed)) => return Ok(Task { stage, name: String::new(), version: 0, given: Err(failed) }),
+                _ => Vec::new(),
+            };
+        }
+        let given = if said.args.is_empty() { given } else { said.args };
+        Ok(Task { stage, name: said.function.unwrap_or_default(), version: said.version.unwrap_or_default(), given: Ok(given) })
+    }
+
+    fn called(&self, task: &mut Task) -> Result<Json, Failed> {
+        let args = std::mem::replace(&mut task.given, Ok(Vec::new()))?;
+        match self.functions.of(&task.name, task.version) {
+            Some(function) => functions::call(&*function, args),
+            None => Err(Failed::new("LookupError", format!("function {:?}, version {}, isn't known here", task.name, task.version))),
+        }
+    }
+}
+
+/// What a claim says that the function is called with.
+fn arguments(view: &mut View, stage: u16, args: Args) -> Result<Vec<Json>, StoreError> {
+    let (form, of) = view.form(stage);
+    let of = of.to_vec();
+    Ok(match args {
+        Args::None => vec![],
+        Args::One(first) => vec![view.value(first)?],
+        Args::Two(first, second) => vec![view.value(first)?, view.value(second)?],
+        Args::Got(outcome) => {
+            let (value, failed) = match view.outcome(outcome, &of)? {
+                Ok(value) => (value, Json::Null),
+                Err(error) => (Json::Null, failure(error)?),
+            };
+            if form == Form::Exceptionally {
+                vec![failed]
+            } else {
+                vec![value, failed]
+            }
+        }
+    })
+}
+
+/// What a stage's function was called with before, by what its sources hold.
+fn again_with(view: &mut View, stage: u16) -> Result<Vec<Json>, StoreError> {
+    let (form, of) = view.form(stage);
+    let mut of = of.to_vec();
+    if form == Form::ApplyEither {
+        of = view.first_settled(&of).into_iter().collect();
+    }
+    let mut args = Vec::with_capacity(2);
+    for source in of {
+        match view.end_of(source)? {
+            Some(Ok(value)) if form == Form::Exceptionally => drop(value),
+            Some(Ok(value)) => args.push(value),
+            Some(Err(error)) if form == Form::Exceptionally => args.push(failure(error)?),
+            Some(Err(error)) => args.extend([Json::Null, failure(error)?]),
+            None => args.push(Json::Null),
+        }
+    }
+    if matches!(form, Form::Handle | Form::WhenComplete) && args.len() == 1 {
+        args.push(Json::Null);
+    }
+    Ok(args)
+}
+
+/// An end without a value, as functions are given it.
+fn failure(error: Error) -> Result<Json, StoreError> {
+    let failed = match error {
+        Error::Failed(failed) | Error::TimedOut(Some(failed)) => failed,
+        Error::Abandoned(text) => Failed::new(ABANDONED, text),
+        Error::TimedOut(None) => Failed::new("TimeoutError", ""),
+        Error::Cancelled => Failed::new("CancelledError", ""),
+        Error::BadAnswer => Failed::new("BadAnswer", ""),
+        Error::Unreadable(why) => Failed::new("ValueError", why),
+        Error::Store(error) => return Err(error),
+    };
+    serde_json::to_value(failed).map_err(|error| StoreError::Refused(error.to_string()))
+}
+
+/// Which sessions are gone, by this process's own clock: those whose beat stood still for a lease in which the store answered. A pause between two
+/// looks counts for half of it at most, since this process, or the machine, stood still then, and others may have, too.
+struct Watcher {
+    /// The count of each session's beats, where it was read, and since when it is that.
+    seen: BTreeMap<u64, (Option<i64>, Duration)>,
+    time: Duration,
+    last: Instant,
+    lease: Duration,
+}
+
+impl Watcher {
+    /// Takes in all beats, and gives the sessions that are long gone. While the store is away nobody can beat.
+    fn look(&mut self, beats: Result<BTreeMap<u64, i64>, StoreError>) -> Vec<u64> {
+        let now = Instant::now();
+        self.time += (now - self.last).min(self.lease / 2);
+        self.last = now;
+        let Ok(beats) = beats else {
+            self.seen.clear();
+            return Vec::new();
+        };
+        for (session, count) in beats {
+            if self.seen.get(&session).map_or(true, |(known, _)| *known != Some(count)) {
+                self.seen.insert(session, (Some(count), self.time));
+            }
+        }
+        let until = self.time.saturating_sub(self.lease * LONG_GONE);
+        let gone: Vec<_> = self.seen.iter().filter(|(_, (count, since))| count.is_some() && *since < until).map(|(session, _)| *session).collect();
+        for session in &gone {
+            self.seen.remove(session);
+        }
+        gone
+    }
+
+    /// Whether a session's beat stood still for so long. One that never beat counts from now on.
+    fn is_gone(&mut self, session: u64) -> bool {
+        let time = self.time;
+        let (_, since) = *self.seen.entry(session).or_insert((None, time));
+        time - since > self.lease
+    }
+}
+
+impl fmt::Debug for Shared {
+    fn fmt(&self, f: &mut fmt::Formatter<'_>) -> fmt::Result {
+        f.debug_struct("Service").field("session", &self.session).field("functions", &self.functions).finish_non_exhaustive()
+    }
+}

@@ -1,0 +1,499 @@
+//! What this session knows of one request's row, and how it puts words there.
+use crate::error::{Error, Failed, StoreError};
+use crate::plan::{self, Said};
+use crate::store::{Opened, Put, Store};
+use cf_graph::{Call, Cause, Claimed, Entry, Event, Failure, Form, Of, Outcome, Refused, Reply, Row, RowOpening, State, Value};
+use serde_json::Value as Json;
+use std::collections::{BTreeMap, BTreeSet};
+use std::sync::Arc;
+use std::thread;
+use std::time::{Duration, Instant};
+
+/// Bits of a token that count.
+const COUNT_BITS: u32 = 23;
+/// Bits of a session's number.
+pub(crate) const SESSION_BITS: u32 = 39;
+/// How many stages a request may have.
+const MOST_STAGES: usize = 4096;
+/// How many may be attached at first.
+const ROOM: usize = 8;
+/// How long the store may be silent.
+const PATIENCE: Duration = Duration::from_secs(60);
+
+/// A number of so many bits, by chance.
+pub(crate) fn by_chance(bits: u32) -> u64 {
+    let mut bytes = [0; 8];
+    getrandom::getrandom(&mut bytes).expect("the system has random numbers");
+    u64::from_ne_bytes(bytes) >> (64 - bits)
+}
+
+/// Payloads by the places of their words.
+type Payloads = BTreeMap<usize, Vec<u8>>;
+
+/// A word that is wanted, with its payload. A value or an error is named by the word's own place, so the call says only that there is one.
+pub(crate) struct Wanted {
+    pub(crate) call: Call,
+    pub(crate) payload: Option<Vec<u8>>,
+}
+
+/// An entry that was done: its word's call, and its reply.
+pub(crate) struct Done {
+    pub(crate) call: Call,
+    pub(crate) reply: Reply,
+}
+
+/// What a view remembers of a stage beside what the row's graph says.
+struct Known {
+    form: Form,
+    of: Vec<u16>,
+    /// What is said of it, where that was read.
+    said: Option<Said>,
+    /// The place of the word that attached it, or 0 for one of the plan.
+    attached: usize,
+    /// Where it was settled, or 0.
+    settled: usize,
+    /// The place of the payload by which it, or a source of it, timed out or had a bad answer, or 0.
+    failed: usize,
+    /// The session whose claim was granted last.
+    session: u64,
+}
+
+pub(crate) struct View {
+    pub(crate) opened: Opened,
+    pub(crate) session: u64,
+    store: Arc<dyn Store>,
+    row: Row,
+    stages: Vec<Known>,
+    /// How many stages the plan has.
+    planned: usize,
+    room: usize,
+    /// How many entries were seen.
+    seen: usize,
+    /// Promises that composing stages were linked to, with the places of those words.
+    links: BTreeMap<u16, usize>,
+    /// Composing stages that were settled, and whose promises may be waited for by nobody.
+    unlinked: BTreeSet<u16>,
+    /// The stages whose claim is open, as far as they were seen.
+    claims: BTreeSet<u16>,
+    /// Claims of this session's that were granted, as it found when it read them.
+    found: BTreeMap<u16, cf_graph::Args>,
+    /// Tokens of words of which it isn't known whether they stand, and the places where they would.
+    doubt: BTreeMap<u64, usize>,
+    /// Payloads that this view put.
+    own: Payloads,
+}
+
+impl View {
+    pub(crate) fn new(store: Arc<dyn Store>, opened: Opened, session: u64) -> Result<View, StoreError> {
+        let plan::SharedPlan { mut plan, stages } = plan::read(&opened.plan, &opened.name)?;
+        let first = by_chance(COUNT_BITS) as u32;
+        let mut room = ROOM.min(MOST_STAGES - stages.len());
+        let row = loop {
+            match Row::new(&mut plan, RowOpening { room: room as u16, first, session }) {
+                Err(Refused::ROOM) if room > 0 => room /= 2,
+                made => break made?,
+            }
+        };
+        let planned = stages.len();
+        let known = |(form, of, said)| Known { form, of, said: Some(said), attached: 0, settled: 0, failed: 0, session: 0 };
+        let (links, unlinked, claims) = Default::default();
+        let (found, doubt, own) = Default::default();
+        let stages = stages.into_iter().map(known).collect();
+        Ok(View { opened, session, store, row, stages, planned, room, seen: 0, links, unlinked, claims, found, doubt, own })
+    }
+
+    /// How many entries were seen.
+    pub(crate) fn seen(&self) -> usize {
+        self.seen
+    }
+
+    /// How many stages there are.
+    pub(crate) fn len(&self) -> usize {
+        self.stages.len()
+    }
+
+    /// Whether the request is a flow's.
+    pub(crate) fn is_planned(&self) -> bool {
+        self.planned > 0
+    }
+
+    pub(crate) fn state(&mut self, stage: u16) -> State {
+        self.row.stage(stage).map_or(State::Pending, |it| it.state)
+    }
+
+    pub(crate) fn is_settled(&self, stage: u16) -> bool {
+        self.stages[usize::from(stage)].settled > 0
+    }
+
+    /// A stage's form and its sources.
+    pub(crate) fn form(&self, stage: u16) -> (Form, &[u16]) {
+        let known = &self.stages[usize::from(stage)];
+        (known.form, &known.of)
+    }
+
+    /// The ready stages, rising.
+    pub(crate) fn ready(&mut self) -> Result<Vec<u16>, StoreError> {
+        let (mut ready, mut from) = (Vec::new(), 0);
+        while let Some(stage) = self.row.ready(from)? {
+            ready.push(stage);
+            from = stage + 1;
+        }
+        Ok(ready)
+    }
+
+    /// The stages that have this one as their only source, and aren't settled.
+    pub(crate) fn alone_behind(&self, stage: u16) -> Vec<u16> {
+        let numbers = stage + 1..self.stages.len() as u16;
+        numbers.filter(|it| self.stages[usize::from(*it)].of == [stage] && !self.is_settled(*it)).collect()
+    }
+
+    /// The stages whose function runs somewhere: claimed and not settled, each with the session that has it.
+    pub(crate) fn open_claims(&mut self) -> Vec<(u16, u64)> {
+        let claims: Vec<_> = self.claims.iter().map(|stage| (*stage, self.stages[usize::from(*stage)].session)).collect();
+        claims.into_iter().filter(|(stage, _)| matches!(self.state(*stage), State::Claimed)).collect()
+    }
+
+    /// Whether this session has a claim of a stage that isn't finished.
+    pub(crate) fn is_held(&self, stage: u16) -> bool {
+        self.claims.contains(&stage) && self.stages[usize::from(stage)].session == self.session
+    }
+
+    /// Whether a claim of a stage is open.
+    pub(crate) fn is_claimed(&self, stage: u16) -> bool {
+        self.claims.contains(&stage)
+    }
+
+    /// A claim of this session's that was granted without its being told.
+    pub(crate) fn take_found(&mut self) -> Option<(u16, cf_graph::Args)> {
+        let stage = *self.found.keys().next()?;
+        self.found.remove_entry(&stage)
+    }
+
+    pub(crate) fn put_back(&mut self, stage: u16, args: cf_graph::Args) {
+        self.found.insert(stage, args);
+    }
+
+    /// Whether something is to do in it without a new word.
+    pub(crate) fn has_left(&mut self) -> bool {
+        !self.links.is_empty() || !self.unlinked.is_empty() || !self.found.is_empty() || !matches!(self.row.ready(0), Ok(None))
+    }
+
+    /// Whether all stages are settled, and no claim is open but for those of sessions that are gone.
+    pub(crate) fn is_done(&self, is_gone: impl Fn(u64) -> bool) -> bool {
+        let sessions = self.claims.iter().map(|stage| self.stages[usize::from(*stage)].session);
+        self.stages.iter().all(|it| it.settled > 0) && sessions.into_iter().all(is_gone)
+    }
+
+    // Reading and putting.
+
+    /// Does what others have put, and gives it.
+    pub(crate) fn catch_up(&mut self) -> Result<Vec<Done>, StoreError> {
+        let (name, number, seen) = (self.opened.name.clone(), self.opened.number, self.seen);
+        let entries = sure(|| self.store.read(&name, number, seen))?;
+        entries.into_iter().map(|entry| self.take(entry)).collect()
+    }
+
+    /// Puts words behind all that is seen, and does them. `decide` says by this view which words are wanted, if any; it is asked again each time
+    /// others' words came first. It gives what the words did, or nothing where none was wanted; and what others' had done before.
+    pub(crate) fn act(&mut self, mut decide: impl FnMut(&mut View) -> Result<Vec<Wanted>, StoreError>) -> Result<(Vec<Done>, Vec<Done>), StoreError> {
+        let mut others = Vec::new();
+        loop {
+            let wanted = decide(self)?;
+            if wanted.is_empty() {
+                return Ok((Vec::new(), others));
+            }
+            let attached = wanted.iter().filter(|it| matches!(it.call, Call::Attach(..))).count();
+            self.make_room(attached)?;
+            let (entries, payloads) = self.planned_put(wanted)?;
+            let store = Arc::clone(&self.store);
+            let put = Put { request: &self.opened.name, number: self.opened.number, at: self.seen, entries: &entries, payloads: &payloads };
+            let stands = match sure(|| store.append(put)) {
+                Ok(stands) => stands.unwrap_or_else(|| entries.clone()),
+                Err(error) => {
+                    self.row.give_up()?;
+                    self.doubt.extend(entries.iter().enumerate().map(|(k, entry)| (entry.token, self.seen + 1 + k)));
+                    return Err(error);
+                }
+            };
+            let Some(first) = stands.first() else {
+                self.row.give_up()?;
+                return Err(StoreError::Gone(self.opened.name.clone()));
+            };
+            let landed = self.row.met(*first)?;
+            if landed {
+                self.own.extend(payloads);
+            }
+            let mut done = Vec::with_capacity(stands.len());
+            for entry in stands {
+                done.push(self.take(entry)?);
+            }
+            if landed {
+                others.extend(done.split_off(entries.len().min(done.len())));
+                return Ok((done, others));
+            }
+            others.extend(done);
+        }
+    }
+
+    fn planned_put(&mut self, wanted: Vec<Wanted>) -> Result<(Vec<Entry>, Payloads), StoreError> {
+        let who = self.row.number()?;
+        let (mut words, mut payloads) = (Vec::with_capacity(wanted.len()), Payloads::new());
+        for (place, it) in (self.seen + 1..).zip(wanted) {
+            words.push(Event { who, call: named(it.call, place, it.payload.is_some()) }.word()?);
+            payloads.extend(it.payload.map(|payload| (place, payload)));
+        }
+        let first = self.row.plan(&words)?;
+        Ok((words.into_iter().zip(first..).map(|(word, token)| Entry { word, token }).collect(), payloads))
+    }
+
+    /// Does an entry that stands behind all that was seen.
+    fn take(&mut self, entry: Entry) -> Result<Done, StoreError> {
+        let place = self.seen + 1;
+        let broken = |refused: Refused| StoreError::broken(&self.opened.name, place, format!("the word {} can't be done: {refused}", entry.word));
+        let call = Event::of_word(entry.word).map_err(broken)?.call;
+        if matches!(call, Call::Attach(..)) {
+            self.make_room(1)?;
+        }
+        let broken = |refused: Refused| StoreError::broken(&self.opened.name, place, format!("the word {} can't be done: {refused}", entry.word));
+        let reply = self.row.saw(entry).map_err(broken)?;
+        self.seen = place;
+        let is_own = self.doubt.remove(&entry.token).is_some();
+        match (call, reply) {
+            (Call::Attach(form, of, _), Reply::Attached(Some(_))) => {
+                let of = match of {
+                    Of::None => vec![],
+                    Of::One(first) => vec![first],
+                    Of::Two(first, second) => vec![first, second],
+                };
+                self.stages.push(Known { form, of, said: None, attached: place, settled: 0, failed: 0, session: 0 });
+            }
+            (Call::Claim(stage), Reply::Claimed(Claimed::Granted(args))) => {
+                self.claims.insert(stage);
+                self.stages[usize::from(stage)].session = entry.session();
+                if is_own {
+                    self.found.insert(stage, args);
+                }
+            }
+            (Call::Finish(stage, answer), Reply::Finished(finished)) if finished != cf_graph::Finished::NotYours => {
+                self.claims.remove(&stage);
+                if let (cf_graph::Answer::Link(to), cf_graph::Finished::Won) = (answer, finished) {
+                    self.links.insert(to, place);
+                }
+            }
+            _ => {}
+        }
+        self.doubt.retain(|_, its| *its > place); // what was to stand here and doesn't never will
+        self.take_news(call, place);
+        Ok(Done { call, reply })
+    }
+
+    /// Notes what the last entry settled.
+    fn take_news(&mut self, call: Call, place: usize) {
+        let given = match call {
+            Call::FailAs(..) => place,
+            Call::Finish(_, cf_graph::Answer::Link(to)) => self.stages[usize::from(to)].failed,
+            _ => 0,
+        };
+        for news in self.row.news().collect::<Vec<_>>() {
+            let State::Settled(outcome) = news.now.state else { continue };
+            let number = usize::from(news.stage);
+            if self.stages[number].settled > 0 {
+                continue;
+            }
+            if let Outcome::Fault { cause: cause @ (Cause::TimedOut | Cause::BadAnswer), .. } = outcome {
+                let of = self.stages[number].of.clone();
+                self.stages[number].failed = if given > 0 { given } else { self.failed_of(&of, cause) };
+            }
+            self.stages[number].settled = place;
+            if matches!(self.stages[number].form, Form::Compose | Form::ExceptionallyCompose) {
+                self.unlinked.insert(news.stage);
+            }
+        }
+    }
+
+    /// The place of the payload of the first of these stages that ended by this cause, or 0.
+    fn failed_of(&mut self, of: &[u16], cause: Cause) -> usize {
+        let ended =
+            |it: &u16| matches!(self.row.stage(*it).map(|it| it.state), Ok(State::Settled(Outcome::Fault { cause: its, .. })) if its == cause);
+        let first = of.iter().copied().find(ended);
+        first.map_or(0, |it| self.stages[usize::from(it)].failed)
+    }
+
+    /// Has room for so many stages more.
+    fn make_room(&mut self, least: usize) -> Result<(), StoreError> {
+        let many = self.stages.len();
+        if many + least <= self.planned + self.room {
+            return Ok(());
+        }
+        let mut more = (3 * many + least).min(MOST_STAGES - self.planned - self.room);
+        while more >= least {
+            match self.row.grow(more as u16) {
+                Err(Refused::ROOM) => more /= 2,
+                grown => {
+                    grown?;
+                    self.room += more;
+                    return Ok(());
+                }
+            }
+        }
+        Err(StoreError::Full)
+    }
+
+    // What the row's numbers stand for.
+
+    /// What is said of a stage: its name, and its function's name and version.
+    pub(crate) fn said(&mut self, stage: u16) -> Result<Said, StoreError> {
+        let known = &self.stages[usize::from(stage)];
+        if let Some(said) = &known.said {
+            return Ok(said.clone());
+        }
+        let place = known.attached;
+        let payload = self.payload(place)?;
+        let said = plan::said_in(&payload, usize::from(stage)).map_err(|why| self.unreadable(place, &why))?;
+        self.stages[usize::from(stage)].said = Some(said.clone());
+        Ok(said)
+    }
+
+    fn unreadable(&self, place: usize, why: &dyn std::fmt::Display) -> StoreError {
+        StoreError::broken(&self.opened.name, place, format!("its payload can't be read: {why}"))
+    }
+
+    fn payload_if_any(&self, place: usize) -> Result<Option<Vec<u8>>, StoreError> {
+        match self.own.get(&place) {
+            Some(own) => Ok(Some(own.clone())),
+            None if place == 0 => Ok(None),
+            None => sure(|| self.store.payload(&self.opened.name, self.opened.number, place)),
+        }
+    }
+
+    /// The payload of a word that names one.
+    pub(crate) fn payload(&self, place: usize) -> Result<Vec<u8>, StoreError> {
+        let missing = || StoreError::broken(&self.opened.name, place, "no payload is there, and a word names it");
+        self.payload_if_any(place)?.ok_or_else(missing)
+    }
+
+    pub(crate) fn value(&self, value: Value) -> Result<Json, StoreError> {
+        match value {
+            Value::Nil => Ok(Json::Null),
+            Value::Int(place) => {
+                let place = place as u32 as usize;
+                serde_json::from_slice(&self.payload(place)?).map_err(|why| self.unreadable(place, &why))
+            }
+        }
+    }
+
+    fn failure(&self, place: usize) -> Result<Failed, StoreError> {
+        serde_json::from_slice(&self.payload(place)?).map_err(|why| self.unreadable(place, &why))
+    }
+
+    /// What an outcome says that one of these stages has.
+    pub(crate) fn outcome(&mut self, outcome: Outcome, of: &[u16]) -> Result<Result<Json, Error>, StoreError> {
+        Ok(match outcome {
+            Outcome::Value(value) => Ok(self.value(value)?),
+            Outcome::Fault { cause: Cause::Thrown(place), .. } => Err(self.failure(place as usize)?.into_error()),
+            Outcome::Fault { cause: Cause::Cancelled, .. } => Err(Error::Cancelled),
+            Outcome::Fault { cause: Cause::BadAnswer, .. } => Err(Error::BadAnswer),
+            Outcome::Fault { cause: Cause::TimedOut, .. } => {
+                let place = self.failed_of(of, Cause::TimedOut);
+                Err(Error::TimedOut(if place > 0 { Some(self.failure(place)?) } else { None }))
+            }
+        })
+    }
+
+    /// What a settled stage ended in.
+    pub(crate) fn end_of(&mut self, stage: u16) -> Result<Option<Result<Json, Error>>, StoreError> {
+        match self.state(stage) {
+            State::Settled(outcome) => self.outcome(outcome, &[stage]).map(Some),
+            _ => Ok(None),
+        }
+    }
+
+    /// The first source of a stage that was settled.
+    pub(crate) fn first_settled(&self, of: &[u16]) -> Option<u16> {
+        of.iter().copied().filter(|it| self.is_settled(*it)).min_by_key(|it| self.stages[usize::from(*it)].settled)
+    }
+
+    // Relays of composing stages.
+
+    /// The next word that has a promise of a composing stage end as the stage does that its function gave, or cancels it where nobody waits for it.
+    pub(crate) fn relay(&mut self) -> Result<Option<Wanted>, StoreError> {
+        for stage in self.unlinked.iter().copied().collect::<Vec<_>>() {
+            let promise = self.said(stage)?.to.unwrap_or(stage);
+            if !self.links.contains_key(&promise) && !self.is_settled(promise) {
+                return Ok(Some(Wanted { call: Call::Cancel(promise), payload: None }));
+            }
+            self.unlinked.remove(&stage);
+        }
+        for (promise, place) in self.links.clone() {
+            if self.is_settled(promise) {
+                self.links.remove(&promise);
+                continue;
+            }
+            let given = self.given(place)?;
+            if let State::Settled(outcome) = self.state(given) {
+                return self.alike(promise, given, outcome).map(Some);
+            }
+        }
+        Ok(None)
+    }
+
+    /// The stage that a composing stage's function gave.
+    fn given(&self, place: usize) -> Result<u16, StoreError> {
+        let read: Json = serde_json::from_slice(&self.payload(place)?).map_err(|why| self.unreadable(place, &why))?;
+        let stage = read["stage"].as_u64().filter(|it| *it < self.stages.len() as u64);
+        stage.map(|it| it as u16).ok_or_else(|| self.unreadable(place, &"it names no stage"))
+    }
+
+    /// The word that settles a promise as a stage is.
+    fn alike(&self, promise: u16, given: u16, outcome: Outcome) -> Result<Wanted, StoreError> {
+        let wanted = |call, payload| Ok(Wanted { call, payload });
+        match outcome {
+            Outcome::Value(Value::Nil) => wanted(Call::Complete(promise, Value::Nil), None),
+            Outcome::Value(Value::Int(place)) => wanted(Call::Complete(promise, Value::Nil), Some(self.payload(place as u32 as usize)?)),
+            Outcome::Fault { cause: Cause::Cancelled, wrapped: false } => wanted(Call::Cancel(promise), None),
+            Outcome::Fault { cause: Cause::Cancelled, wrapped: true } => {
+                wanted(Call::Fail(promise, 0), Some(bytes_of(&Failed::new("CancelledError", ""))))
+            }
+            Outcome::Fault { cause: Cause::Thrown(place), .. } => wanted(Call::Fail(promise, 0), Some(self.payload(place as usize)?)),
+            Outcome::Fault { cause: Cause::TimedOut, .. } => {
+                wanted(Call::FailAs(promise, Failure::TimedOut), self.payload_if_any(self.stages[usize::from(given)].failed)?)
+            }
+            Outcome::Fault { cause: Cause::BadAnswer, .. } => {
+                wanted(Call::FailAs(promise, Failure::BadAnswer), self.payload_if_any(self.stages[usize::from(given)].failed)?)
+            }
+        }
+    }
+}
+
+/// An error as bytes.
+pub(crate) fn bytes_of(failed: &Failed) -> Vec<u8> {
+    serde_json::to_vec(failed).unwrap_or_else(|_| br#"{"error":"Error","text":"(it can't be written)"}"#.to_vec())
+}
+
+/// The call of a word at a place, whose value or error is named by this place where it has a payload.
+fn named(call: Call, place: usize, has_payload: bool) -> Call {
+    use cf_graph::Answer;
+    if !has_payload {
+        return call;
+    }
+    match call {
+        Call::Complete(stage, _) => Call::Complete(stage, Value::Int(place as i32)),
+        Call::Fail(stage, _) => Call::Fail(stage, place as u32),
+        Call::Finish(stage, Answer::Give(_)) => Call::Finish(stage, Answer::Give(Value::Int(place as i32))),
+        Call::Finish(stage, Answer::Throw(_)) => Call::Finish(stage, Answer::Throw(place as u32)),
+        other => other,
+    }
+}
+
+/// What the store answers to a call that may be made again, whatever became of it before.
+pub(crate) fn sure<T>(mut call: impl FnMut() -> Result<T, StoreError>) -> Result<T, StoreError> {
+    let (until, mut pause) = (Instant::now() + PATIENCE, Duration::from_millis(10));
+    loop {
+        match call() {
+            Err(StoreError::Unknown(why)) if Instant::now() > until => return Err(StoreError::Unknown(why)),
+            Err(StoreError::Unknown(_)) => thread::sleep(pause),
+            told => return told,
+        }
+        pause = (pause * 2).min(Duration::from_millis(500));
+    }
+}

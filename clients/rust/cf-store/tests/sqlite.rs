@@ -1,0 +1,256 @@
+//! Requests in a file of SQLite's.
+use cf_store::{Error, Failed, Functions, Options, Request, SQLite, Service, Store, StoreError};
+use serde_json::{json, Value};
+use std::path::PathBuf;
+use std::process::Command;
+use std::sync::atomic::{AtomicU32, Ordering};
+use std::sync::Arc;
+use std::time::Duration;
+
+/// A file of its own, which goes with the value.
+struct File(PathBuf);
+
+impl File {
+    fn new(name: &str) -> File {
+        let path = std::env::temp_dir().join(format!("cf-store-{}-{name}.db", std::process::id()));
+        let file = File(path);
+        file.remove();
+        file
+    }
+
+    fn store(&self) -> SQLite {
+        SQLite::open(&self.0).unwrap()
+    }
+
+    fn remove(&self) {
+        for end in ["", "-line", "-wal", "-shm"] {
+            let mut name = self.0.clone().into_os_string();
+            name.push(end);
+            let _not_there = std::fs::remove_file(name);
+        }
+    }
+}
+
+impl Drop for File {
+    fn drop(&mut self) {
+        self.remove();
+    }
+}
+
+fn add_one(number: i64) -> Result<i64, String> {
+    Ok(number + 1)
+}
+
+fn quick() -> Options {
+    let mut options = Options::default();
+    options.lease = Duration::from_millis(500);
+    options
+}
+
+fn patient<T: serde::de::DeserializeOwned>(stage: &cf_store::Stage) -> Result<T, Error> {
+    stage.wait_timeout(Duration::from_secs(30)).map(|told| told.expect("it is settled within 30 s"))
+}
+
+#[test]
+fn functions_are_called_with_what_is_behind_them() {
+    let file = File::new("functions");
+    let functions = Functions::new()
+        .with("seven", 1, || Ok::<_, String>(7))
+        .with("inc", 1, add_one)
+        .with("add", 1, |a: i64, b: i64| Ok::<_, String>(a + b))
+        .with("declined", 1, |_: i64| Err::<i64, _>("card declined"))
+        .with("kind", 1, |_: i64| Err::<i64, _>(Failed::new("NoStock", "none left")))
+        .with("sorry", 1, |failed: Failed| Ok::<_, String>(format!("sorry, {failed}")))
+        .with("either_way", 1, |value: Option<i64>, failed: Option<Failed>| Ok::<_, String>(json!([value, failed.map(|it| it.text)])))
+        .with("panics", 1, |_: i64| -> Result<i64, String> { panic!("oh") })
+        .with("wants_text", 1, |text: String| Ok::<_, String>(text));
+    let service = Service::new(file.store(), functions).unwrap();
+    let request = service.request("all").unwrap();
+    let number = request.promise("number").unwrap();
+    let inc = number.then("inc").unwrap();
+    let sum = inc.combine(&request.supply("seven", &[]).unwrap(), "add").unwrap();
+    let declined = inc.then("declined").unwrap();
+    assert!(number.complete(&41).unwrap());
+    assert!(!number.complete(&1).unwrap());
+    assert_eq!(patient::<i64>(&sum), Ok(49));
+    let sorry = declined.recover("sorry").unwrap();
+    assert_eq!(patient::<String>(&sorry), Ok("sorry, card declined".into()));
+    assert!(matches!(patient::<i64>(&declined), Err(Error::Failed(failed)) if failed.text == "card declined" && failed.args.is_none()));
+    assert_eq!(patient::<i64>(&inc.then("kind").unwrap()), Err(Error::Failed(Failed::new("NoStock", "none left"))));
+    assert_eq!(patient::<Value>(&inc.handle("either_way").unwrap()), Ok(json!([42, null])));
+    assert_eq!(patient::<Value>(&declined.handle("either_way").unwrap()), Ok(json!([null, "card declined"])));
+    assert_eq!(patient::<i64>(&inc.then("panics").unwrap()), Err(Error::Failed(Failed::new("Panic", "oh"))));
+    assert!(matches!(patient::<String>(&inc.then("wants_text").unwrap()), Err(Error::Failed(failed)) if failed.kind == "TypeError"));
+    assert!(matches!(patient::<String>(&inc), Err(Error::Unreadable(_))));
+    assert_eq!(patient::<i64>(&request.supply("add", &[json!(1), json!(2)]).unwrap()), Ok(3));
+    assert_eq!(patient::<i64>(&request.promise("never").unwrap().either(&inc, "inc").unwrap()), Ok(43));
+    assert_eq!(patient::<Value>(&request.all_of(&[&inc, &sum, &sorry]).unwrap()), Ok(Value::Null));
+    assert_eq!(patient::<i64>(&request.first_of(&[&inc, &request.promise("late").unwrap()]).unwrap()), Ok(42));
+    assert!(matches!(inc.then("nobody"), Err(StoreError::NotRegistered(name)) if name == "nobody"));
+}
+
+#[test]
+fn another_service_goes_on_with_it() {
+    let file = File::new("another");
+    let calls = Arc::new(AtomicU32::new(0));
+    let counted = |calls: &Arc<AtomicU32>| {
+        let calls = Arc::clone(calls);
+        move |number: i64| {
+            calls.fetch_add(1, Ordering::SeqCst);
+            Ok::<_, String>(number + 1)
+        }
+    };
+    let first = Service::new(file.store(), Functions::new().with("inc", 1, counted(&calls))).unwrap();
+    let request = first.request("shared").unwrap();
+    let number = request.promise("number").unwrap();
+    let mut last = number.clone();
+    for _ in 0..20 {
+        last = last.then("inc").unwrap();
+    }
+    for _ in 0..20 {
+        number.then("inc").unwrap(); // (all of these are ready at once)
+    }
+    drop(first);
+    assert!(matches!(last.wait::<i64>(), Err(Error::Store(StoreError::Refused(_)))), "the service is shut down");
+    let workers: Vec<_> = (0..3)
+        .map(|_| {
+            let mut options = quick();
+            options.takes_all = true;
+            Service::with(file.store(), Functions::new().with("inc", 1, counted(&calls)), options).unwrap()
+        })
+        .collect();
+    let second = Service::with(file.store(), Functions::new(), quick()).unwrap();
+    let request = second.open("shared").unwrap();
+    assert!(request.stage(0).unwrap().complete(&0).unwrap());
+    assert_eq!(patient::<i64>(&request.stage(20).unwrap()), Ok(20));
+    for number in 21..41 {
+        assert_eq!(patient::<i64>(&request.stage(number).unwrap()), Ok(1));
+    }
+    assert_eq!(calls.load(Ordering::SeqCst), 40, "each function is called once");
+    drop(workers);
+    assert_eq!(patient::<i64>(&request.stage(20).unwrap()), Ok(20));
+    assert!(matches!(second.open("no such"), Err(StoreError::Gone(name)) if name == "no such"));
+}
+
+#[test]
+fn what_is_closed_is_opened_again() {
+    let file = File::new("closed");
+    let service = Service::with(file.store(), Functions::new().with("inc", 1, add_one), quick()).unwrap();
+    let request = service.request("closed").unwrap();
+    let number = request.promise("number").unwrap();
+    number.complete(&1).unwrap();
+    assert_eq!(request.name(), "closed");
+    let store = file.store();
+    assert!(store.news(None).unwrap().0.contains_key("closed"));
+    request.end().unwrap();
+    assert!(!store.news(None).unwrap().0.contains_key("closed"));
+    std::thread::sleep(Duration::from_millis(300)); // (the service lets it go by then)
+    let inc = number.then("inc").unwrap();
+    assert!(store.news(None).unwrap().0.contains_key("closed"));
+    assert_eq!(patient::<i64>(&inc), Ok(2));
+    assert_eq!(service.resume().unwrap().len(), 1);
+}
+
+#[test]
+fn timers_are_fired_by_any_service() {
+    let file = File::new("timers");
+    let service = Service::with(file.store(), Functions::new(), quick()).unwrap();
+    let request = service.request("timers").unwrap();
+    let [slow, other, soon] = ["slow", "other", "soon"].map(|name| request.promise(name).unwrap());
+    slow.or_timeout(Duration::from_millis(50)).unwrap();
+    other.complete_on_timeout("in its place", Duration::from_millis(50)).unwrap();
+    soon.or_timeout(Duration::from_secs(60)).unwrap();
+    soon.complete(&Value::Null).unwrap();
+    assert_eq!(patient::<i64>(&slow), Err(Error::TimedOut(Some(Failed::new("TimeoutError", "slow took longer than 0.05 s")))));
+    assert_eq!(patient::<String>(&other), Ok("in its place".into()));
+    assert_eq!(patient::<Value>(&soon), Ok(Value::Null));
+    drop(service);
+    let due = file.store().due(f64::MAX).unwrap();
+    assert_eq!(due.iter().map(|timer| timer.stage).collect::<Vec<_>>(), [2], "what was fired is forgotten");
+}
+
+#[test]
+fn settled_once() {
+    let file = File::new("settled");
+    let service = Service::with(file.store(), Functions::new(), quick()).unwrap();
+    let request = service.request("settled").unwrap();
+    let [failed, cancelled, left] = ["failed", "cancelled", "left"].map(|name| request.promise(name).unwrap());
+    assert!(failed.fail(&Failed::new("Closed", "we are closed")).unwrap());
+    assert!(!failed.cancel().unwrap());
+    assert!(cancelled.cancel().unwrap());
+    assert!(cancelled.abandon().unwrap(), "it is cancelled after the call");
+    assert!(!cancelled.complete(&1).unwrap());
+    assert_eq!(patient::<i64>(&failed), Err(Error::Failed(Failed::new("Closed", "we are closed"))));
+    assert_eq!(patient::<i64>(&cancelled), Err(Error::Cancelled));
+    assert_eq!(left.peek::<i64>(), Ok(None));
+    assert_eq!(left.wait_timeout::<i64>(Duration::from_millis(5)), Ok(None));
+    let large = "x".repeat(100_000);
+    assert!(left.complete(&large).unwrap());
+    assert_eq!(patient::<String>(&left), Ok(large.clone()));
+    let other = Service::with(file.store(), Functions::new(), quick()).unwrap();
+    let there = other.open("settled").unwrap().named("left").unwrap().unwrap();
+    assert_eq!((there.number(), patient::<String>(&there)), (2, Ok(large)));
+}
+
+#[test]
+fn a_request_is_full() {
+    let file = File::new("full");
+    let service = Service::with(file.store(), Functions::new(), quick()).unwrap();
+    let request = service.request("full").unwrap();
+    let first = request.promise("promise").unwrap();
+    let many = 40; // (each is a commit)
+    for _ in 1..many {
+        request.promise("promise").unwrap();
+    }
+    assert!(first.complete(&1).unwrap());
+    assert_eq!(request.stage(many - 1).unwrap().number(), many - 1);
+    assert!(request.stage(many).is_none());
+}
+
+/// What the process that dies does: it claims the stage, and is gone.
+fn dies(request: &Request) {
+    let _never = patient::<i64>(&request.stage(1).unwrap());
+}
+
+#[test]
+fn a_process_dies() {
+    if let Some(path) = std::env::var_os("CF_STORE_DIES") {
+        let functions = Functions::new().with("inc", 1, |_: i64| -> Result<i64, String> { std::process::abort() });
+        let service = Service::with(SQLite::open(path).unwrap(), functions, quick()).unwrap();
+        return dies(&service.open("dies").unwrap());
+    }
+    let file = File::new("dies");
+    let mut nobody = quick();
+    nobody.threads = 0;
+    let planner = Service::with(file.store(), Functions::new().with("inc", 1, add_one), nobody).unwrap();
+    let request = planner.request("dies").unwrap();
+    let number = request.promise("number").unwrap();
+    let once = number.then("inc").unwrap();
+    let again = once.again(1).unwrap();
+    number.complete(&1).unwrap();
+    drop(planner);
+    let child = Command::new(std::env::current_exe().unwrap()).arg("a_process_dies").env("CF_STORE_DIES", &file.0).status().unwrap();
+    assert!(!child.success());
+    let service = Service::with(file.store(), Functions::new().with("inc", 1, add_one), quick()).unwrap();
+    let request = service.open("dies").unwrap();
+    assert_eq!(
+        patient::<i64>(&request.stage(once.number()).unwrap()),
+        Err(Error::Abandoned("the worker that ran inc is gone, and it may have run".into()))
+    );
+    assert_eq!(patient::<i64>(&request.stage(again.number()).unwrap()), Ok(2));
+}
+
+#[test]
+fn what_is_no_row_is_told() {
+    let file = File::new("broken");
+    let store = file.store();
+    store.open("no plan", "{}").unwrap();
+    let service = Service::with(file.store(), Functions::new(), quick()).unwrap();
+    store.open("old plan", r#"{"cf":2,"flow":"","stages":[]}"#).unwrap();
+    for name in ["no plan", "old plan"] {
+        assert!(matches!(service.open(name), Err(StoreError::Broken { place: 0, .. })));
+    }
+    let other = File::new("no database");
+    std::fs::write(&other.0, "this is no database, as its first bytes tell. ".repeat(50)).unwrap();
+    assert!(matches!(SQLite::open(&other.0), Err(StoreError::Refused(_))));
+}
