@@ -131,6 +131,9 @@ def rows_of_rust(tools: Tools, made: Path) -> List[Row]:
     ]
 
 
+SQLITE_JDBC = "/usr/share/java/sqlite-jdbc.jar"  # of Debian's libxerial-sqlite-jdbc-java; without it Java's tests leave stores out
+
+
 def rows_of_java(tools: Tools, made: Path) -> List[Row]:
     """The jar, with the library in it, is built once, by the first row."""
     javac, jar, tests = tools["JDK of 17 or later"], str(made / "java/cf-service.jar"), str(made / "java/tests")
@@ -138,7 +141,7 @@ def rows_of_java(tools: Tools, made: Path) -> List[Row]:
     sources = sorted(str(path) for part in ["test", "example", "opentelemetry"] for path in (TOP / "clients/java" / part).rglob("*.java"))
     built = [["env", "JAVAC=" + javac, "clients/java/build", "--quick", str(made / "java")],
              [javac, "-nowarn", "-encoding", "UTF-8", "-cp", jar, "-d", tests, *sources]]
-    java = [str(Path(javac).parent / "java"), "-Xmx64m", "-XX:+UseSerialGC", "-XX:TieredStopAtLevel=1", "-cp", jar + ":" + tests]
+    java = [str(Path(javac).parent / "java"), "-Xmx64m", "-XX:+UseSerialGC", "-XX:TieredStopAtLevel=1", "-cp", f"{jar}:{tests}:{SQLITE_JDBC}"]
     return [
         Row("Java's service", needs, [*built, [*java, "-Dcf.look=" + tools["cf_look"], "cf.service.AllTests"]]),
         Row("Java's first program", needs, [[*java, "First"]], ("clients/java", "First")),

@@ -45,7 +45,7 @@ class Jobs:
     def __init__(self, engine, folder, mode, kills, cut=0.0, workers=4):
         self.mode, self.kills, self.many, self.rng, self.proxies = mode, kills, workers, random.Random(3), []
         self.over, self.hung = threading.Event(), False
-        self.rust = os.environ.get("CF_RUST_JOBS")  # clients/rust/cf-store/examples/jobs.rs, which every other worker runs then
+        self.others = [os.environ[it].split() for it in ("CF_RUST_JOBS", "CF_JAVA_JOBS") if os.environ.get(it)]  # workers in other languages
         os.makedirs(folder)
         os.chmod(folder, 0o755)
         self.server, self.folder = servers.start(engine, folder), folder
@@ -58,8 +58,9 @@ class Jobs:
     def start(self, k):
         environment = dict(os.environ, PYTHONFAULTHANDLER="1", JOBS_EFFECTS=self.effects, PYTHONPATH=f"{HERE}{os.pathsep}{CLIENT}")
         command = [sys.executable, "-m", "cf.worker", "--store", self.address, "--lease", "0.7", "--threads", "2", "jobs_functions"]
-        if self.rust and k % 2:
-            command = [self.rust, self.address, self.effects]
+        which = k % (len(self.others) + 1)
+        if which:
+            command = [*self.others[which - 1], self.address, self.effects]
         with open(f"{self.folder}/stderr", "a") as errors:
             return subprocess.Popen(command, stderr=errors, env=environment)
 

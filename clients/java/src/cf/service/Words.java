@@ -82,6 +82,16 @@ final class Words {
         return (int) word;
     }
 
+    /** Whether a finish throws. */
+    static boolean throwing(long word) {
+        return kind(word) == FINISH && tag(word) == 2;
+    }
+
+    /** Whether a finish links its stage to another one. */
+    static boolean linking(long word) {
+        return kind(word) == FINISH && tag(word) == 3;
+    }
+
     private static long head(int kind, int who, int stage) {
         return (long) kind << 56 | (long) who << 48 | (long) stage << 36;
     }

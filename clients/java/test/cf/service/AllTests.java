@@ -115,6 +115,18 @@ public final class AllTests {
         test("cancels at any moment", OrdersTest::cancelled);
         test("points within functions", OrdersTest::points);
         test("flows in a world", OrdersTest::flows);
+        test("JSON", StoresTest::json);
+        if (StoresTest.hasDriver()) {
+            test("functions of requests in SQLite", StoresTest::functions);
+            test("services that share a file", StoresTest::others);
+            test("closed requests in SQLite", StoresTest::closed);
+            test("timers in SQLite", StoresTest::timers);
+            test("stages in SQLite, settled once", StoresTest::settled);
+            test("a process that dies", StoresTest::dies);
+            test("rows that can't be gone on with", StoresTest::broken);
+        } else {
+            System.out.println("left out requests in SQLite: the class path has no driver, as sqlite-jdbc.jar of Debian's libxerial-sqlite-jdbc-java");
+        }
         if (chosen != null && !chosen.isEmpty()) {
             System.err.println("there are no tests " + chosen);
             System.exit(2);

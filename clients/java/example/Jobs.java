@@ -1,0 +1,62 @@
+import cf.service.Functions;
+import cf.service.JdbcStore;
+import cf.service.StoreException;
+import cf.service.StoreService;
+import java.net.URI;
+import java.sql.Connection;
+import java.sql.DriverManager;
+import java.sql.PreparedStatement;
+import java.util.concurrent.ThreadLocalRandom;
+import java.util.concurrent.TimeUnit;
+
+/**
+ * A worker of {@code conformance/stores/engines jobs}: it works on all requests of a store until it is killed. Its functions are those of
+ * {@code jobs_functions.py} that aren't transactional. It is called with the address of the store, and that of the table of effects.
+ */
+public final class Jobs {
+    private Jobs() {}
+
+    /** The same address for JDBC. */
+    private static String jdbc(String address) {
+        if (address.startsWith("sqlite:///")) {
+            return "jdbc:sqlite:" + address.substring("sqlite:///".length());
+        }
+        URI uri = URI.create(address);
+        return "jdbc:postgresql://" + uri.getHost() + ":" + uri.getPort() + uri.getPath() + "?user=" + uri.getUserInfo();
+    }
+
+    /** The store, once it answers. */
+    private static JdbcStore opened(String url) throws InterruptedException {
+        while (true) {
+            try {
+                return JdbcStore.open(url);
+            } catch (StoreException.Unknown silent) {
+                Thread.sleep(100);
+            }
+        }
+    }
+
+    private static Object outside(String effects, Object name) throws Exception {
+        Thread.sleep(ThreadLocalRandom.current().nextInt(10));
+        try (Connection db = DriverManager.getConnection(effects)) {
+            if (effects.startsWith("jdbc:sqlite:")) {
+                db.createStatement().execute("pragma busy_timeout = 60000");
+            }
+            try (PreparedStatement insert = db.prepareStatement("insert into effect values (?)")) {
+                insert.setString(1, (String) name);
+                insert.executeUpdate();
+            }
+        }
+        Thread.sleep(ThreadLocalRandom.current().nextInt(10));
+        return name;
+    }
+
+    /** Works until it is killed. */
+    public static void main(String[] args) throws Exception {
+        String effects = jdbc(args[1]);
+        Functions functions = new Functions().with("outside", 1, name -> outside(effects, name)).with("same", 1, name -> name)
+                .with("both", 1, (name, other) -> name);
+        new StoreService(opened(jdbc(args[0])), functions, 2, 700, TimeUnit.MILLISECONDS, true);
+        Thread.sleep(Long.MAX_VALUE);
+    }
+}

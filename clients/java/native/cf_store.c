@@ -1,0 +1,154 @@
+/* The library's views of rows (docs/C.md, "A row in a store") as native methods of cf.service.Row.
+ *
+ * What the library is owed, and where it is met: each view stands in a block of its own, which isn't moved; the lock of its request orders the
+ * calls that have it (View.java); Row.java keeps it until it is closed, once, and makes no call then. Arrays of Java's are read within their
+ * bounds, whatever numbers they hold. No JNI function is called with an exception pending. */
+#include "cf.h"
+#include <jni.h>
+#include <stdbool.h>
+#include <stdlib.h>
+
+enum { MOST = 4096, TOLD = 13, STAGE = 9 };
+
+struct view {
+  cf_handle row;
+  cf_news news[64];
+};
+
+#define VIEW(at) ((struct view *)(intptr_t)(at))
+#define CALL(type, name) JNIEXPORT type JNICALL Java_cf_service_Row_##name
+
+/* Builds a plan of rows of a form, the number of sources, these, and a function or -1. */
+static uint32_t build(cf_handle *plan, const jint *rows, jsize n) {
+  uint32_t code = cf_builder_new(plan, 0, 0);
+  for (jsize at = 0; code == CF_OK && at < n;) {
+    uint16_t of[MOST], stage;
+    const jint form = rows[at], many = at + 1 < n ? rows[at + 1] : -1;
+    if (many < 0 || many > MOST || n - at - 3 < many) return CF_WRONG_SOURCE_COUNT;
+    for (jint k = 0; k < many; k++) {
+      const jint source = rows[at + 2 + k];
+      of[k] = source < 0 || source >= MOST ? UINT16_MAX : (uint16_t)source;
+    }
+    const jint function = rows[at + 2 + many];
+    code = cf_builder_stage(plan, (uint32_t)form, of, (size_t)many, function < 0 ? CF_NO_FUNCTION : (uint32_t)function, &stage);
+    at += 3 + many;
+  }
+  return code == CF_OK ? cf_build(plan) : code;
+}
+
+/* A view of the row of a plan's request, or a code negated. */
+CALL(jlong, open)(JNIEnv *env, jclass self, jintArray rows, jint room, jint first, jlong session) {
+  (void)self;
+  cf_handle plan = {0};
+  const jsize n = (*env)->GetArrayLength(env, rows);
+  jint *given = (*env)->GetIntArrayElements(env, rows, NULL);
+  struct view *view = calloc(1, sizeof *view);
+  uint32_t code = given && view ? build(&plan, given, n) : CF_NO_MEMORY;
+  if (code == CF_OK) {
+    const cf_row_opening opening = {.room = (uint16_t)room, .first = (uint32_t)first, .session = (uint64_t)session};
+    code = cf_row_new(&plan, &opening, &view->row);
+  }
+  cf_free(&plan);
+  if (given) (*env)->ReleaseIntArrayElements(env, rows, given, JNI_ABORT);
+  if (code == CF_OK) return (jlong)(intptr_t)view;
+  free(view);
+  return -(jlong)code;
+}
+
+CALL(void, close)(JNIEnv *env, jclass self, jlong view) {
+  (void)env, (void)self;
+  cf_free(&VIEW(view)->row);
+  free(VIEW(view));
+}
+
+/* The token of the first of these words, or a code negated. */
+CALL(jlong, plan)(JNIEnv *env, jclass self, jlong view, jlongArray words) {
+  (void)self;
+  uint64_t token = 0;
+  const jsize n = (*env)->GetArrayLength(env, words);
+  jlong *given = (*env)->GetLongArrayElements(env, words, NULL);
+  if (!given) return -(jlong)CF_NO_MEMORY;
+  const uint32_t code = cf_row_plan(&VIEW(view)->row, (const uint64_t *)given, (size_t)n, &token);
+  (*env)->ReleaseLongArrayElements(env, words, given, JNI_ABORT);
+  return code == CF_OK ? (jlong)token : -(jlong)code;
+}
+
+/* Whether the put has landed at whose place this entry stands, or a code negated. */
+CALL(jint, met)(JNIEnv *env, jclass self, jlong view, jlong word, jlong token) {
+  (void)env, (void)self;
+  const cf_entry entry = {.word = (uint64_t)word, .token = (uint64_t)token};
+  uint8_t landed = 0;
+  const uint32_t code = cf_row_met(&VIEW(view)->row, &entry, &landed);
+  return code == CF_OK ? landed : -(jint)code;
+}
+
+CALL(void, giveUp)(JNIEnv *env, jclass self, jlong view) {
+  (void)env, (void)self;
+  cf_row_give_up(&VIEW(view)->row);
+}
+
+static jint *outcome_out(jint *at, cf_outcome it) {
+  const jint told[] = {(jint)it.kind, (jint)it.wrapped, (jint)it.code, (jint)it.value.kind, it.value.number};
+  for (size_t k = 0; k < sizeof told / sizeof *told; k++) *at++ = told[k];
+  return at;
+}
+
+static void stage_out(jint *at, uint16_t number, cf_stage it) {
+  *at++ = number, *at++ = (jint)it.kind, *at++ = it.who > 63 ? -1 : (jint)it.who, *at++ = it.target;
+  outcome_out(at, it.outcome);
+}
+
+/* Sees an entry. `told` gets the reply: answer, number, kind of arguments, two values of a kind and a number each, and an outcome's five numbers.
+ * The stages that it changed come as an array, of nine numbers each; or nothing comes, and the code negated stands first in `told`. */
+CALL(jintArray, saw)(JNIEnv *env, jclass self, jlong view, jlong word, jlong token, jintArray told) {
+  (void)self;
+  struct view *it = VIEW(view);
+  const cf_entry entry = {.word = (uint64_t)word, .token = (uint64_t)token};
+  const size_t room = sizeof it->news / sizeof *it->news;
+  cf_reply reply = {0};
+  size_t n = 0, place = 0;
+  const uint32_t code = cf_row_saw(&it->row, &entry, &reply, it->news, room, &n);
+  jint numbers[TOLD] = {code == CF_OK ? (jint)reply.answer : -(jint)code, (jint)reply.number, (jint)reply.args.kind, (jint)reply.args.first.kind,
+                        reply.args.first.number, (jint)reply.args.second.kind, reply.args.second.number};
+  outcome_out(numbers + 7, reply.args.outcome);
+  (*env)->SetIntArrayRegion(env, told, 0, TOLD - 1, numbers);
+  if (code != CF_OK || (*env)->ExceptionCheck(env)) return NULL;
+  uint16_t *stages = n > room ? malloc(n * sizeof *stages) : NULL;
+  jint *changed = malloc((n ? n : 1) * STAGE * sizeof *changed);
+  jintArray out = NULL;
+  bool is_told = changed && (n <= room || stages);
+  if (is_told && stages) {
+    cf_ledger_words(&it->row, 0, NULL, 0, &place);
+    is_told = cf_ledger_news(&it->row, place - 1, stages, n, &n) == CF_OK;
+    for (size_t k = 0; is_told && k < n; k++) {
+      cf_stage now;
+      is_told = cf_ledger_stage(&it->row, stages[k], &now) == CF_OK;
+      stage_out(changed + k * STAGE, stages[k], now);
+    }
+  }
+  for (size_t k = 0; is_told && !stages && k < n; k++) stage_out(changed + k * STAGE, it->news[k].stage, it->news[k].now);
+  if (is_told && (out = (*env)->NewIntArray(env, (jsize)(n * STAGE)))) (*env)->SetIntArrayRegion(env, out, 0, (jsize)(n * STAGE), changed);
+  free(stages);
+  free(changed);
+  return out;
+}
+
+CALL(jint, grow)(JNIEnv *env, jclass self, jlong view, jint more) {
+  (void)env, (void)self;
+  return -(jint)cf_row_grow(&VIEW(view)->row, (uint16_t)more);
+}
+
+/* This session's number, or a code negated. */
+CALL(jint, number)(JNIEnv *env, jclass self, jlong view) {
+  (void)env, (void)self;
+  uint8_t who = 0;
+  const uint32_t code = cf_row_number(&VIEW(view)->row, &who);
+  return code == CF_OK ? who : -(jint)code;
+}
+
+/* The lowest ready stage from a number on, or -1. */
+CALL(jint, ready)(JNIEnv *env, jclass self, jlong view, jint from) {
+  (void)env, (void)self;
+  uint16_t stage = 0;
+  return cf_ledger_ready(&VIEW(view)->row, (uint16_t)from, &stage) == CF_OK ? stage : -1;
+}

@@ -1,0 +1,518 @@
+package cf.service;
+
+import java.security.SecureRandom;
+import java.util.ArrayList;
+import java.util.Arrays;
+import java.util.HashMap;
+import java.util.List;
+import java.util.Map;
+import java.util.TreeMap;
+import java.util.TreeSet;
+import java.util.concurrent.Callable;
+import java.util.concurrent.CancellationException;
+import java.util.concurrent.TimeoutException;
+
+/** What this session knows of one request's row, and how it puts words there. One thread at a time has it: its request's lock. */
+final class RowView {
+    static final SecureRandom CHANCE = new SecureRandom();
+    private static final int MOST_STAGES = 4096, ROOM = 8;
+    /** How long the store may be silent, in nanoseconds. */
+    private static final long PATIENCE = 60_000_000_000L;
+
+    final Store.Opened opened;
+    final long session;
+    private final Store store;
+    private final Row row;
+    private final List<Known> stages = new ArrayList<>();
+    private final int planned;
+    private int room, seen;
+    /** Promises that composing stages were linked to, with the places of those words. */
+    final TreeMap<Integer, Integer> links = new TreeMap<>();
+    /** Composing stages that were settled, and whose promises may be waited for by nobody. */
+    final TreeSet<Integer> unlinked = new TreeSet<>();
+    /** The sessions whose claims of stages are open. */
+    private final TreeMap<Integer, Long> claims = new TreeMap<>();
+    /** Claims of this session's that were granted, as it found when it read them: what their functions are called with. */
+    final TreeMap<Integer, int[]> found = new TreeMap<>();
+    /** Tokens of words of which it isn't known whether they stand, and the places where they would. */
+    private final Map<Long, Integer> doubt = new HashMap<>();
+    private final Map<Integer, byte[]> own = new HashMap<>();
+
+    /** A word that is wanted, with its payload. A value or an exception is named by the word's own place, so the word says only that there is one. */
+    static final class Wanted {
+        final long word;
+        final byte[] payload;
+
+        Wanted(long word, byte[] payload) {
+            this.word = word;
+            this.payload = payload;
+        }
+    }
+
+    /** An entry that was done: its word and its reply. */
+    static final class Done {
+        final long word;
+        final int[] reply;
+
+        Done(long word, int[] reply) {
+            this.word = word;
+            this.reply = reply;
+        }
+    }
+
+    /** Says by the view which words are wanted, if any. It is asked again each time others' words came first. */
+    interface Decision {
+        List<Wanted> of(RowView view);
+    }
+
+    /** What a view remembers of a stage. */
+    private static final class Known {
+        final Form form;
+        final int[] of;
+        /** What is said of it, where that was read, and the place of the word that attached it, or 0. */
+        StoredPlan.Said said;
+        final int attached;
+        int kind;
+        /** Once it is settled: the outcome's numbers, and the place where it was. */
+        int[] outcome;
+        int settled;
+        /** The place of the payload by which it, or a source of it, timed out or had a bad answer, or 0. */
+        int failed;
+
+        Known(Form form, int[] of, StoredPlan.Said said, int attached) {
+            this.form = form;
+            this.of = of;
+            this.said = said;
+            this.attached = attached;
+        }
+    }
+
+    RowView(Store store, Store.Opened opened, long session) {
+        this.store = store;
+        this.opened = opened;
+        this.session = session;
+        StoredPlan plan = new StoredPlan(opened.plan, opened.name);
+        planned = plan.forms.size();
+        for (int k = 0; k < planned; k++) {
+            stages.add(new Known(plan.forms.get(k), plan.sources.get(k), plan.said.get(k), 0));
+        }
+        room = Math.min(ROOM, MOST_STAGES - planned);
+        row = made(plan);
+    }
+
+    private Row made(StoredPlan plan) {
+        int first = CHANCE.nextInt(1 << Row.COUNT_BITS);
+        while (true) {
+            try {
+                return new Row(plan.rows, room, first, session);
+            } catch (Row.Refused refused) {
+                if (refused.code != Row.ROOM || room == 0) {
+                    throw new StoreException.Broken(opened.name, 0, "its plan can't be read: " + refused.getMessage());
+                }
+                room /= 2;
+            }
+        }
+    }
+
+    void close() {
+        row.close();
+    }
+
+    int seen() {
+        return seen;
+    }
+
+    int size() {
+        return stages.size();
+    }
+
+    /** Whether the request is a flow's. */
+    boolean isPlanned() {
+        return planned > 0;
+    }
+
+    boolean isSettled(int stage) {
+        return stages.get(stage).settled > 0;
+    }
+
+    Form form(int stage) {
+        return stages.get(stage).form;
+    }
+
+    int[] sources(int stage) {
+        return stages.get(stage).of;
+    }
+
+    /** The ready stages, rising. */
+    List<Integer> ready() {
+        List<Integer> ready = new ArrayList<>();
+        for (int stage = row.ready(0); stage >= 0; stage = row.ready(stage + 1)) {
+            ready.add(stage);
+        }
+        return ready;
+    }
+
+    /** The stages that have this one as their only source, and aren't settled. */
+    List<Integer> aloneBehind(int stage) {
+        List<Integer> behind = new ArrayList<>();
+        for (int k = stage + 1; k < stages.size(); k++) {
+            int[] of = stages.get(k).of;
+            if (of.length == 1 && of[0] == stage && !isSettled(k)) {
+                behind.add(k);
+            }
+        }
+        return behind;
+    }
+
+    /** The stages whose function runs somewhere: claimed and not settled, each with the session that has it. */
+    Map<Integer, Long> openClaims() {
+        Map<Integer, Long> open = new TreeMap<>(claims);
+        open.keySet().removeIf(stage -> stages.get(stage).kind != Row.CLAIMED);
+        return open;
+    }
+
+    boolean isHeld(int stage) {
+        return Long.valueOf(session).equals(claims.get(stage));
+    }
+
+    boolean isClaimed(int stage) {
+        return claims.containsKey(stage);
+    }
+
+    /** Whether something is to do in it without a new word. */
+    boolean hasLeft() {
+        return !links.isEmpty() || !unlinked.isEmpty() || !found.isEmpty() || row.ready(0) >= 0;
+    }
+
+    /** Whether all stages are settled, and no claim is open but for those of sessions that are gone. */
+    boolean isDone(java.util.function.LongPredicate isGone) {
+        return stages.stream().allMatch(it -> it.settled > 0) && claims.values().stream().allMatch(isGone::test);
+    }
+
+    // Reading and putting.
+
+    /** Does what others have put. */
+    void catchUp() {
+        sure(() -> store.read(opened.name, opened.number, seen)).forEach(this::take);
+    }
+
+    /** Puts words behind all that is seen, and does them; what they did, which is nothing where none was wanted. */
+    List<Done> act(Decision decision) {
+        while (true) {
+            List<Wanted> wanted = decision.of(this);
+            if (wanted.isEmpty()) {
+                return new ArrayList<>();
+            }
+            makeRoom((int) wanted.stream().filter(it -> Words.kind(it.word) == Words.ATTACH).count());
+            Store.Put put = planned(wanted);
+            List<Store.Entry> stands;
+            try {
+                stands = sure(() -> store.append(put));
+            } catch (RuntimeException | Error fault) {
+                row.giveUp();
+                for (int k = 0; k < put.entries.size(); k++) {
+                    doubt.put(put.entries.get(k).token, put.at + 1 + k);
+                }
+                throw fault;
+            }
+            stands = stands == null ? put.entries : stands;
+            boolean landed = row.met(stands.get(0).word, stands.get(0).token);
+            if (landed) {
+                own.putAll(put.payloads);
+            }
+            List<Done> done = new ArrayList<>();
+            stands.forEach(entry -> done.add(take(entry)));
+            if (landed) {
+                return done.subList(0, put.entries.size());
+            }
+        }
+    }
+
+    private Store.Put planned(List<Wanted> wanted) {
+        int who = row.number();
+        long[] words = new long[wanted.size()];
+        Map<Integer, byte[]> payloads = new HashMap<>();
+        for (int k = 0; k < words.length; k++) {
+            int place = seen + 1 + k;
+            byte[] payload = wanted.get(k).payload;
+            words[k] = Words.by(who, payload == null ? wanted.get(k).word : named(wanted.get(k).word, place));
+            if (payload != null) {
+                payloads.put(place, payload);
+            }
+        }
+        long first = row.plan(words);
+        List<Store.Entry> entries = new ArrayList<>();
+        for (int k = 0; k < words.length; k++) {
+            entries.add(new Store.Entry(words[k], first + k));
+        }
+        return new Store.Put(opened.name, opened.number, seen, entries, payloads);
+    }
+
+    /** A word whose value or exception is named by this place. */
+    private static long named(long word, int place) {
+        int stage = Words.stage(word);
+        switch (Words.kind(word)) {
+            case Words.COMPLETE:
+                return Words.complete(0, stage, place);
+            case Words.FAIL:
+                return Words.fail(0, stage, place);
+            case Words.FINISH:
+                return Words.throwing(word) ? Words.finishThrowing(0, stage, place) : Words.finish(0, stage, place);
+            default:
+                return word;
+        }
+    }
+
+    /** Does an entry that stands behind all that was seen. */
+    private Done take(Store.Entry entry) {
+        int place = seen + 1, stage = Words.stage(entry.word);
+        int[] changed;
+        try {
+            if (Words.kind(entry.word) == Words.ATTACH) {
+                makeRoom(1);
+            }
+            changed = row.saw(entry.word, entry.token);
+        } catch (Row.Refused refused) {
+            if (refused.code == Native.NO_MEMORY) {
+                throw new OutOfMemoryError("a view of a row");
+            }
+            throw new StoreException.Broken(opened.name, place, "the word " + entry.word + " can't be done: " + refused.getMessage());
+        }
+        seen = place;
+        int[] reply = row.told.clone();
+        boolean isOwn = doubt.remove(entry.token) != null;
+        switch (Words.kind(entry.word)) {
+            case Words.ATTACH:
+                if (reply[Row.ANSWER] == 0) {
+                    stages.add(attached(entry.word, place));
+                }
+                break;
+            case Words.CLAIM:
+                if (reply[Row.ANSWER] == 0) {
+                    claims.put(stage, entry.token >>> Row.COUNT_BITS);
+                    if (isOwn) {
+                        found.put(stage, reply);
+                    }
+                }
+                break;
+            case Words.FINISH:
+                if (reply[Row.ANSWER] != 2) { // (not his)
+                    claims.remove(stage);
+                    if (Words.linking(entry.word) && reply[Row.ANSWER] == 0) {
+                        links.put(Words.low(entry.word), place);
+                    }
+                }
+                break;
+            default:
+        }
+        doubt.values().removeIf(its -> its <= place); // What was to stand here and doesn't never will.
+        takeNews(changed, entry.word, place);
+        return new Done(entry.word, reply);
+    }
+
+    private static Known attached(long word, int place) {
+        int low = Words.low(word), first = Words.stage(word), second = low >>> 12 & 0xfff;
+        int[] of = Arrays.copyOf(new int[] {first, second}, Words.tag(word));
+        return new Known(Form.of(low >>> 24), of, null, place);
+    }
+
+    private void takeNews(int[] changed, long word, int place) {
+        int given = Words.kind(word) == Words.FAIL_AS ? place : Words.linking(word) ? stages.get(Words.low(word)).failed : 0;
+        for (int at = 0; at < changed.length; at += Row.STAGE) {
+            Known stage = stages.get(changed[at]);
+            stage.kind = changed[at + Row.KIND];
+            if (stage.kind != Row.SETTLED || stage.settled > 0) {
+                continue;
+            }
+            stage.outcome = Arrays.copyOfRange(changed, at + Row.ENDED, at + Row.STAGE);
+            if (stage.outcome[0] == Row.TIMED_OUT || stage.outcome[0] == Row.BAD_ANSWER) {
+                stage.failed = given > 0 ? given : failedOf(stage.of, stage.outcome[0]);
+            }
+            stage.settled = place;
+            if (stage.form.composes) {
+                unlinked.add(changed[at]);
+            }
+        }
+    }
+
+    /** The place of the payload of the first of these stages that ended so, or 0. */
+    private int failedOf(int[] of, int kind) {
+        for (int source : of) {
+            Known stage = stages.get(source);
+            if (stage.settled > 0 && stage.outcome[0] == kind) {
+                return stage.failed;
+            }
+        }
+        return 0;
+    }
+
+    private void makeRoom(int least) {
+        int many = stages.size();
+        if (many + least <= planned + room) {
+            return;
+        }
+        for (int more = Math.min(3 * many + least, MOST_STAGES - planned - room); more >= least; more /= 2) {
+            if (row.grow(more)) {
+                room += more;
+                return;
+            }
+        }
+        throw new RequestFullException(opened.name);
+    }
+
+    // What the row's numbers stand for.
+
+    /** What is said of a stage: its name, and its function's name and version. */
+    StoredPlan.Said said(int number) {
+        Known stage = stages.get(number);
+        if (stage.said == null) {
+            stage.said = reading(stage.attached, payload -> new StoredPlan.Said((Map<?, ?>) Json.read(payload), number));
+        }
+        return stage.said;
+    }
+
+    private interface Reading<T> {
+        T of(byte[] payload);
+    }
+
+    private <T> T reading(int place, Reading<T> reading) {
+        byte[] payload = payload(place);
+        try {
+            return reading.of(payload);
+        } catch (IllegalArgumentException | ClassCastException | NullPointerException fault) {
+            throw new StoreException.Broken(opened.name, place, "its payload can't be read: " + fault.getMessage());
+        }
+    }
+
+    private byte[] payloadIfAny(int place) {
+        byte[] mine = own.get(place);
+        return mine != null || place == 0 ? mine : sure(() -> store.payload(opened.name, opened.number, place));
+    }
+
+    private byte[] payload(int place) {
+        byte[] payload = payloadIfAny(place);
+        if (payload == null) {
+            throw new StoreException.Broken(opened.name, place, "no payload is there, and a word names it");
+        }
+        return payload;
+    }
+
+    /** The value of a kind and a number. */
+    Object value(int some, int place) {
+        return some == 0 ? null : reading(place, Json::read);
+    }
+
+    /** The exception of an outcome that one of these stages has, or null where it is a value. */
+    Throwable fault(int[] outcome, int... of) {
+        switch (outcome[0]) {
+            case Row.VALUE:
+                return null;
+            case Row.THROWN:
+                return reading(outcome[Row.CODE], payload -> RemoteException.read(Json.read(payload)));
+            case Row.CANCELLED:
+                return new CancellationException();
+            case Row.TIMED_OUT:
+                int place = failedOf(of, Row.TIMED_OUT);
+                return new TimeoutException(place == 0 ? null : reading(place, payload -> RemoteException.read(Json.read(payload)).text()));
+            default:
+                return new IllegalStateException("a stage waits for one for which it can't");
+        }
+    }
+
+    Object value(int[] outcome) {
+        return value(outcome[Row.SOME], outcome[Row.GIVEN]);
+    }
+
+    /** The numbers of a settled stage's outcome. */
+    int[] outcome(int stage) {
+        return stages.get(stage).outcome;
+    }
+
+    /** The first of these stages that was settled, or -1. */
+    int firstSettled(int... of) {
+        int first = -1;
+        for (int stage : of) {
+            if (isSettled(stage) && (first < 0 || stages.get(stage).settled < stages.get(first).settled)) {
+                first = stage;
+            }
+        }
+        return first;
+    }
+
+    // Relays of composing stages.
+
+    /**
+     * The next word that has a promise of a composing stage end as the stage does that its function gave, or cancels it where nobody waits for it;
+     * or null.
+     */
+    Wanted relay() {
+        for (int stage : new ArrayList<>(unlinked)) {
+            int promise = Math.max(said(stage).to, -1);
+            if (promise >= 0 && !links.containsKey(promise) && !isSettled(promise)) {
+                return new Wanted(Words.cancel(0, promise), null);
+            }
+            unlinked.remove(stage);
+        }
+        for (Map.Entry<Integer, Integer> link : new ArrayList<>(links.entrySet())) {
+            int promise = link.getKey();
+            if (isSettled(promise)) {
+                links.remove(promise);
+                continue;
+            }
+            int given = reading(link.getValue(), payload -> {
+                int stage = Math.toIntExact((Long) ((Map<?, ?>) Json.read(payload)).get("stage"));
+                if (stage < 0 || stage >= stages.size()) {
+                    throw new IllegalArgumentException("there is no stage " + stage);
+                }
+                return stage;
+            });
+            if (isSettled(given)) {
+                return alike(promise, given);
+            }
+        }
+        return null;
+    }
+
+    /** The word that settles a promise as a stage is. */
+    private Wanted alike(int promise, int given) {
+        int[] outcome = outcome(given);
+        int failed = stages.get(given).failed;
+        switch (outcome[0]) {
+            case Row.VALUE:
+                return new Wanted(Words.complete(0, promise, Words.NIL), outcome[Row.SOME] == 0 ? null : payload(outcome[Row.GIVEN]));
+            case Row.THROWN:
+                return new Wanted(Words.fail(0, promise, 0), payload(outcome[Row.CODE]));
+            case Row.CANCELLED:
+                return outcome[Row.WRAPPED] == 0 ? new Wanted(Words.cancel(0, promise), null)
+                        : new Wanted(Words.fail(0, promise, 0), Json.write(new RemoteException("CancelledError", "").written()));
+            case Row.TIMED_OUT:
+                return new Wanted(Words.failAs(0, promise, Words.TIMED_OUT), payloadIfAny(failed));
+            default:
+                return new Wanted(Words.failAs(0, promise, Words.BAD_ANSWER), payloadIfAny(failed));
+        }
+    }
+
+    /** What the store answers to a call that may be made again, whatever became of it before. */
+    static <T> T sure(Callable<T> call) {
+        long until = System.nanoTime() + PATIENCE;
+        for (long pause = 10;; pause = Math.min(pause * 2, 500)) {
+            try {
+                return call.call();
+            } catch (StoreException.Unknown silent) {
+                if (System.nanoTime() - until > 0) {
+                    throw silent;
+                }
+                try {
+                    Thread.sleep(pause);
+                } catch (InterruptedException interrupted) {
+                    Thread.currentThread().interrupt();
+                    throw silent;
+                }
+            } catch (RuntimeException fault) {
+                throw fault;
+            } catch (Exception fault) {
+                throw new StoreException(fault.getMessage(), fault);
+            }
+        }
+    }
+}

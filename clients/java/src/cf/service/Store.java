@@ -1,0 +1,177 @@
+package cf.service;
+
+import java.util.Collections;
+import java.util.List;
+import java.util.Map;
+
+/**
+ * Rows of words in an engine, which any thread may use: {@link JdbcStore} is one. Each call may throw {@link StoreException.Unknown}, and one that
+ * has a request's number {@link StoreException.Gone} where that was dropped.
+ *
+ * <p>The engine puts a group of entries whole or not at all, and only where none stands yet; what it has answered is on disk; and what it gives
+ * to read is the row, or a beginning of it.
+ */
+public interface Store extends AutoCloseable {
+    /** Opens a request, or gives it as another opened it: then the plan may be another. */
+    Opened open(String name, String plan);
+
+    /** A request as it was opened, or null. */
+    Opened find(String name);
+
+    /** Puts entries: null where they stand now, else what stands from their first place on. */
+    List<Entry> append(Put put);
+
+    /** The entries behind {@code at} of them. A stale answer is a shorter one. */
+    List<Entry> read(String name, long number, int at);
+
+    /** The payload of a place, which is counted from 1, or null. */
+    byte[] payload(String name, long number, int place);
+
+    /** How many words those open requests have that may have changed since a mark, and the next mark; since null, all of them. */
+    News news(Object mark);
+
+    /** Waits until something may have been put, for so many milliseconds at most. One thread at a time waits so. */
+    void changed(long millis) throws InterruptedException;
+
+    /** Marks a request as closed, where it has just so many words, and forgets its timers. Whether this call has closed it. */
+    boolean end(String name, long number, int at);
+
+    /** Takes that back. */
+    void reopen(String name, long number);
+
+    /** Says that a session is there. */
+    void beat(long session);
+
+    /** How often each session has said so. */
+    Map<Long, Long> beats();
+
+    /** Forgets a session that has ended. */
+    void dropBeat(long session);
+
+    /** Says what a session is called, as long as its beats are kept. */
+    void nameSession(long session, String name);
+
+    /** The store's clock, in seconds since 1970. */
+    double now();
+
+    /** Keeps a timer of a stage, in the place of one that it had. */
+    void setTimer(Timer timer);
+
+    /** The timers of moments up to this one. */
+    List<Timer> due(double now);
+
+    /** Forgets a stage's timer. */
+    void dropTimer(Timer timer);
+
+    @Override
+    void close();
+
+    /** An entry of a row: a word, and the token that says who put it. */
+    final class Entry {
+        final long word, token;
+
+        /** An entry of this word and token. */
+        public Entry(long word, long token) {
+            this.word = word;
+            this.token = token;
+        }
+
+        /** The word of an event. */
+        public long word() {
+            return word;
+        }
+
+        /** The session, times 2^23, and a count. */
+        public long token() {
+            return token;
+        }
+    }
+
+    /** A request as it was opened. If it is dropped and another one of its name is opened, that has another number. */
+    final class Opened {
+        final String name, plan;
+        final long number;
+
+        /** A request of this name, plan and number. */
+        public Opened(String name, String plan, long number) {
+            this.name = name;
+            this.plan = plan;
+            this.number = number;
+        }
+    }
+
+    /** Entries that are to stand behind the first {@code at} of a request's row, with the payloads of words that have one, by their places. */
+    final class Put {
+        final String request;
+        final long number;
+        final int at;
+        final List<Entry> entries;
+        final Map<Integer, byte[]> payloads;
+
+        Put(String request, long number, int at, List<Entry> entries, Map<Integer, byte[]> payloads) {
+            this.request = request;
+            this.number = number;
+            this.at = at;
+            this.entries = Collections.unmodifiableList(entries);
+            this.payloads = Collections.unmodifiableMap(payloads);
+        }
+
+        /** The request's name. */
+        public String request() {
+            return request;
+        }
+
+        /** The request's own number. */
+        public long number() {
+            return number;
+        }
+
+        /** Behind how many entries they are to stand. */
+        public int at() {
+            return at;
+        }
+
+        /** The entries, at least one. */
+        public List<Entry> entries() {
+            return entries;
+        }
+
+        /** The payloads of words that have one, by the words' places, which are counted from 1. */
+        public Map<Integer, byte[]> payloads() {
+            return payloads;
+        }
+    }
+
+    /** How many words requests have by name, and up to where that was told. */
+    final class News {
+        final Map<String, Integer> ends;
+        final Object mark;
+
+        /** These ends and this mark. */
+        public News(Map<String, Integer> ends, Object mark) {
+            this.ends = ends;
+            this.mark = mark;
+        }
+    }
+
+    /**
+     * What is to become of a stage at a moment, unless it is settled by then. The payload is a letter and bytes: {@code E} and an error for a
+     * stage that times out, {@code V} and a value, or {@code N} for null.
+     */
+    final class Timer {
+        final String request;
+        final long number;
+        final int stage;
+        final double due;
+        final byte[] payload;
+
+        /** A timer of a request's stage, due in seconds of the store's clock since 1970. */
+        public Timer(String request, long number, int stage, double due, byte[] payload) {
+            this.request = request;
+            this.number = number;
+            this.stage = stage;
+            this.due = due;
+            this.payload = payload;
+        }
+    }
+}

@@ -1,0 +1,110 @@
+package cf.service;
+
+import java.util.ArrayList;
+import java.util.LinkedHashMap;
+import java.util.List;
+import java.util.Map;
+
+/** The text of a request's plan, of which each process builds the same graph, and what payloads say of attached stages. */
+final class StoredPlan {
+    /** The text of a plan without stages. */
+    static final String EMPTY = "{\"cf\":3,\"flow\":\"\",\"stages\":[]}";
+    private static final long FORMAT = 3;
+
+    /** Form and sources of each stage, and what is said of it. */
+    final List<Form> forms = new ArrayList<>();
+    final List<int[]> sources = new ArrayList<>();
+    final List<Said> said = new ArrayList<>();
+    /** The same for the library. */
+    final int[] rows;
+
+    /** Reads the text of a request's plan. */
+    StoredPlan(String text, String request) {
+        try {
+            Map<?, ?> read = (Map<?, ?>) Json.read(text.getBytes(java.nio.charset.StandardCharsets.UTF_8));
+            if (!Long.valueOf(FORMAT).equals(read.get("cf"))) {
+                throw new IllegalArgumentException("it is of version " + read.get("cf"));
+            }
+            List<Integer> numbers = new ArrayList<>();
+            for (Object it : (List<?>) read.get("stages")) {
+                add((Map<?, ?>) it, numbers);
+            }
+            rows = numbers.stream().mapToInt(Integer::intValue).toArray();
+        } catch (IllegalArgumentException | ClassCastException | NullPointerException fault) {
+            throw new StoreException.Broken(request, 0, "its plan can't be read: " + fault.getMessage());
+        }
+    }
+
+    private void add(Map<?, ?> stage, List<Integer> numbers) {
+        Form form = form(String.valueOf(stage.get("form")));
+        List<?> of = stage.get("of") == null ? new ArrayList<>() : (List<?>) stage.get("of");
+        int[] found = of.stream().mapToInt(it -> Math.toIntExact((Long) it)).toArray();
+        numbers.add(form.ordinal());
+        numbers.add(found.length);
+        for (int source : found) {
+            numbers.add(source);
+        }
+        numbers.add(form.calls ? forms.size() : -1);
+        said.add(new Said(stage, forms.size()));
+        forms.add(form);
+        sources.add(found);
+    }
+
+    private static Form form(String name) {
+        for (Form form : Form.values()) {
+            if (form.text.equals(name)) {
+                return form;
+            }
+        }
+        throw new IllegalArgumentException("it has a form " + name);
+    }
+
+    /** What is said of a stage: its name, and its function's name, version and arguments. */
+    static final class Said {
+        final String name, function;
+        final int version;
+        final List<?> args;
+        /** Whether its function is called with arguments by name, as only Python's are. */
+        final boolean hasNamed;
+        /** The stage whose function a further try calls, and the promise for what a composing stage's function gives; or -1. */
+        final int again, to;
+
+        Said(Map<?, ?> read, int number) {
+            name = (String) java.util.Objects.requireNonNull(read.get("name"), "a stage has no name");
+            function = (String) read.get("fn");
+            version = read.get("version") == null ? 0 : Math.toIntExact((Long) read.get("version"));
+            args = (List<?>) read.get("args");
+            hasNamed = read.get("kwargs") != null;
+            again = lower(read.get("again"), number);
+            to = lower(read.get("to"), number);
+        }
+
+        private static int lower(Object stage, int number) {
+            if (stage == null) {
+                return -1;
+            }
+            int found = Math.toIntExact((Long) stage);
+            if (found < 0 || found >= Math.max(number, 1)) {
+                throw new IllegalArgumentException("it names a stage that isn't lower than " + number);
+            }
+            return found;
+        }
+
+        /** The payload of a word that attaches a stage. */
+        static byte[] write(String name, String function, int version, List<?> args, int again) {
+            Map<String, Object> said = new LinkedHashMap<>();
+            said.put("name", name);
+            if (function != null) {
+                said.put("fn", function);
+                said.put("version", version);
+            }
+            if (args != null && !args.isEmpty()) {
+                said.put("args", args);
+            }
+            if (again >= 0) {
+                said.put("again", again);
+            }
+            return Json.write(said);
+        }
+    }
+}

@@ -1,0 +1,265 @@
+package cf.service;
+
+import static cf.service.Checks.is;
+import static cf.service.Checks.thrown;
+
+import java.io.File;
+import java.io.IOException;
+import java.nio.charset.StandardCharsets;
+import java.nio.file.Files;
+import java.nio.file.Path;
+import java.util.ArrayList;
+import java.util.Arrays;
+import java.util.Collections;
+import java.util.LinkedHashMap;
+import java.util.List;
+import java.util.Map;
+import java.util.concurrent.CancellationException;
+import java.util.concurrent.ExecutionException;
+import java.util.concurrent.TimeUnit;
+import java.util.concurrent.TimeoutException;
+import java.util.concurrent.atomic.AtomicInteger;
+
+/** Requests in a file of SQLite's, for which a driver of JDBC's has to be on the class path; and JSON. */
+public final class StoresTest {
+    private static final int LEASE = 500; // milliseconds
+
+    private StoresTest() {}
+
+    /** With a file, it is the process that dies in a function. */
+    public static void main(String[] args) throws Exception {
+        try (StoreService service = service(args[0], new Functions().with("inc", 1, number -> {
+            Runtime.getRuntime().halt(7);
+            return number;
+        }))) {
+            service.open("dies").stage(1).get(30, TimeUnit.SECONDS);
+        }
+    }
+
+    static boolean hasDriver() {
+        try {
+            Class.forName("org.sqlite.JDBC");
+            return true;
+        } catch (ClassNotFoundException missing) {
+            return false;
+        }
+    }
+
+    /** A file of its own, for as long as a test runs. */
+    private static final class InFile implements AutoCloseable {
+        final Path folder = Files.createTempDirectory("cf-store");
+        final String path = folder.resolve("db").toString();
+
+        InFile() throws IOException {}
+
+        @Override
+        public void close() throws IOException {
+            for (File file : folder.toFile().listFiles()) {
+                Files.delete(file.toPath());
+            }
+            Files.delete(folder);
+        }
+    }
+
+    private static StoreService service(String path, Functions functions) {
+        return service(path, functions, 4, false);
+    }
+
+    private static StoreService service(String path, Functions functions, int threads, boolean takesAll) {
+        return new StoreService(JdbcStore.open("jdbc:sqlite:" + path), functions, threads, LEASE, TimeUnit.MILLISECONDS, takesAll);
+    }
+
+    private static Object end(StoredStage stage) throws Exception {
+        try {
+            return stage.get(30, TimeUnit.SECONDS);
+        } catch (ExecutionException ended) {
+            return ended.getCause();
+        }
+    }
+
+    private static RemoteException remote(StoredStage stage) throws Exception {
+        return (RemoteException) end(stage);
+    }
+
+    static void json() {
+        Map<String, Object> value = new LinkedHashMap<>();
+        value.put("a\"\\\n\u0001é\ud83d\ude00", Arrays.asList(1L, -2.5, true, null, "x", Collections.emptyList(), Collections.emptyMap()));
+        value.put("half \ud83d", new java.math.BigInteger("18446744073709551616"));
+        is(Json.read(Json.write(value)), value);
+        is(new String(Json.write(value), StandardCharsets.UTF_8).contains("\\ud83d"), true);
+        is(Json.read(" [ 1e3 , { } ] ".getBytes(StandardCharsets.UTF_8)), Arrays.asList(1000.0, Collections.emptyMap()));
+        for (String text : new String[] {"", "[1,]", "{\"a\" 1}", "01", "nul", "\"\\x\"", "1 2", "[" + String.join("", Collections.nCopies(600, "["))}) {
+            thrown(IllegalArgumentException.class, () -> Json.read(text.getBytes(StandardCharsets.UTF_8)));
+        }
+        thrown(IllegalArgumentException.class, () -> Json.write(Double.NaN));
+        thrown(IllegalArgumentException.class, () -> Json.write(new Object()));
+    }
+
+    static void functions() throws Exception {
+        Functions functions = new Functions().with("seven", 1, () -> 7L).with("inc", 1, number -> (Long) number + 1)
+                .with("add", 1, (a, b) -> (Long) a + (Long) b).with("declined", 1, number -> {
+                    throw new IllegalStateException("card declined");
+                }).with("sorry", 1, thrown -> "sorry, " + ((RemoteException) thrown).text())
+                .with("both", 1, (value, thrown) -> Arrays.asList(value, thrown == null ? null : ((RemoteException) thrown).kind()))
+                .with("object", 1, number -> new Object());
+        try (InFile file = new InFile(); StoreService service = service(file.path, functions)) {
+            StoredRequest request = service.request("all");
+            StoredStage number = request.promise("number"), inc = number.then("inc");
+            StoredStage sum = inc.combine(request.supply("seven"), "add");
+            is(number.complete(41), true);
+            is(number.complete(1), false);
+            is(end(sum), 49L);
+            StoredStage declined = inc.then("declined");
+            is(remote(declined).kind(), "IllegalStateException");
+            is(remote(declined).text(), "card declined");
+            StoredStage sorry = declined.recover("sorry");
+            is(end(sorry), "sorry, card declined");
+            is(end(inc.handle("both")), Arrays.asList(42L, null));
+            is(end(declined.handle("both")), Arrays.asList(null, "IllegalStateException"));
+            is(remote(inc.then("object")).kind(), "IllegalArgumentException");
+            is(remote(inc.then("seven")).text(), "seven takes 0 arguments, and was given 1");
+            is(end(request.supply("add", 1L, 2L)), 3L);
+            is(end(request.promise("never").either(inc, "inc")), 43L);
+            is(end(request.allOf(inc, sum, sorry)), null);
+            is(end(request.anyOf(inc, request.promise("late"))), 42L);
+            is(request.stage("inc").number(), 1);
+            is(request.stage("inc").name(), "inc");
+            is(request.stage("none"), null);
+            is(sum.toFuture().get(), 49L);
+            thrown(IllegalArgumentException.class, () -> inc.then("nobody"));
+            thrown(IllegalArgumentException.class, () -> inc.combine(service.request("other").promise("p"), "add"));
+        }
+    }
+
+    static void others() throws Exception {
+        AtomicInteger calls = new AtomicInteger();
+        Functions functions = new Functions().with("inc", 1, number -> {
+            calls.incrementAndGet();
+            return (Long) number + 1;
+        });
+        try (InFile file = new InFile()) {
+            StoredStage last;
+            try (StoreService first = service(file.path, functions, 0, false)) {
+                StoredRequest request = first.request("shared");
+                StoredStage number = request.promise("number");
+                last = number;
+                for (int k = 0; k < 20; k++) {
+                    last = last.then("inc");
+                }
+                for (int k = 0; k < 20; k++) {
+                    number.then("inc"); // (all of these are ready at once)
+                }
+            }
+            is(end(last) instanceof IllegalStateException, true);
+            List<StoreService> workers = new ArrayList<>();
+            for (int k = 0; k < 3; k++) {
+                workers.add(service(file.path, functions, 2, true));
+            }
+            try (StoreService second = service(file.path, new Functions())) {
+                StoredRequest request = second.open("shared");
+                is(request.stage(0).complete(0), true);
+                is(end(request.stage(20)), 20L);
+                for (int k = 21; k < 41; k++) {
+                    is(end(request.stage(k)), 1L);
+                }
+                is(calls.get(), 40); // each function once
+                thrown(StoreException.Gone.class, () -> second.open("no such"));
+            }
+            workers.forEach(StoreService::close);
+        }
+    }
+
+    static void closed() throws Exception {
+        try (InFile file = new InFile(); JdbcStore store = JdbcStore.open("jdbc:sqlite:" + file.path);
+                StoreService service = service(file.path, new Functions().with("inc", 1, number -> (Long) number + 1))) {
+            StoredRequest request = service.request("closed");
+            StoredStage number = request.promise("number");
+            number.complete(1);
+            is(store.news(null).ends.containsKey("closed"), true);
+            request.end();
+            is(store.news(null).ends.containsKey("closed"), false);
+            Thread.sleep(300); // (the service lets it go by then)
+            StoredStage inc = number.then("inc");
+            is(store.news(null).ends.containsKey("closed"), true);
+            is(end(inc), 2L);
+            is(service.resume().size(), 1);
+        }
+    }
+
+    static void timers() throws Exception {
+        try (InFile file = new InFile()) {
+            try (StoreService service = service(file.path, new Functions())) {
+                StoredRequest request = service.request("timers");
+                StoredStage slow = request.promise("slow"), other = request.promise("other"), soon = request.promise("soon");
+                slow.orTimeout(50, TimeUnit.MILLISECONDS);
+                other.completeOnTimeout("in its place", 50, TimeUnit.MILLISECONDS);
+                soon.orTimeout(1, TimeUnit.MINUTES).complete(null);
+                is(((TimeoutException) end(slow)).getMessage(), "slow took longer than 0.05 s");
+                is(end(other), "in its place");
+                is(end(soon), null);
+            }
+            try (JdbcStore store = JdbcStore.open("jdbc:sqlite:" + file.path)) {
+                List<Store.Timer> left = store.due(1e12);
+                is(left.size(), 1); // what was fired is forgotten
+                is(left.get(0).stage, 2);
+            }
+        }
+    }
+
+    static void settled() throws Exception {
+        try (InFile file = new InFile(); StoreService service = service(file.path, new Functions())) {
+            StoredRequest request = service.request("settled");
+            StoredStage failed = request.promise("failed"), cancelled = request.promise("cancelled"), left = request.promise("left");
+            is(failed.fail(new RemoteException("Closed", "we are closed")), true);
+            is(failed.cancel(), false);
+            is(cancelled.cancel(), true);
+            is(cancelled.abandon(), true);
+            is(cancelled.complete(1), false);
+            is(remote(failed).getMessage(), "Closed: we are closed");
+            is(remote(failed).args(), Collections.singletonList("we are closed"));
+            thrown(CancellationException.class, () -> end(cancelled));
+            is(left.isDone(), false);
+            thrown(TimeoutException.class, () -> left.get(5, TimeUnit.MILLISECONDS));
+            String large = String.join("", Collections.nCopies(100_000, "x"));
+            is(left.complete(large), true);
+            is(end(left), large);
+            try (StoreService other = service(file.path, new Functions())) {
+                is(end(other.open("settled").stage("left")), large);
+            }
+        }
+    }
+
+    static void dies() throws Exception {
+        try (InFile file = new InFile()) {
+            int once, again;
+            Functions functions = new Functions().with("inc", 1, number -> (Long) number + 1);
+            try (StoreService planner = service(file.path, functions, 0, false)) {
+                StoredRequest request = planner.request("dies");
+                StoredStage number = request.promise("number"), inc = number.then("inc");
+                once = inc.number();
+                again = inc.again(1).number();
+                number.complete(1);
+            }
+            String java = System.getProperty("java.home") + "/bin/java";
+            Process child = new ProcessBuilder(java, "-cp", System.getProperty("java.class.path"), StoresTest.class.getName(), file.path).inheritIO().start();
+            is(child.waitFor(), 7);
+            try (StoreService service = service(file.path, functions)) {
+                StoredRequest request = service.open("dies");
+                is(remote(request.stage(once)).getMessage(), "Abandoned: the worker that ran inc is gone, and it may have run");
+                is(end(request.stage(again)), 2L);
+            }
+        }
+    }
+
+    static void broken() throws Exception {
+        try (InFile file = new InFile(); JdbcStore store = JdbcStore.open("jdbc:sqlite:" + file.path);
+                StoreService service = service(file.path, new Functions())) {
+            store.open("no plan", "{}");
+            store.open("old plan", "{\"cf\":2,\"flow\":\"\",\"stages\":[]}");
+            for (String name : new String[] {"no plan", "old plan"}) {
+                thrown(StoreException.Broken.class, () -> service.open(name));
+            }
+            thrown(StoreException.class, () -> JdbcStore.open("jdbc:other:x"));
+        }
+    }
+}
