@@ -4,7 +4,7 @@ from pathlib import Path
 from typing import List, NamedTuple, Optional, Sequence, Tuple
 
 from checking.crates import TOP
-from checking.tools import DEBIANS, Tools
+from checking.tools import DEBIANS, JUNIT, Tools
 
 HEADER = "crates/cf_c/include"
 WARNED = ["-Wall", "-Wextra", "-pedantic", "-Werror"]
@@ -139,7 +139,8 @@ def rows_of_java(tools: Tools, made: Path) -> List[Row]:
     javac, jar, tests = tools["JDK of 17 or later"], str(made / "java/cf-service.jar"), str(made / "java/tests")
     needs = ["library", "C compiler", "JDK of 17 or later"]
     sources = sorted(str(path) for part in ["test", "example", "opentelemetry"] for path in (TOP / "clients/java" / part).rglob("*.java"))
-    built = [["env", "JAVAC=" + javac, "clients/java/build", "--quick", str(made / "java")],
+    junit, every_order = tools.found.get(JUNIT) or "", str(made / "java/junit")
+    built = [["env", "JAVAC=" + javac, "CF_JUNIT=" + junit, "clients/java/build", "--quick", str(made / "java")],
              [javac, "-nowarn", "-encoding", "UTF-8", "-cp", jar, "-d", tests, *sources]]
     java = [str(Path(javac).parent / "java"), "-Xmx64m", "-XX:+UseSerialGC", "-XX:TieredStopAtLevel=1", "-cp", f"{jar}:{tests}:{SQLITE_JDBC}"]
     return [
@@ -148,6 +149,10 @@ def rows_of_java(tools: Tools, made: Path) -> List[Row]:
         Row("Java's spans", needs, [[*java, "Traced"]], ("clients/java", "Traced")),
         Row("Java's order that charges twice", needs, [[*java, "Twice"]], ("docs/TESTING.md", "Twice")),
         Row("Java's orders that charge once", needs, [[*java, "Once"]], ("docs/TESTING.md", "Once")),
+        Row("Java's tests of JUnit in every order", [*needs, JUNIT], [
+            [javac, "-Xlint:all", "-Werror", "-encoding", "UTF-8", "-cp", f"{jar}:{made}/java/cf-service-junit.jar:{junit}", "-d", every_order,
+             "clients/java/junit/test/cf/service/junit/EveryOrderTest.java"],
+            [*java[:-1], f"{jar}:{made}/java/cf-service-junit.jar:{every_order}:{junit}", "cf.service.junit.EveryOrderTest"]]),
         Row("random orders of Java's service beside explore", [*needs, "python3", "cf_look"],
             [[tools["python3"], "conformance/clients/java-orders", "short", jar, "0", "100", tools["cf_look"]]]),
         Row("random requests of Java's service", [*needs, "python3", "cf", "cf_look"],

@@ -12,7 +12,16 @@ PROGRAMS = ["cf", "cf_look", "cf_bench"]  # that rows call
 DEBIAN = Path("/usr/share/cargo/registry")
 CRATES = ["futures", "getrandom", "rayon", "rusqlite", "rustix", "serde", "serde_json", "tokio", "tokio-postgres", "tracing"]
 DEBIANS = f"Debian's crates of {', '.join(CRATES)}"
+JARS = Path("/usr/share/java")
+JUNIT = "JUnit 5, as Debian's junit5 has it"
 NOTHING = "int main(void) { return 0; }\n"
+
+
+def junit() -> Optional[str]:
+    """The class path of JUnit 5 with its launcher."""
+    parts = ["jupiter-api", "jupiter-engine", "platform-commons", "platform-engine", "platform-launcher"]
+    jars = [JARS / f"{name}.jar" for name in [*(f"junit-{part}" for part in parts), "opentest4j", "apiguardian-api"]]
+    return ":".join(map(str, jars)) if all(jar.is_file() for jar in jars) else None
 
 
 class Tools:
@@ -32,6 +41,7 @@ class Tools:
         number = re.match(r"javac (\d+)", version)
         headers = javac and Path(os.path.realpath(javac)).parent.parent / "include/jni.h"
         self.found["JDK of 17 or later"] = javac if number and int(number[1]) >= 17 and headers.is_file() else None
+        self.found[JUNIT] = junit()
         pythons = ["/usr/bin/python3", self["python3"]]
         self.found["setuptools and wheel for Python"] = self.importing(pythons, "setuptools, wheel, venv, ensurepip")
         self.found["Python's own tests"] = self.importing(pythons, "test.test_concurrent_futures")

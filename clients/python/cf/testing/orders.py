@@ -86,7 +86,7 @@ def _all(runner: Runner, report: Report, most: int, until: float, failures: int,
     met late by the search in turn, and soon by chance."""
     at_first = min(AT_FIRST, most)
     tree.go(at_first, until, failures)
-    if report.whole or report.failed or most <= at_first:
+    if report.whole or len(report.failed) >= failures or most <= at_first:
         return
     part = time.perf_counter() + (until - time.perf_counter()) / PART
     Chance(runner, report, seed).go(most // PART, part, failures)

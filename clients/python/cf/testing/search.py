@@ -8,6 +8,8 @@ it has the path to the last run. What is left out stands on what moves touched (
   already (source sets). What no race asks for isn't tried.
 - *Sleep sets.* A move that was tried at a place isn't tried again behind a sibling that is independent of it.
 - A move that takes another one away races with it, though that one was never made: both are tried.
+- A move that fails the order takes all others away, and touches all that any other does: what would have come behind
+  it isn't known.
 
 A workers' bound makes moves wait for one another in ways that races don't see; sleep sets alone are used then."""
 import time
@@ -67,17 +69,26 @@ class Tree:
         if ran.how == CUT:
             report.cut += 1
             return
+        if len(ran.row) < len(self._stack):
+            raise NotDeterministic(f"after the moves\n    {row_of(ran.row)}\nit fails now, and didn't before: "
+                                   f"{ran.why}")
         report.orders += 1
         self._runs += 1
         if self._runs & (self._runs - 1) == 0:  # the first, second, fourth, eighth ..
             self.runner.same(ran)
         if ran.how == FAILED:
-            if self._stack and self._stack[-1].footprint is None:
-                self._stack[-1].footprint = {ALL: CHANGES}
+            self._failed()
             report.failed.append(failure_of(ran))
         elif self._ends is not None:
             end = self._ends(ran.run.world)
             report.ends[end] = report.ends.get(end, 0) + ran.run.weight
+
+    def _failed(self) -> None:
+        """Where the last move has failed the order, the others are tried in its place and before it. Behind the last
+        move of all there are none."""
+        if self._races and self._stack and self._stack[-1].footprint is None:
+            self._stack[-1].todo.update(self._stack[-1].keys)
+            self._race({ALL: CHANGES})
 
     # One run.
 

@@ -240,6 +240,17 @@ class Faults(unittest.TestCase):
             orders(test)
         self.assertIn("begin.0.0", str(caught.exception))
 
+    def test_a_test_that_fails_later_is_told(self):
+        numbers = itertools.count()
+
+        def test(world):
+            self.assertLess(next(numbers), 2)
+            return [world.service.submit(lambda: None) for _ in range(2)]
+
+        with self.assertRaises(NotDeterministic) as caught:
+            orders(test)
+        self.assertIn("it fails now, and didn't before: the test raised", str(caught.exception))
+
     def test_a_test_that_does_otherwise_later_is_told(self):
         numbers = itertools.count()
 
@@ -270,6 +281,42 @@ class LeftOut(unittest.TestCase):
             return [request.supply(lambda: None) for _ in range(2)]
 
         self.assertEqual(self.counts(test), [2, 20])
+
+    def test_what_would_have_come_behind_a_failure(self):
+        def checked(world, done):
+            world.check(lambda: "one" not in done or "two" in done, "two before one")
+
+        def called(world, done):
+            world.calls(lambda: self.assertFalse("one" in done), name="three")
+
+        def run(world, done):
+            world.service.submit(lambda: self.assertNotEqual(done, ["one"]))
+
+        def waits(world, done):
+            request = world.service.request()
+            promise = request.promise()
+            request.supply(promise.result)
+            world.calls(lambda: "one" in done and promise.complete(1), name="three")
+
+        for fault in (checked, called, run, waits):
+            def test(world, fault=fault):
+                done = []
+                world.calls(lambda: done.append("one"), name="one")
+                world.calls(lambda: done.append("two"), name="two")
+                fault(world, done)
+
+            with self.subTest(fault.__name__):
+                every, some = [orders(test, reduce=reduce, failures=10**9, smaller=False,
+                                      ends=lambda world: tuple(world.outcomes())) for reduce in (False, True)]
+                self.assertEqual((some.whole, set(some.ends)), (True, set(every.ends)))
+                self.assertEqual({it.why for it in some.failed}, {it.why for it in every.failed})
+                self.assertEqual((len(every.ends), len({it.why for it in every.failed})), (1, 1))
+
+    def test_many_failures(self):
+        report = orders(services.overdrawn, seconds=60, reduce=False, failures=10**9, smaller=False)
+        self.assertTrue(report.whole)
+        self.assertGreater(report.orders, 100)
+        self.assertGreater(len(report.failed), 1)
 
     def test_pure_functions(self):
         def test(world):

@@ -108,6 +108,7 @@ public final class AllTests {
         test("what blocks a search", OrdersTest::blocked);
         test("faults of what is tried", OrdersTest::faults);
         test("what isn't deterministic", OrdersTest::notDeterministic);
+        test("orders behind a failure", OrdersTest::failing);
         test("orders that are left out", OrdersTest::leftOut);
         test("a relay that was let go", OrdersTest::letGo);
         test("what functions and checks read", OrdersTest::read);

@@ -17,14 +17,17 @@ import java.util.function.Function;
  * <p>Within a test of JUnit or TestNG, {@link #check(Scenario)} is all that is needed.
  */
 public final class Orders {
+    /** How many orders are tried at most, and for how many seconds, if nothing is said. */
+    public static final int MOST = 100_000, SECONDS = 10;
+
     /** Orders in turn, before some by chance; one of so many is by chance, and so much of the time; failures that are made smaller. */
     private static final int AT_FIRST = 100, PART = 10, MOST_TOLD = 20;
 
     private final Scenario scenario;
     private final Settings settings = new Settings();
-    private int most = 100_000, chance, failures = 1;
+    private int most = MOST, chance, failures = 1;
     private long seed;
-    private double seconds = 10;
+    private double seconds = SECONDS;
     private String row;
     private boolean isSmaller = true, isWhole;
     private Function<World, ?> ends;
@@ -43,13 +46,13 @@ public final class Orders {
         of(scenario).check();
     }
 
-    /** How many orders are tried at most, those that are cut short among them: 100,000 if nothing is said. */
+    /** How many orders are tried at most, those that are cut short among them: {@link #MOST} if nothing is said. */
     public Orders most(int orders) {
         most = orders;
         return this;
     }
 
-    /** How long that may take: 10 seconds if nothing is said. The order that is tried then ends first. */
+    /** How long that may take: {@link #SECONDS} if nothing is said. The order that is tried then ends first. */
     public Orders seconds(double seconds) {
         this.seconds = seconds;
         return this;
@@ -195,7 +198,7 @@ public final class Orders {
         Search search = new Search(runner, report, ends);
         int first = Math.min(AT_FIRST, most);
         search.go(first, until, failures);
-        if (report.whole || !report.failed.isEmpty() || most <= first) {
+        if (report.whole || report.failed.size() >= failures || most <= first) {
             return;
         }
         long now = System.nanoTime();

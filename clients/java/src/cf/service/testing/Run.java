@@ -399,6 +399,13 @@ final class Run implements Watch, Executor {
             on(flight, true);
             return;
         }
+        inUser(act);
+        flight.word = Word.END;
+        leave();
+    }
+
+    /** Calls what a test has given, on this thread. What it reads of stages is noted. */
+    private void inUser(Runnable act) {
         boolean saved = isInUser;
         isInUser = true;
         try {
@@ -406,8 +413,6 @@ final class Run implements Watch, Executor {
         } finally {
             isInUser = saved;
         }
-        flight.word = Word.END;
-        leave();
     }
 
     /** Lets a thread go on until its function waits or has ended. */
@@ -522,11 +527,9 @@ final class Run implements Watch, Executor {
             return;
         }
         Footprint seen = footprint = new Footprint();
-        isInUser = true;
         try {
-            checks.forEach(this::look);
+            inUser(() -> checks.forEach(this::look));
         } finally {
-            isInUser = false;
             footprint = null;
         }
         seen.things().forEach(watched::add);
@@ -769,13 +772,7 @@ final class Run implements Watch, Executor {
     @Override
     public void user(Runnable act) {
         touch(Footprint.USER, How.CHANGES);
-        boolean saved = isInUser;
-        isInUser = true;
-        try {
-            act.run();
-        } finally {
-            isInUser = saved;
-        }
+        inUser(act);
     }
 
     @Override

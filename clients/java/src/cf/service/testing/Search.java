@@ -22,6 +22,7 @@ import java.util.function.Function;
  *     asks for isn't tried.
  * <li><em>Sleep sets.</em> A move that was tried at a place isn't tried again behind a sibling that is independent of it.
  * <li>A move that takes another one away races with it, though that one was never made: both are tried.
+ * <li>A move that fails the order takes all others away, and touches all that any other does: what would have come behind it isn't known.
  * </ul>
  *
  * <p>A workers' bound makes moves wait for one another in ways that races don't see; sleep sets alone are used then. It can be stopped and gone
@@ -84,19 +85,28 @@ final class Search {
             report.cut++;
             return;
         }
+        if (ran.row.size() < stack.size()) {
+            throw new NotDeterministicError("after the moves\n    " + Move.row(ran.row) + "\nit fails now, and didn't before: " + ran.run.why);
+        }
         report.orders++;
         runs++;
         if ((runs & runs - 1) == 0) { // the first, second, fourth, eighth ..
             runner.same(ran);
         }
         if (ran.failed()) {
-            Node last = stack.isEmpty() ? null : stack.get(stack.size() - 1);
-            if (last != null && last.footprint == null) {
-                last.footprint = Footprint.ofAll();
-            }
+            failed();
             report.failed.add(ran.failure());
         } else if (ends != null) {
             report.ends.merge(ends.apply(ran.run.world), ran.run.weight, Long::sum);
+        }
+    }
+
+    /** Where the last move has failed the order, the others are tried in its place and before it. Behind the last move of all there are none. */
+    private void failed() {
+        Node last = stack.isEmpty() ? null : stack.get(stack.size() - 1);
+        if (races && last != null && last.footprint == null) {
+            last.todo.addAll(last.moves);
+            race(Footprint.ofAll());
         }
     }
 

@@ -17,6 +17,7 @@ import java.util.concurrent.CompletableFuture;
 import java.util.concurrent.CompletionException;
 import java.util.concurrent.TimeoutException;
 import java.util.concurrent.atomic.AtomicInteger;
+import java.util.function.BiConsumer;
 import java.util.function.BiFunction;
 import java.util.function.Function;
 import java.util.stream.Collectors;
@@ -279,6 +280,12 @@ public final class OrdersTest {
             }
         }).run()), "begin.0.0 begin.0.1\nbefore, and now\n    begin.0.0 begin.0.1 begin.0.2");
         runs.set(0);
+        has(thrown(() -> Orders.of(world -> {
+            is(runs.getAndIncrement() < 2, true);
+            world.service().supplyAsync(() -> 1);
+            world.service().supplyAsync(() -> 1);
+        }).run()), "it fails now, and didn't before: the test threw AssertionError: false and not true");
+        runs.set(0);
         thrown(() -> Orders.of(world -> world.service().supplyAsync(runs::getAndIncrement)
                 .thenAccept(number -> {
                     if (number > 0) {
@@ -288,6 +295,48 @@ public final class OrdersTest {
     }
 
     // What is left out.
+
+    /** An order that fails ends there. What would have come behind it is tried all the same: no end is lost, and no failure. */
+    public static void failing() {
+        List<BiConsumer<World, boolean[]>> faults = Arrays.asList(
+                (world, done) -> world.check(() -> !done[0] || done[1], "two before one"),
+                (world, done) -> world.calls("three", () -> is(done[0], false)),
+                (world, done) -> world.service().request().runAsync(() -> is(done[0] && !done[1], false)),
+                (world, done) -> {
+                    Request request = world.service().request();
+                    Stage<Integer> promise = request.promise();
+                    request.supplyAsync(promise::join);
+                    world.calls("three", () -> {
+                        if (done[0]) {
+                            promise.complete(1);
+                        }
+                    });
+                });
+        for (BiConsumer<World, boolean[]> fault : faults) {
+            Scenario scenario = world -> {
+                boolean[] done = new boolean[2];
+                world.calls("one", () -> done[0] = true);
+                world.calls("two", () -> done[1] = true);
+                fault.accept(world, done);
+            };
+            Report all = everyFailure(Orders.of(scenario).unreduced()), report = everyFailure(Orders.of(scenario));
+            is(report.whole(), true);
+            is(report.ends().keySet(), all.ends().keySet());
+            is(whys(report), whys(all));
+            is(all.ends().size() + " " + whys(all).size(), "1 1");
+        }
+        Report many = everyFailure(Services.faulty("overdrawn").orders().unreduced());
+        is(many.whole(), true);
+        is(many.orders() > 100 && many.failed().size() > 1, true);
+    }
+
+    private static Report everyFailure(Orders orders) {
+        return orders.seconds(60).failures(Integer.MAX_VALUE).asFound().ends(World::outcomes).run();
+    }
+
+    private static Set<String> whys(Report report) {
+        return report.failed().stream().map(Failure::why).collect(Collectors.toSet());
+    }
 
     public static void leftOut() {
         is(counts(two((world, stage) -> stage)), Arrays.asList(2, 20));
