@@ -23,6 +23,29 @@
 //!
 //! `docs/TESTING.md` says what a move is, what is left out, and what the search doesn't see.
 //!
+//! # In a test
+//!
+//! ```toml
+//! [dev-dependencies]
+//! cf = { version = "1", features = ["testing"] }
+//! ```
+//!
+//! With cargo's resolver 2 the feature is then on in tests alone. [`every_order`] panics with the story of the order that fails:
+//!
+//! ```
+//! # fn checkout(world: &cf::testing::World) -> cf::Stage<u32> { world.request("order 17").supply(|| 49) }
+//! // The body of a `#[test]`:
+//! cf::testing::every_order(checkout);
+//! ```
+//!
+//! Put `Orders::new().row("..")` in its place, with the row that the story ends with, to run that order alone, under a debugger say.
+//!
+//! # Beside loom and shuttle
+//!
+//! These try orders of what threads do to atomics and locks. Here the orders are those of what the requests' graphs leave open: functions, polls,
+//! arrivals, limits, calls. Code between two of these is one move, also where it uses `std`'s atomics and locks, unless it calls [`World::point`].
+//! Nothing of the code under test is replaced: it gets an executor and a clock, and may use any type of `std`.
+//!
 //! # The design
 //!
 //! - `run.rs` is one run: the moves that are possible, and making one. `state.rs` is what it consists of, and reads from the requests' machines what

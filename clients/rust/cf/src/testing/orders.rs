@@ -95,12 +95,12 @@ impl Orders {
         Orders { most: 100_000, time, row: None, chance: 0, seed: 0, failures: 1, smaller: true, whole: false, settings }
     }
 
-    /// How many orders are tried at most, those that are cut short among them.
+    /// How many runs are made at most to try orders: those that are tried to their end, and those that are given up on the way.
     pub fn most(self, most: u64) -> Orders {
         Orders { most, ..self }
     }
 
-    /// How long the search may take, until its last order is begun.
+    /// How long the search may take by the real clock, until its last order is begun. An order isn't cut off.
     pub fn time(self, time: Duration) -> Orders {
         Orders { time, ..self }
     }
@@ -110,29 +110,29 @@ impl Orders {
         Orders { row: Some(row.into()), ..self }
     }
 
-    /// Draws so many orders by this seed, in place of all in turn.
+    /// Draws so many orders by this seed, in place of all in turn; with 0 orders all in turn. The same seed draws the same orders.
     pub fn chance(self, orders: u64, seed: u64) -> Orders {
         Orders { chance: orders, seed, ..self }
     }
 
-    /// Ends the search once so many orders have failed.
+    /// Ends the search once so many orders have failed: 1, unless this is called.
     pub fn failures(self, failures: usize) -> Orders {
         Orders { failures, ..self }
     }
 
-    /// How many functions may go on at the same time; 0 is any number.
+    /// How many functions may go on at the same time; 0 is any number, and what holds unless this is called. Less is left out with a bound.
     pub fn workers(mut self, workers: usize) -> Orders {
         self.settings.workers = workers;
         self
     }
 
-    /// Lets others go on at each change that a function makes to a stage.
+    /// Lets others go on at each change that a function makes to a stage. Each such place multiplies the orders.
     pub fn fine(mut self) -> Orders {
         self.settings.fine = true;
         self
     }
 
-    /// Tries also the orders that can come to nothing else.
+    /// Tries also the orders that can come to nothing else: many times as many.
     pub fn all(mut self) -> Orders {
         self.settings.reduce = false;
         self
@@ -163,7 +163,8 @@ impl Orders {
     /// Runs a test, once for each order. It has to make all that it uses anew, and to do the same each time. What it gives back has to be settled in
     /// the end. A fault in the test itself is an order that fails.
     ///
-    /// Each order is a run of the test from its start. Where functions wait, each move hands the turn from one thread to another.
+    /// Each order is a run of the test from its start, which takes some 50 to 80 µs in a release build. Where functions wait, each move hands the
+    /// turn from one thread to another.
     ///
     /// # Panics
     ///
@@ -178,10 +179,11 @@ impl Orders {
     ///
     /// # Panics
     ///
-    /// Where an order fails, with [`whole`](Orders::whole) where not all were tried, and as [`run`](Orders::run).
+    /// Where an order fails, where the bounds let none be tried, with [`whole`](Orders::whole) where not all were tried, and as
+    /// [`run`](Orders::run).
     pub fn every_order<A: Awaited>(&self, test: impl Fn(&World) -> A + Send + Sync + 'static) {
         let report = self.run(test);
-        assert!(report.failed.is_empty() && (report.whole || !self.whole), "{report}");
+        assert!(report.failed.is_empty() && report.orders > 0 && (report.whole || !self.whole), "{report}");
     }
 
     fn searched(&self, test: Test) -> Report {
@@ -231,7 +233,7 @@ impl Orders {
     fn in_turn(&self, runner: &mut Runner, report: &mut Report, until: Instant) {
         let (mut tree, at_first) = (Tree::new(runner), AT_FIRST.min(self.most));
         tree.go(runner, report, at_first, until, self.failures);
-        if report.whole || !report.failed.is_empty() || self.most <= at_first {
+        if report.whole || report.failed.len() >= self.failures || self.most <= at_first {
             return;
         }
         let now = Instant::now();

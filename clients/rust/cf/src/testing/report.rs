@@ -13,6 +13,7 @@ use std::time::Duration;
 /// assert_eq!(report.to_string().split(" orders").next(), Some("1"));
 /// ```
 #[derive(Clone, Debug, Default)]
+#[must_use = "it says which orders failed"]
 #[non_exhaustive]
 pub struct Report {
     /// How many orders were tried to their end, those by chance too.
@@ -25,9 +26,10 @@ pub struct Report {
     pub left_out: u64,
     /// Whether no further order can come to anything else.
     pub whole: bool,
-    /// How long it took.
+    /// How long it took, by the real clock.
     pub took: Duration,
-    /// The orders that failed.
+    /// The orders that failed, in the order in which they were found; at most twenty, unless they are told [as
+    /// found](super::Orders::as_found).
     pub failed: Vec<Failure>,
     /// How many orders came to each end, if the test said what its end is ([`World::end_is`](super::World::end_is)).
     pub ends: BTreeMap<String, u128>,
@@ -51,7 +53,7 @@ pub struct Told {
     pub settled: Vec<String>,
 }
 
-/// Two moves of a row, by their places, that decide: in the other order the same row doesn't fail.
+/// Two moves that decide, by their places in [`Failure::told`], counted from 0: in the other order the same row doesn't fail. The story counts from 1.
 #[derive(Clone, Copy, Debug, PartialEq, Eq)]
 #[non_exhaustive]
 pub struct Pair {
@@ -86,21 +88,25 @@ impl Failure {
         row_of(&self.moves)
     }
 
-    /// How often another goes on than before.
+    /// How often a move is made by somebody else than the move before it.
     pub fn switches(&self) -> usize {
         self.moves.windows(2).filter(|pair| pair[0].actor() != pair[1].actor()).count()
     }
 
-    /// The account of a request, for `cf_look check`.
+    /// The account of a request, for `cf_look check`. Requests are counted from 0, in the order in which they were opened.
     ///
     /// # Panics
     ///
-    /// Here and in the calls below, where there is no such request.
+    /// Where the order has no such request.
     pub fn account(&self, request: usize) -> String {
         self.histories[request].account()
     }
 
     /// The script of a request, for `cf run` and `cf_look dot`.
+    ///
+    /// # Panics
+    ///
+    /// As [`account`](Failure::account).
     pub fn script(&self, request: usize) -> String {
         self.histories[request].script()
     }
@@ -110,6 +116,10 @@ impl Failure {
     /// # Errors
     ///
     /// As of [`History::page`].
+    ///
+    /// # Panics
+    ///
+    /// As [`account`](Failure::account).
     pub fn page(&self, request: usize) -> io::Result<String> {
         self.histories[request].page()
     }

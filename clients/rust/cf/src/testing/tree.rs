@@ -6,7 +6,8 @@
 //! - *Races.* Two moves of a run race if they touch the same thing, and nothing between them makes them wait for one another. At the earlier one a
 //!   move is added that leads to the other order, unless one of those that do so is there already (source sets). What no race asks for isn't tried.
 //! - *Sleep sets.* A move that was tried at a place isn't tried again behind a sibling that is independent of it.
-//! - A move that takes another one away races with it, though that one was never made: both are tried.
+//! - A move that takes another one away races with it, though that one was never made: both are tried. A move in which an order fails takes all
+//!   others away, and races with all before it.
 //!
 //! A workers' bound makes moves wait for one another in ways that races don't see; sleep sets alone are used then.
 use super::footprint::{independent, Footprint};
@@ -100,12 +101,28 @@ impl Tree {
             runner.same(&ran);
         }
         if ran.how == How::Failed {
-            if let Some(last) = self.stack.last_mut() {
-                last.footprint.get_or_insert_with(Footprint::all);
-            }
+            self.fails(&ran);
             report.failed.push(ran.failure());
         } else if let Some(end) = &ran.end {
             *report.ends.entry(end.clone()).or_default() += ran.weight;
+        }
+    }
+
+    /// An order fails. Where that is within a move, this takes all other moves away, since nothing comes behind it, and nobody knows what it would
+    /// have touched. At an end nothing was left.
+    fn fails(&mut self, ran: &Ran) {
+        assert!(
+            ran.row.len() == self.stack.len(),
+            "the test isn't deterministic: the order\n    {}\nfails, and went on before: {}",
+            row_of(&ran.row),
+            ran.why
+        );
+        if let Some(last) = self.stack.last_mut().filter(|last| last.footprint.is_none()) {
+            last.footprint = Some(Footprint::all());
+            if self.races {
+                last.todo = last.keys.clone();
+                self.race(&Footprint::all());
+            }
         }
     }
 

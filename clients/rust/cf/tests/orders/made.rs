@@ -1,11 +1,12 @@
 //! Random programs of user code, which `cf::testing` has to bring to the same ends with and without what it leaves out.
 //!
 //! `CF_PROGRAMS` says which, as `FIRST COUNT MOST`: the seeds from FIRST on, of which those with over MOST orders are left out. `CF_ENDS` names a file
-//! for what was compared.
+//! for each that differs, and last what was compared.
 use crate::services::Shared;
 use cf::testing::{Orders, Report, World};
 use cf::{AnyStage, Request, Stage};
 use std::collections::BTreeSet;
+use std::panic::catch_unwind;
 use std::time::Duration;
 
 /// Variables.
@@ -277,28 +278,46 @@ fn both(report: &Report) -> (BTreeSet<&str>, BTreeSet<&str>) {
     (report.ends.keys().map(String::as_str).collect(), report.failed.iter().map(|failure| failure.why.as_str()).collect())
 }
 
+/// What a program comes to with and without what is left out, if it isn't too large: how many orders there are, how many runs were enough, and
+/// what differs.
+fn compared(seed: u64, most: u64) -> Option<(u64, u64, Option<String>)> {
+    let program = Program::of(seed);
+    let orders = Orders::new().failures(usize::MAX).as_found().time(Duration::from_secs(60));
+    let (plainly, reduced) = (program.clone(), program.clone());
+    let plain = orders.clone().all().most(most).run(move |world| run(&plainly, world));
+    if !plain.whole {
+        return None;
+    }
+    let reduced = orders.most(2 * most + 1_000).run(move |world| run(&reduced, world));
+    let is_same = reduced.whole && both(&plain) == both(&reduced);
+    let differs = || format!("program {seed}: {:?}, and with what is left out {:?}: {program:?}", both(&plain), both(&reduced));
+    Some((plain.orders, reduced.orders + reduced.cut, (!is_same).then(differs)))
+}
+
 #[test]
 fn random_programs_come_to_the_same_ends() {
     let said = std::env::var("CF_PROGRAMS").unwrap_or_else(|_| "0 60 200".into());
     let numbers: Vec<u64> = said.split_whitespace().map(|word| word.parse().unwrap()).collect();
     let (first, count, most) = (numbers[0], numbers[1], numbers[2]);
-    let (mut compared, mut all, mut tried, mut too_large) = (0, 0, 0, 0);
+    let (mut programs, mut all, mut tried, mut otherwise) = (0, 0, 0, Vec::new());
     for seed in first..first + count {
-        let program = Program::of(seed);
-        let orders = Orders::new().failures(usize::MAX).as_found().time(Duration::from_secs(60));
-        let (plainly, reduced) = (program.clone(), program.clone());
-        let plain = orders.clone().all().most(most).run(move |world| run(&plainly, world));
-        if !plain.whole {
-            too_large += 1;
-            continue;
+        match catch_unwind(|| compared(seed, most)) {
+            Ok(Some((orders, runs, differs))) => {
+                (programs, all, tried) = (programs + 1, all + orders, tried + runs);
+                otherwise.extend(differs);
+            }
+            Ok(None) => {}
+            Err(payload) => otherwise.push(format!("program {seed} panics: {:?}", payload.downcast_ref::<String>())),
         }
-        let reduced = orders.most(2 * most + 1_000).run(move |world| run(&reduced, world));
-        (compared, all, tried) = (compared + 1, all + plain.orders, tried + reduced.orders + reduced.cut);
-        assert!(reduced.whole && both(&plain) == both(&reduced), "program {seed}: {program:?}\n{:?}\n{:?}", both(&plain), both(&reduced));
     }
-    let told = format!("{compared} programs of {all} orders have the same ends in {tried}; {too_large} were too large");
+    let told = format!(
+        "{programs} programs of {all} orders have the same ends in {tried} runs; {} were too large; {} otherwise",
+        count - programs,
+        otherwise.len()
+    );
+    let lines = [&otherwise[..], &[told]].concat().join("\n");
     if let Some(path) = std::env::var_os("CF_ENDS") {
-        std::fs::write(path, &told).unwrap();
+        std::fs::write(path, &lines).unwrap();
     }
-    assert!(compared > count / 4, "{told}");
+    assert!(otherwise.is_empty() && programs > count / 4, "{lines}");
 }

@@ -115,6 +115,16 @@ fn several_are_told() {
     assert!(report.failed.len() > 1 && report.whole, "{report}");
 }
 
+/// One of the first orders fails, and the search goes on behind these.
+#[test]
+fn a_search_goes_on_as_long_as_more_may_fail() {
+    let all = Orders::new().time(LIMIT).all().as_found();
+    let one = all.clone().run(|world| overdrawn(world, false));
+    let several = all.failures(usize::MAX).run(|world| overdrawn(world, false));
+    assert!(one.failed.len() == 1 && !one.whole && one.orders < 100, "{one}");
+    assert!(several.whole && several.orders > 100, "{} orders, {}", several.orders, several.whole);
+}
+
 // Bounds.
 
 #[test]
@@ -219,7 +229,7 @@ fn a_future_that_nobody_wakes_is_told() {
     let report = orders(|world| {
         let request = world.request("order");
         let promise = request.promise::<()>();
-        drop(request.spawn(async move { promise.await }).named("a future"));
+        drop(request.spawn(promise).named("a future"));
     });
     assert_eq!(report.failed[0].why, "deadlock: the future of a future is never woken");
 }
@@ -283,7 +293,8 @@ fn a_future_may_be_dropped_at_each_await() {
 /// Between the last poll of a future and its finish, as between those of a function, a cancel may come.
 #[test]
 fn a_cancel_may_come_between_call_and_finish() {
-    let both: [fn(&Request, Shared<bool>) -> Stage<()>; 2] = [
+    type Runs = fn(&Request, Shared<bool>) -> Stage<()>;
+    let both: [Runs; 2] = [
         |request, ran| request.supply(move || *ran.get() = true),
         |request, ran| {
             request.spawn(async move {
@@ -363,6 +374,18 @@ fn a_test_that_does_otherwise_is_told() {
 }
 
 #[test]
+fn an_order_that_fails_where_it_went_on_before_is_told() {
+    let runs = AtomicUsize::new(0);
+    let test = move |world: &World| {
+        assert!(runs.fetch_add(1, SeqCst) != 4, "the run of the third order");
+        let request = world.request("order");
+        [(); 3].map(|()| request.supply(|| ()))
+    };
+    let said = panics(|| drop(orders(test)));
+    assert!(said.ends_with("fails, and went on before: the test panicked: the run of the third order"), "{said}");
+}
+
+#[test]
 fn what_outlives_a_run_is_told() {
     let numbers = Arc::new(AtomicUsize::new(0));
     let test = move |world: &World| {
@@ -431,6 +454,109 @@ fn what_a_function_reads() {
     }
 }
 
+/// What orders come to, and why some fail: the same with and without what is left out, by any number of workers and by one.
+fn both_ways<A: cf::testing::Awaited>(test: impl Fn(&World) -> A + Clone + Send + Sync + 'static) -> (Vec<String>, Vec<String>) {
+    let told = |orders: Orders| {
+        let report = orders.failures(usize::MAX).as_found().time(LIMIT).run(test.clone());
+        assert!(report.whole, "{report}");
+        let mut why: Vec<String> = report.failed.into_iter().map(|failure| failure.why).collect();
+        why.sort();
+        why.dedup();
+        (report.ends.into_keys().collect(), why)
+    };
+    let all = told(Orders::new().all());
+    for orders in [Orders::new(), Orders::new().workers(1)] {
+        assert_eq!(told(orders), all);
+    }
+    all
+}
+
+/// The ends of three callers' calls, which fail once so many of them have come and the first was that of caller a.
+fn ends_unless_a_is_first(calls: usize) -> Vec<String> {
+    let (ends, why) = both_ways(move |world| {
+        let called = Shared::new(Vec::new());
+        for name in ["a", "b", "c"] {
+            let called = called.clone();
+            world.calls(name, move || called.get().push(name));
+        }
+        let sees = called.clone();
+        world.check("a isn't the first", move || sees.get().len() < calls || sees.get()[0] != "a");
+        world.end_is(move || called.get().concat());
+    });
+    assert_eq!(why, ["a isn't the first"]);
+    ends
+}
+
+/// An order that fails has no more moves, and the others of its place lead elsewhere.
+#[test]
+fn what_an_order_that_fails_takes_away() {
+    assert_eq!(ends_unless_a_is_first(1), ["bac", "bca", "cab", "cba"]);
+}
+
+/// All orders fail that begin as the first one does.
+#[test]
+fn what_an_order_that_fails_races_with() {
+    assert_eq!(ends_unless_a_is_first(2), ["bac", "bca", "cab", "cba"]);
+}
+
+/// A function that panics, one that waits for good, a stage that stays open and what has to hold at the end.
+#[test]
+fn orders_that_fail_in_other_ways() {
+    type Makes = fn(&World, Shared<bool>, &Request) -> Vec<Stage<()>>;
+    let tests: [(Makes, &str); 4] = [
+        (|_, is_set, request| vec![request.supply(move || assert!(*is_set.get(), "not yet"))], "panicked: not yet"),
+        (
+            |_, is_set, request| {
+                let promise = request.promise::<()>().named("a promise");
+                vec![request.supply(move || {
+                    let was_set = *is_set.get();
+                    if was_set {
+                        promise.complete(()).unwrap()
+                    } else {
+                        promise.wait().unwrap()
+                    }
+                })]
+            },
+            "waits for a promise",
+        ),
+        (
+            |_, is_set, request| {
+                let promise = request.promise().named("a promise");
+                let completes = promise.clone();
+                vec![
+                    promise,
+                    request.supply(move || {
+                        if *is_set.get() {
+                            completes.complete(()).unwrap()
+                        }
+                    }),
+                ]
+            },
+            "a promise is never settled",
+        ),
+        (
+            |world, is_set, request| {
+                let was_set = Shared::new(false);
+                let sees = was_set.clone();
+                world.at_end("it was set", move || *was_set.get());
+                vec![request.supply(move || *sees.get() = *is_set.get())]
+            },
+            "it was set",
+        ),
+    ];
+    for (make, wanted) in tests {
+        let (ends, why) = both_ways(move |world| {
+            let (request, is_set) = (world.request("order"), Shared::new(false));
+            let made = make(world, is_set.clone(), &request);
+            let sets = is_set.clone();
+            world.calls("sets", move || *sets.get() = true);
+            world.end_is(move || is_set.get().to_string());
+            made
+        });
+        assert!(ends == ["true"] && why.len() == 1 && why[0].contains(wanted), "{ends:?} {why:?}");
+    }
+}
+
 /// What arrives behind a change touches nothing of it, and would have come to something else before it.
 #[test]
 fn an_arrival_that_comes_too_late() {
@@ -461,12 +587,17 @@ fn a_relay_that_was_let_go() {
 
 #[test]
 fn what_a_check_reads() {
-    let report = orders(|world| {
-        let request = world.request("order");
-        let [one, two] = [(); 2].map(|()| world.arrives(request.promise(), ()));
-        world.check("one before two", move || one.is_settled() || !two.is_settled());
-    });
-    assert!(!report.failed.is_empty());
+    // The first one reads both from the start, and the second one reads stage one only once stage two is settled.
+    type Holds = fn(&Stage<()>, &Stage<()>) -> bool;
+    let checks: [Holds; 2] = [|one, two| one.is_settled() || !two.is_settled(), |one, two| !two.is_settled() || one.is_settled()];
+    for holds in checks {
+        let report = orders(move |world| {
+            let request = world.request("order");
+            let [one, two] = [(); 2].map(|()| world.arrives(request.promise(), ()));
+            world.check("one before two", move || holds(&one, &two));
+        });
+        assert!(!report.failed.is_empty());
+    }
 }
 
 #[test]
@@ -571,6 +702,7 @@ fn a_sound_service() {
 #[test]
 fn it_panics_with_the_story() {
     assert!(panics(|| every_order(charged)).contains("charged at most once: not so in this order of 6 moves"));
+    assert!(panics(|| Orders::new().most(0).every_order(|world| charged_twice(world, true))).starts_with("0 orders, which aren't all"));
     let bounded = Orders::new().whole().most(2);
     assert!(panics(|| bounded.every_order(|world| overdrawn(world, true))).contains("which aren't all"));
 }
