@@ -8,17 +8,22 @@ import socket
 import threading
 import time
 import weakref
-from typing import Any, Dict, List, NamedTuple, Optional, Sequence, Set, Tuple
+from typing import Any, Dict, List, Mapping, NamedTuple, Optional, Sequence, Set, Tuple
 from urllib.parse import quote, unquote
 
-from .rows import (FIRST, HEAD, Changes, Entry, Glance, Gone, Listed, Open, Opened, Put, Store, StoreError, Timer,
-                   Unknown, flow_of, in_a_row)
+from .rows import (FIRST, HEAD, Broken, Changes, Entry, Glance, Gone, Listed, Open, Opened, Pulse, Put, Row, Store,
+                   StoreError, Timer, Unknown, Wanted, flow_of, in_a_row)
 
 MOST_ENTRIES = 40  # in a put: a transaction of etcd has 128 operations at most by default
-MOST_READS = 100  # of keys, in a transaction
+MOST_READS = 100  # ranges that a transaction reads
+MOST_KEYS = 1000  # that one answer has, so that it comes in time
+MOST_WORDS = 64  # of a row that is read together with others
 MOST_GLANCES = 60  # in a transaction: each is two comparisons
 SECONDS = 3  # for an answer
 BETWEEN_CHECKS = 30.0  # seconds between two looks at the keys of open requests that a watch tells of
+OUT_OF_RANGE = 11  # the code of gRPC: a revision was compacted meanwhile, or the member doesn't know it yet
+# Has a member that lost its leader end a watch, as `WithRequireLeader` of etcd's own clients does.
+WITH_LEADER = {"Grpc-Metadata-hasleader": "true"}
 
 
 class Etcd(Store):
@@ -55,7 +60,8 @@ class Etcd(Store):
             told = answer.read()
             if answer.status == 200:
                 return json.loads(told)
-            if answer.status == 400:  # it is too large, say: asked again it is refused again
+            if answer.status == 400 and json.loads(told).get("code") != OUT_OF_RANGE:
+                # it is too large, say: asked again it is refused again
                 raise StoreError(f"etcd refuses it: {told[:200]!r}")
             why = f"{answer.status} {told[:200]!r}"
         except (OSError, http.client.HTTPException, ValueError) as lost:
@@ -65,7 +71,27 @@ class Etcd(Store):
         raise Unknown(f"etcd: {why}")
 
     def _get(self, key: bytes, end: Optional[bytes] = None, **more: Any) -> List[Tuple[bytes, bytes]]:
-        return _pairs(self._post("/v3/kv/range", _range(key, end, **more)))
+        return _pairs(self._keys(key, end, **more)[0])
+
+    def _keys(self, key: bytes, end: Optional[bytes] = None, **more: Any) -> Tuple[List[Any], int]:
+        """What stands in a range at one revision, and that one. It is read some keys at a time."""
+        found: List[Any] = []
+        while True:
+            told = self._post("/v3/kv/range", _range(key, end, limit=MOST_KEYS, **more))
+            found += told.get("kvs", [])
+            # (of a revision any member that knows it has the same answer)
+            more = {"revision": told["header"]["revision"], "serializable": True, **more}
+            if not told.get("more"):
+                return found, int(more["revision"])
+            key = base64.b64decode(found[-1]["key"]) + b"\0"
+
+    def _ranges(self, ranges: Sequence[Any], **more: Any) -> List[List[Any]]:
+        """What stands in each of these ranges. They are read some at a time."""
+        told: List[Any] = []
+        for k in range(0, len(ranges), MOST_READS):
+            answer = self._txn([], [{"request_range": {**it, **more}} for it in ranges[k:k + MOST_READS]])
+            told += [it["response_range"].get("kvs", []) for it in answer.get("responses", [])]
+        return told
 
     def _txn(self, compares: List[Any], success: List[Any], failure: Sequence[Any] = ()) -> Any:
         return self._post("/v3/kv/txn", {"compare": compares, "success": success, "failure": list(failure)})
@@ -81,12 +107,14 @@ class Etcd(Store):
         return found
 
     def find(self, name: str) -> Optional[Opened]:
-        found = self._post("/v3/kv/range", _range(_key("r", name))).get("kvs", [])
-        if not found:
-            return None
-        said = json.loads(base64.b64decode(found[0]["value"]))
-        self._born[name] = found[0]["create_revision"]
-        return Opened(name, said["plan"], said["opened"], int(self._born[name]))
+        return self._found(name, self._keys(_key("r", name))[0])
+
+    def _found(self, name: str, kvs: Sequence[Any]) -> Optional[Opened]:
+        for it in kvs:
+            said = json.loads(base64.b64decode(it["value"]))
+            self._born[name] = it["create_revision"]
+            return Opened(name, said["plan"], said["opened"], int(self._born[name]))
+        return None
 
     @staticmethod
     def _is_there(name: str, revision: str) -> Any:
@@ -119,9 +147,9 @@ class Etcd(Store):
         # Since a mark any member's answer will do. Of all, a request that a member that lags behind doesn't know yet
         # would seem closed.
         more = {} if mark is None else {"min_mod_revision": str(mark + 1), "serializable": True}
-        told = self._post("/v3/kv/range", _range(b"cf/o/", b"cf/o0", **more))
-        ends = {_name(base64.b64decode(it["key"])): int(base64.b64decode(it["value"])) for it in told.get("kvs", [])}
-        return ends, max(mark or 0, int(told["header"]["revision"]))  # (a member that lags behind has a lower one)
+        kvs, revision = self._keys(b"cf/o/", b"cf/o0", **more)
+        ends = {name: words for (name, _), words in _ends(kvs).items()}
+        return ends, max(mark or 0, revision)  # (a member that lags behind has a lower one)
 
     def listing(self) -> List[Listed]:
         ends = self.ends()
@@ -192,7 +220,7 @@ class Etcd(Store):
                          [{"request_range": _range(key, end)}])
         if told.get("succeeded"):
             return None
-        stands = _pairs(told["responses"][0]["response_range"])
+        stands = _pairs(told["responses"][0]["response_range"].get("kvs", []))
         if not stands:
             raise self._gone(put.request)
         return _entries(put.request, put.at, stands)
@@ -207,7 +235,29 @@ class Etcd(Store):
             if self._is_dropped(name, revision):
                 raise self._gone(name)
             return []
-        return _entries(name, at, _pairs(told["responses"][0]["response_range"]))
+        return _entries(name, at, _pairs(told["responses"][0]["response_range"].get("kvs", [])))
+
+    def read_rows(self, wanted: Sequence[Wanted]) -> Dict[str, Row]:
+        ranges = []
+        for it in wanted:
+            row = self._row("w", it.name, str(it.number))
+            ranges.append(_range(_key("r", it.name), keys_only=it.at > 0))
+            ranges.append(_range(_place(row, it.at), _after(row), limit=MOST_WORDS))
+        found, told = self._ranges(ranges, serializable=True), {}
+        for it, heads, kvs in zip(wanted, found[::2], found[1::2]):
+            with contextlib.suppress(Broken):
+                if len(kvs) < MOST_WORDS and [head["create_revision"] for head in heads] == [str(it.number)]:
+                    opened = None if it.at else self._found(it.name, heads)
+                    told[it.name] = Row(opened, _entries(it.name, it.at, _pairs(kvs)), {})
+        return told
+
+    def payloads_of(self, wanted: Mapping[Tuple[str, int], Sequence[int]]) -> Dict[str, Dict[int, bytes]]:
+        its = [(name, place, _place(self._row("p", name, str(number)), place))
+               for (name, number), places in wanted.items() for place in places]
+        told: Dict[str, Dict[int, bytes]] = {name: {} for name, _ in wanted}
+        for (name, place, _), kvs in zip(its, self._ranges([_range(key) for _, _, key in its], serializable=True)):
+            told[name].update((place, value) for _, value in _pairs(kvs))
+        return told
 
     def payloads(self, name: str, places: Sequence[int], number: int = 0) -> Dict[int, bytes]:
         revision = str(number or self._revision(name))
@@ -260,8 +310,7 @@ class Etcd(Store):
         self._post("/v3/kv/put", {"key": _b64(b"cf/b/%010x" % session), "value": ""})
 
     def beats(self) -> Dict[int, int]:
-        told = self._post("/v3/kv/range", _range(b"cf/b/", b"cf/b0", keys_only=True)).get("kvs", [])
-        return {int(base64.b64decode(it["key"])[5:], 16): int(it["version"]) for it in told}
+        return _beats(self._keys(b"cf/b/", b"cf/b0", keys_only=True)[0])
 
     def drop_beat(self, session: int) -> None:
         self._txn([], [{"request_delete_range": _range(b"cf/%s/%010x" % (kind, session))} for kind in (b"b", b"s")])
@@ -277,7 +326,15 @@ class Etcd(Store):
 
     def session_names(self, request: str = "", number: int = 0) -> Dict[int, str]:
         prefix = self._row("n", request, str(number or self._revision(request))) if request else b"cf/s/"
-        return {int(key[len(prefix):], 16): value.decode() for key, value in self._get(prefix, _after(prefix))}
+        return _session_names(prefix, self._get(prefix, _after(prefix)))
+
+    def pulse(self) -> Pulse:
+        told = self._txn([], [{"request_range": it} for it in (
+            _range(b"cf/b/", b"cf/b0", keys_only=True), _range(b"cf/s/", b"cf/s0"),
+            _range(b"cf/w/", b"cf/w0", count_only=True))])
+        beats, names, words = (it["response_range"] for it in told["responses"])
+        return Pulse(_beats(beats.get("kvs", [])), _session_names(b"cf/s/", _pairs(names.get("kvs", []))),
+                     int(words.get("count", 0)), self.now())
 
     # What lists ask for.
 
@@ -286,55 +343,53 @@ class Etcd(Store):
 
     def _overview(self) -> Tuple[List[Open], int, Dict[str, str]]:
         """All open requests; the revision of that; and by their names those of the keys that say that they are open."""
-        told = self._post("/v3/kv/range", _range(b"cf/o/", b"cf/o0"))
-        ends = _ends(told)
+        kvs, revision = self._keys(b"cf/o/", b"cf/o0")
+        ends = _ends(kvs)
         self._heads = {key: it for key, it in self._heads.items() if key in ends}
         opened = self._opens(ends, _glances_of(self._get(b"cf/g/", b"cf/g0")))
-        return opened, int(told["header"]["revision"]), dict(ends.keys())
+        return opened, revision, dict(ends.keys())
 
     def changes(self, mark: Optional["_Mark"]) -> Tuple[Changes, "_Mark"]:
         if mark is None:
             first = self._first()
             if first is not None:
                 return first
-        before: Dict[str, str] = {} if mark is None else mark.born
         if mark is None or mark.watch is None:
             opened, revision, born = self._overview()
-            return Changes(opened, {}, [it for it in before if it not in born]), self._marked(revision, born)
+            before: Dict[str, str] = {} if mark is None else mark.born
+            return (Changes(opened, {}, [it for it in before if it not in born]),
+                    _Mark(revision, born, self._watching_from(revision), time.monotonic()))
         if not mark.watch.is_lost and time.monotonic() < mark.checked + BETWEEN_CHECKS:
-            return self._watched(mark)
+            return self._watched(mark, mark.watch)
         try:
-            checked = self._checked(mark)
+            return self._checked(mark, mark.watch)
         except Unknown:
             if mark.watch.is_lost:
                 raise
-            return self._watched(mark._replace(checked=time.monotonic()))  # (it tells still; keys are for later)
-        return checked if checked is not None else self.changes(mark._replace(watch=None))
+            # (it tells still; keys are for later)
+            return self._watched(mark._replace(checked=time.monotonic()), mark.watch)
 
     def _first(self) -> "Optional[Tuple[Changes, _Mark]]":
         """The first open requests, by their keys, where there are many more."""
         told = self._post("/v3/kv/range", _range(b"cf/o/", b"cf/o0", limit=FIRST))
-        ends, many = _ends(told), int(told.get("count", 0))
+        ends, many = _ends(told.get("kvs", [])), int(told.get("count", 0))
         if many <= 2 * FIRST:
             return None
         return (Changes(self._opens(ends, self._glances([name for name, _ in ends])), {}, [], many),
                 _Mark(0, dict(ends.keys()), None, 0.0))
 
-    def _marked(self, revision: int, born: Dict[str, str], watch: "Optional[_Watch]" = None) -> "_Mark":
-        if watch is None or watch.is_lost:
-            if watch is not None:
-                self._turn += 1  # (the next member)
-            watch = _Watch(*self._address(), revision)
-            self._watches.add(watch)
-        return _Mark(revision, born, watch, time.monotonic())
+    def _watching_from(self, revision: int) -> "_Watch":
+        """A watch that tells what comes behind a revision."""
+        watch = _Watch(*self._address(), revision)
+        self._watches.add(watch)
+        return watch
 
-    def _watched(self, mark: "_Mark") -> "Tuple[Changes, _Mark]":
+    def _watched(self, mark: "_Mark", watch: "_Watch") -> "Tuple[Changes, _Mark]":
         """What is other by what the watch has told since."""
-        assert mark.watch is not None
         ends: Dict[str, Tuple[str, int]] = {}
         gone: Set[str] = set()
-        revision = mark.revision
-        for it in mark.watch.taken():
+        revision, events = mark.revision, watch.events()
+        for it in events:
             key = it["kv"]
             if int(key["mod_revision"]) <= mark.revision:  # it is known by a check
                 continue
@@ -345,21 +400,22 @@ class Etcd(Store):
                 ends[name] = (key["create_revision"], int(base64.b64decode(key["value"])))
                 gone.discard(name)
         changes, born = self._changed({(name, at): words for name, (at, words) in ends.items()}, gone, mark.born)
+        watch.forget(len(events))  # (last: where a request can't be asked for, all are told with the next call)
         return changes, mark._replace(revision=revision, born=born)
 
-    def _checked(self, mark: "_Mark") -> "Optional[Tuple[Changes, _Mark]]":
-        """The same by what stands in keys: a watch may be silent since its member is cut off. None where a request was
-        dropped that was open, since no key tells so."""
-        since = {"min_mod_revision": str(mark.revision + 1)}
-        told = self._txn([], [{"request_range": it} for it in (
-            _range(b"cf/o/", b"cf/o0", **since), _range(b"cf/c/", b"cf/c0", keys_only=True, **since),
-            _range(b"cf/o/", b"cf/o0", count_only=True))])
-        ends, closed, many = (it["response_range"] for it in told["responses"])
-        gone = {_name(base64.b64decode(it["key"])) for it in closed.get("kvs", [])}
-        changes, born = self._changed(_ends(ends), gone, mark.born)
-        if len(born) != int(many.get("count", 0)):
-            return None
-        return changes, self._marked(int(told["header"]["revision"]), born, mark.watch)
+    def _checked(self, mark: "_Mark", watch: "_Watch") -> "Tuple[Changes, _Mark]":
+        """The same by all keys. The watch may be cut off, also in silence: then another takes its place."""
+        kvs, revision = self._keys(b"cf/o/", b"cf/o0")
+        names = {name for name, _ in _ends(kvs)}
+        later = _ends([it for it in kvs if int(it["mod_revision"]) > mark.revision])
+        changes, born = self._changed(later, mark.born.keys() - names, mark.born)
+        is_silent = watch.told < watch.owed
+        watch.owed = mark.revision + 1 if later or changes.gone else 0
+        if watch.is_lost or is_silent:
+            watch.end()
+            self._turn += 1  # (the next member)
+            watch = self._watching_from(revision)
+        return changes, _Mark(revision, born, watch, time.monotonic())
 
     def _changed(self, ends: Dict[Tuple[str, str], int], gone: Set[str],
                  before: Dict[str, str]) -> Tuple[Changes, Dict[str, str]]:
@@ -367,19 +423,16 @@ class Etcd(Store):
         if not ends and not gone:
             return Changes([], {}, []), before
         born = {**{name: at for name, at in before.items() if name not in gone}, **dict(ends.keys())}
+        opened = self._opens({key: words for key, words in ends.items() if before.get(key[0]) != key[1]}, {})
         for name in gone & before.keys():
             self._heads.pop((name, before[name]), None)
-        opened = self._opens({key: words for key, words in ends.items() if before.get(key[0]) != key[1]}, {})
         return Changes(opened, {name: words for (name, _), words in ends.items()},
                        [name for name in gone if name in before and name not in born]), born
 
     def _glances(self, names: List[str]) -> Dict[Tuple[str, int], Glance]:
         """The glances at these requests, by their names and numbers."""
-        pairs = []
-        for k in range(0, len(names), MOST_READS):
-            told = self._txn([], [{"request_range": _range(_key("g", name))} for name in names[k:k + MOST_READS]])
-            pairs += [it for found in told.get("responses", []) for it in _pairs(found["response_range"])]
-        return _glances_of(pairs)
+        found = self._ranges([_range(_key("g", name)) for name in names], serializable=True)
+        return _glances_of([it for kvs in found for it in _pairs(kvs)])
 
     def _opens(self, ends: Dict[Tuple[str, str], int], glances: Dict[Tuple[str, int], Glance]) -> List[Open]:
         """What lists tell of these requests, as far as they are there."""
@@ -390,14 +443,12 @@ class Etcd(Store):
                 for name, words, number, at, flow in opened]
 
     def _read_heads(self, keys: List[Tuple[str, str]]) -> None:
-        for k in range(0, len(keys), MOST_READS):
-            some = keys[k:k + MOST_READS]
-            told = self._txn([], [{"request_range": _range(_key("r", name))} for name, _ in some])
-            for key, it in zip(some, told.get("responses", [])):
-                for found in it["response_range"].get("kvs", []):
-                    said = json.loads(base64.b64decode(found["value"]))
-                    self._heads[key] = (int(found["create_revision"]), float(said["opened"]),
-                                        flow_of(str(said["plan"])[:HEAD]))
+        # (by a majority: the member of the watch may know a request that others don't know yet)
+        for key, kvs in zip(keys, self._ranges([_range(_key("r", name)) for name, _ in keys])):
+            for found in kvs:
+                said = json.loads(base64.b64decode(found["value"]))
+                self._heads[key] = (int(found["create_revision"]), float(said["opened"]),
+                                    flow_of(str(said["plan"])[:HEAD]))
 
     def keep_glances(self, glances: Sequence[Glance]) -> None:
         for k in range(0, len(glances), MOST_GLANCES):
@@ -446,11 +497,18 @@ class Etcd(Store):
 
 
 class _Watch:
-    """What a member tells of keys of open requests, from behind a revision on. A thread reads it."""
+    """What a member tells of keys of open requests, from behind a revision on. A thread reads it.
+
+    Attributes:
+        is_lost: Whether it tells nothing any more: the connection was cut, the member has no leader, or the revision
+            is compacted.
+        told: The revision up to which it has told.
+        owed: The revision that it has to tell until keys are looked at again, since by now they show a later one. A
+            connection that is cut off in silence doesn't."""
 
     def __init__(self, host: str, port: int, revision: int) -> None:
-        self.is_lost = False
-        self._told: List[Any] = []
+        self.is_lost, self.told, self.owed = False, revision, 0
+        self._events: List[Any] = []
         self._lock = threading.Lock()
         self._asked = {**_range(b"cf/o/", b"cf/o0"), "start_revision": str(revision + 1)}
         self._connection = http.client.HTTPConnection(host, port, timeout=SECONDS)
@@ -465,13 +523,17 @@ class _Watch:
             self._connection.connect()
             self._sock = self._connection.sock
             self._sock.settimeout(None)
-            self._connection.request("POST", "/v3/watch", json.dumps({"create_request": self._asked}))
+            if self.is_lost:  # it was ended meanwhile
+                return
+            self._connection.request("POST", "/v3/watch", json.dumps({"create_request": self._asked}), WITH_LEADER)
             with contextlib.closing(self._connection.getresponse()) as answer:
                 result: Any = {}
                 while not result.get("canceled"):  # (it is, where the revision is compacted)
                     result = json.loads(answer.readline())["result"]
+                    events = result.get("events", [])
                     with self._lock:
-                        self._told += result.get("events", [])
+                        self._events += events
+                    self.told = max([self.told, *(int(it["kv"]["mod_revision"]) for it in events)])
         except (OSError, http.client.HTTPException, ValueError, KeyError, AttributeError):
             pass
         finally:
@@ -480,14 +542,19 @@ class _Watch:
             if self._sock is not None:
                 self._sock.close()
 
-    def taken(self) -> List[Any]:
-        """What it has told since it was asked last."""
+    def events(self) -> List[Any]:
+        """What it has told and isn't forgotten."""
         with self._lock:
-            told, self._told = self._told, []
-        return told
+            return self._events[:]
+
+    def forget(self, many: int) -> None:
+        """Forgets the first of these."""
+        with self._lock:
+            del self._events[:many]
 
     def end(self) -> None:
         """Has the thread end."""
+        self.is_lost = True
         if self._sock is not None:
             with contextlib.suppress(OSError):
                 self._sock.shutdown(socket.SHUT_RDWR)
@@ -542,9 +609,17 @@ def _absent(key: bytes) -> Any:
     return {"key": _b64(key), "target": "VERSION", "version": 0}
 
 
-def _pairs(told: Any) -> List[Tuple[bytes, bytes]]:
+def _pairs(kvs: Sequence[Any]) -> List[Tuple[bytes, bytes]]:
     """The keys and values of a range."""
-    return [(base64.b64decode(it["key"]), base64.b64decode(it.get("value", ""))) for it in told.get("kvs", [])]
+    return [(base64.b64decode(it["key"]), base64.b64decode(it.get("value", ""))) for it in kvs]
+
+
+def _beats(kvs: Sequence[Any]) -> Dict[int, int]:
+    return {int(base64.b64decode(it["key"])[5:], 16): int(it["version"]) for it in kvs}
+
+
+def _session_names(prefix: bytes, pairs: Sequence[Tuple[bytes, bytes]]) -> Dict[int, str]:
+    return {int(key[len(prefix):], 16): value.decode() for key, value in pairs}
 
 
 def _glances_of(pairs: Sequence[Tuple[bytes, bytes]]) -> Dict[Tuple[str, int], Glance]:
@@ -555,10 +630,10 @@ def _glances_of(pairs: Sequence[Tuple[bytes, bytes]]) -> Dict[Tuple[str, int], G
     return told
 
 
-def _ends(told: Any) -> Dict[Tuple[str, str], int]:
+def _ends(kvs: Sequence[Any]) -> Dict[Tuple[str, str], int]:
     """How many words open requests have, by their names and the revisions of the keys that say that they are open."""
     return {(_name(base64.b64decode(it["key"])), it["create_revision"]): int(base64.b64decode(it["value"]))
-            for it in told.get("kvs", [])}
+            for it in kvs}
 
 
 def _entries(name: str, at: int, pairs: Sequence[Tuple[bytes, bytes]]) -> List[Entry]:

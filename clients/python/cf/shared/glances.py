@@ -5,7 +5,7 @@ row. A glance is JSON, since readers of other versions take what they know of it
 """
 import functools
 import json
-from typing import Any, Dict, List, NamedTuple, Optional, Tuple
+from typing import Any, Dict, List, NamedTuple, Optional, Set, Tuple
 
 from ..service.words import IS_CLAIMED, IS_LINKED, IS_PENDING, IS_READY, IS_SETTLED
 from .rows import Glance
@@ -67,11 +67,8 @@ class Seen(NamedTuple):
 
 def seen_of(view: RowView, now: float, before: Optional[Seen]) -> Seen:
     """What a view shows. What already was so in an earlier one is so since then."""
-    order = [number for how in (IS_CLAIMED, IS_READY, IS_LINKED, IS_PENDING) for number, kind in enumerate(view.kinds)
-             if kind == how]
-    claims = list(view.open_claims().items())[:MOST_TOLD]
-    ready = sorted(view.ready)
-    view.look_up({*order[:MOST_NAMED], *ready, *(stage for stage, _ in claims)})
+    order, claims, ready = _order(view), _claims(view), sorted(view.ready)
+    view.look_up(told_of(view))
     view.look_up({int(view.said(stage).get("again", stage)) for stage in [*order[:1], *ready]})
     known = {(it.stage, it.session): it.since for it in (before.claims if before else [])}
     lasting = {(it.function, it.version): it.since for it in (before.ready if before else [])}
@@ -86,6 +83,21 @@ def seen_of(view: RowView, now: float, before: Optional[Seen]) -> Seen:
          for stage, session in claims],
         [Queue(*said, many, lasting.get(said, now)) for said, many in sorted(functions.items())[:MOST_TOLD]],
         max([0, *(_tries(view, number) for number in order[:1])]), now if view.seen else view.opened.opened)
+
+
+def told_of(view: RowView) -> Set[int]:
+    """The stages that a glance says something of."""
+    return {*_order(view)[:MOST_NAMED], *view.ready, *(stage for stage, _ in _claims(view))}
+
+
+def _order(view: RowView) -> List[int]:
+    """The stages that aren't settled, those at work before those that are ready."""
+    return [number for how in (IS_CLAIMED, IS_READY, IS_LINKED, IS_PENDING) for number, kind in enumerate(view.kinds)
+            if kind == how]
+
+
+def _claims(view: RowView) -> List[Tuple[int, int]]:
+    return list(view.open_claims().items())[:MOST_TOLD]
 
 
 def _called(view: RowView, stage: int) -> Tuple[str, int]:

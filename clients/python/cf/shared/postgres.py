@@ -4,10 +4,11 @@ import importlib
 import select
 import threading
 import time
-from typing import Any, Dict, Generator, Iterator, List, NoReturn, Optional, Sequence, Tuple
+from typing import Any, Dict, Generator, Iterator, List, Mapping, NoReturn, Optional, Sequence, Tuple
 
-from .rows import FIRST, Entry, Glance, Opened, Put, StoreError, Timer, Transaction, Unknown, in_a_row
-from .tables import TableStore
+from .rows import (FIRST, Broken, Entry, Glance, Opened, Pulse, Put, Row, StoreError, Timer, Transaction, Unknown,
+                   Wanted, in_a_row)
+from .tables import ANEW, COLUMNS, GLANCED, TableStore, _Mark, _opens, _Other
 
 psycopg2: Any = importlib.import_module("psycopg2")  # (its types are installed on some machines only)
 errors: Any = importlib.import_module("psycopg2.errors")
@@ -28,6 +29,7 @@ SCHEMA = """
         primary key (request, session));
 """
 NOW = "extract(epoch from clock_timestamp())::double precision"
+WORDS_PUT = "pg_stat_get_tuples_inserted('cf_word'::regclass)"
 MARK = "select pg_snapshot_xmin(pg_current_snapshot())::text::bigint"
 SET_UP = 6_318_042  # the number of the lock under which tables are made
 # With the request's number, that of the lock under which it is closed and opened again. A statement of its own takes
@@ -45,6 +47,20 @@ PREPARED = """
 HAS = "(select coalesce(max(at) + 1, 0) from cf_word where request = id) = %s"  # so many words
 PUT_ALL = ("insert into cf_word select id, at, word, token, payload "
            "from (values %s) as v(request, at, word, token, payload) join cf_request on id = request")
+SMALL = 512  # bytes of a payload that comes along with its word
+ROWS = ("select r.id, null::int, null::bigint, null::bigint, null::bytea, name, opened, "
+        "case when v.at = 0 then plan end from unnest(%s::bigint[], %s::int[]) as v(id, at) "
+        "join cf_request r on r.id = v.id union all "
+        f"select request, w.at, word, token, case when octet_length(payload) <= {SMALL} then payload end, null, null, "
+        "null from unnest(%s::bigint[], %s::int[]) as v(id, at) join cf_word w on request = v.id and w.at >= v.at")
+# What is other in a list since a mark of words and the last number that was told anew.
+OTHER = ("with mark as (select %s::xid8 as at), unclosed as materialized (select id, made_by from cf_request "
+         "where closed is null), anew as (select id from unclosed where made_by >= (select at from mark) union "
+         f"(select id from unclosed where id > %s order by id limit {ANEW})) "
+         f"select ({MARK}), null, null::double precision, null::int, null, null::int, string_agg(id::text, ','), "
+         "'open' from unclosed union all select request, null, null, max(at) + 1, null, null, null, 'longer' from cf_word "
+         "where made_by >= (select at from mark) group by request union all "
+         f"select {COLUMNS}, 'told' from anew, {GLANCED} where r.id = anew.id")
 SAFE = {"fsync": ("on",), "full_page_writes": ("on",), "transaction_read_only": ("off",)}
 # A network that lets nothing through is told after 20 s: else a call would wait for many minutes.
 NOTICES_SILENCE = {"tcp_user_timeout": 20_000, "keepalives_idle": 10, "keepalives_interval": 5, "keepalives_count": 2}
@@ -62,10 +78,10 @@ class Postgres(TableStore):
 
     is_transactional = True
     VALUE, HAS_PART = "%s", "position(%s in name) > 0"
-    OPEN = "select string_agg(id::text, ',') from cf_request where closed is null"
     # (Materialized, it goes through the open ones alone, and not through all by their names.)
     FIRST_OPEN = ("with opened as materialized (select id, name from cf_request where closed is null) "
-                  f"select id, (select count(*) from opened) from opened order by name collate \"C\" limit {FIRST}")
+                  "select id, (select count(*) from opened) as many from opened "
+                  f"order by name collate \"C\" limit {FIRST}")
 
     def __init__(self, address: str, is_unsafe: bool = False) -> None:
         super().__init__()
@@ -166,14 +182,21 @@ class Postgres(TableStore):
                 told[str(name)] = max(int(many), told.get(str(name), 0))
         return told, mark
 
-    def _longer(self, words: Optional[int]) -> Tuple[Optional[Dict[int, int]], int]:
-        if words is None:
-            (at,), = self._ask(MARK)
-            return None, int(at)
-        rows = self._ask(f"select null, ({MARK}) union all select request, max(at) + 1 from cf_word "
-                         "where made_by >= %s::text::xid8 group by request", str(words))
-        told = {number: int(many) for number, many in rows}
-        return {int(number): many for number, many in told.items() if number is not None}, told[None]
+    def _mark(self) -> int:
+        return int(self._ask(MARK)[0][0])
+
+    def _other(self, mark: _Mark) -> _Other:
+        longer, numbers, told, at = {}, set(), [], 0
+        for number, name, opened, many, head, words, said, kind in self._ask(OTHER, str(mark.words), mark.turn):
+            if kind == "open":
+                at, numbers = int(number), {int(it) for it in (said or "").split(",") if it}
+            elif kind == "longer":
+                longer[int(number)] = int(many)
+            else:
+                told.append((number, name, opened, many, head, words, said))
+        opened = _opens(told)
+        missed = numbers - mark.names.keys() - {it.number for it in opened}
+        return _Other(longer, at, numbers, opened + self._opened(list(missed)), self._anew(numbers, mark.turn)[1])
 
     def end(self, name: str, at: int, number: int = 0) -> bool:
         number = number or self._id(name)
@@ -263,6 +286,47 @@ class Postgres(TableStore):
         if not rows:
             raise self._gone(name)
         return {int(place): bytes(payload) for place, payload in rows if place is not None}
+
+    # What pages ask for, each by one statement: while a machine is busy, what takes long is the next turn.
+
+    def read_rows(self, wanted: Sequence[Wanted]) -> Dict[str, Row]:
+        its = [it.number for it in wanted], [it.at for it in wanted]
+        heads: Dict[int, Optional[Opened]] = {}
+        words: Dict[int, List[Tuple[Any, ...]]] = {it.number: [] for it in wanted}
+        payloads: Dict[int, Dict[int, bytes]] = {it.number: {} for it in wanted}
+        for number, at, word, token, payload, name, opened, plan in self._ask(ROWS, *its, *its):
+            if at is None:
+                heads[number] = None if plan is None else Opened(str(name), str(plan), float(opened), int(number))
+            else:
+                words[number].append((at, word, token))
+                payloads[number].update({} if payload is None else {int(at) + 1: bytes(payload)})
+        told = {}
+        for it in wanted:
+            with contextlib.suppress(Broken):
+                if it.number in heads:
+                    entries = in_a_row(it.name, it.at, sorted(words[it.number]))
+                    told[it.name] = Row(heads[it.number], entries, payloads[it.number])
+        return told
+
+    def payloads_of(self, wanted: Mapping[Tuple[str, int], Sequence[int]]) -> Dict[str, Dict[int, bytes]]:
+        its = [(number, place - 1) for (_, number), places in wanted.items() for place in places]
+        names = {number: name for name, number in wanted}
+        told: Dict[str, Dict[int, bytes]] = {name: {} for name in names.values()}
+        for number, place, payload in self._ask(
+                "select request, w.at + 1, payload from unnest(%s::bigint[], %s::int[]) as v(id, at) "
+                "join cf_word w on request = v.id and w.at = v.at where payload is not null",
+                [number for number, _ in its], [at for _, at in its]):
+            told[names[number]][int(place)] = bytes(payload)
+        return told
+
+    def pulse(self) -> Pulse:
+        rows = self._ask("select session, count, null from cf_beat union all "
+                         "select session, null, name from cf_name where request = 0 union all "
+                         f"select null, ({WORDS_PUT}), ({NOW})::text")
+        beats = {int(session): int(count) for session, count, _ in rows if session is not None and count is not None}
+        names = {int(session): str(name) for session, count, name in rows if session is not None and count is None}
+        (put, now), = [(int(count), float(at)) for session, count, at in rows if session is None]
+        return Pulse(beats, names, put, now)
 
     # Waking.
 
@@ -360,8 +424,7 @@ class Postgres(TableStore):
                       *(it for row in rows for it in row))
 
     def words_put(self) -> Optional[int]:
-        rows = self._ask("select n_tup_ins from pg_stat_user_tables where relid = 'cf_word'::regclass")
-        return int(rows[0][0] or 0) if rows else None
+        return int(self._ask(f"select {WORDS_PUT}")[0][0])
 
     # A function's own transaction.
 

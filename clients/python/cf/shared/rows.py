@@ -5,6 +5,7 @@ made again after a lost reply is known by what stands at its place. A payload is
 transaction, and named by the word's place, counted from 1: no word names what isn't there.
 """
 import abc
+import contextlib
 import functools
 import json
 import re
@@ -103,6 +104,14 @@ class Put(NamedTuple):
     number: int = 0
 
 
+class Wanted(NamedTuple):
+    """Which row is read: that of the request of a name and number, behind `at` words."""
+
+    name: str
+    number: int
+    at: int
+
+
 class Opened(NamedTuple):
     """A request as it was opened, `opened` being seconds of the engine's clock since 1970. If it is dropped and
     another one of its name is opened, that has another `number`."""
@@ -111,6 +120,28 @@ class Opened(NamedTuple):
     plan: str
     opened: float
     number: int
+
+
+class Row(NamedTuple):
+    """What was read of a row.
+
+    Attributes:
+        opened: The request, or None where the row was read behind words.
+        entries: Those that stand there.
+        payloads: Those that came along, by their places: some, or none."""
+
+    opened: Optional[Opened]
+    entries: List[Entry]
+    payloads: Mapping[int, bytes]
+
+
+class Pulse(NamedTuple):
+    """What `beats`, `session_names`, `words_put` and `now` give."""
+
+    beats: Dict[int, int]
+    names: Dict[int, str]
+    put: Optional[int]
+    now: float
 
 
 class Listed(NamedTuple):
@@ -306,6 +337,30 @@ class Store(abc.ABC):
         opened = self.overview()
         names = {it.name for it in opened}
         return Changes(opened, {}, [name for name in mark or () if name not in names]), names
+
+    def read_rows(self, wanted: Sequence[Wanted]) -> Dict[str, Row]:
+        """Several rows at once, by their names, of which each is wanted once. It leaves out requests that aren't there
+        and rows that aren't in order, and may leave out long rows: `find` and `read` say what is wrong."""
+        told = {}
+        for it in wanted:
+            with contextlib.suppress(Broken):
+                opened = None if it.at else self.find(it.name)
+                if it.at or opened is not None and opened.number == it.number:
+                    told[it.name] = Row(opened, self.read(it.name, it.at, it.number), {})
+        return told
+
+    def payloads_of(self, wanted: Mapping[Tuple[str, int], Sequence[int]]) -> Dict[str, Dict[int, bytes]]:
+        """What `payloads` gives for several requests, by their names and numbers; by their names. Requests that aren't
+        there may be left out."""
+        told = {}
+        for (name, number), places in wanted.items():
+            with contextlib.suppress(Gone):
+                told[name] = self.payloads(name, places, number)
+        return told
+
+    def pulse(self) -> Pulse:
+        """Who is there, how many words were put, and the engine's clock, at once."""
+        return Pulse(self.beats(), self.session_names(), self.words_put(), self.now())
 
     def keep_glances(self, glances: Sequence[Glance]) -> None:
         """Keeps these, each in the place of the one before. Those of requests that aren't open are left out."""
@@ -637,6 +692,15 @@ class Grouped(Store):
 
     def changes(self, mark: Any) -> Tuple[Changes, Any]:
         return self._store.changes(mark)
+
+    def read_rows(self, wanted: Sequence[Wanted]) -> Dict[str, Row]:
+        return self._store.read_rows(wanted)
+
+    def payloads_of(self, wanted: Mapping[Tuple[str, int], Sequence[int]]) -> Dict[str, Dict[int, bytes]]:
+        return self._store.payloads_of(wanted)
+
+    def pulse(self) -> Pulse:
+        return self._store.pulse()
 
     def keep_glances(self, glances: Sequence[Glance]) -> None:
         self._store.keep_glances(glances)

@@ -8,7 +8,7 @@ import time
 from typing import Any, Callable, Dict, Generator, List, Optional, Sequence, Tuple, TypeVar
 
 from .rows import FIRST, Broken, Entry, Glance, Opened, Put, StoreError, Timer, Transaction, Unknown, in_a_row
-from .tables import TableStore
+from .tables import TableStore, _Mark, _Other
 
 T = TypeVar("T")
 SCHEMA = """
@@ -49,9 +49,8 @@ class SQLite(TableStore):
 
     is_transactional = locks_out = True
     VALUE, HAS_PART = "?", "instr(name, ?) > 0"
-    OPEN = "select group_concat(id) from cf_request where closed is null"
     # (The limit has it go through the open ones alone, and not through all by their names.)
-    FIRST_OPEN = ("select id, (select count(*) from cf_request where closed is null) from "
+    FIRST_OPEN = ("select id, (select count(*) from cf_request where closed is null) as many from "
                   f"(select id, name from cf_request where closed is null limit -1) order by name limit {FIRST}")
 
     def __init__(self, path: str, is_unsafe: bool = False) -> None:
@@ -147,12 +146,19 @@ class SQLite(TableStore):
                            "where n > ? and closed is null group by request", mark[0])
         return {**{str(name): 0 for name, in opened}, **{str(name): int(many) for name, many in longer}}, at
 
-    def _longer(self, words: Optional[int]) -> Tuple[Optional[Dict[int, int]], int]:
-        (at,), = self._ask("select coalesce(max(n), 0) from cf_word")
-        if words is None or at < words:
-            return None, int(at)
-        rows = self._ask("select request, max(at) + 1 from cf_word where n > ? group by request", words)
-        return {int(number): int(many) for number, many in rows}, int(at)
+    def _mark(self) -> int:
+        return int(self._ask("select coalesce(max(n), 0) from cf_word")[0][0])
+
+    def _other(self, mark: _Mark) -> Optional[_Other]:
+        # The words first: what comes between is told once more.
+        at, words = self._mark(), mark.words
+        if at < words:
+            return None
+        longer = self._ask("select request, max(at) + 1 from cf_word where n > ? group by request", words)
+        numbers = {int(number) for number, in self._ask("select id from cf_request where closed is null")}
+        again, turn = self._anew(numbers, mark.turn)
+        opened = self._opened([*(numbers - mark.names.keys()), *again])
+        return _Other({int(number): int(many) for number, many in longer}, at, numbers, opened, turn)
 
     def end(self, name: str, at: int, number: int = 0) -> bool:
         number = number or self._id(name)
@@ -304,7 +310,7 @@ class SQLite(TableStore):
                                                 "where id = ? and closed is null", rows))
 
     def words_put(self) -> Optional[int]:
-        return int(self._ask("select coalesce(max(n), 0) from cf_word")[0][0])
+        return self._mark()
 
     # A function's own transaction.
 

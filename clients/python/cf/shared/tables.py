@@ -1,14 +1,17 @@
 """What stores whose rows are in SQL tables have in common: requests and their numbers, and what lists ask for."""
 import abc
-from typing import Any, Dict, Iterable, List, Mapping, NamedTuple, Optional, Sequence, Tuple
+import heapq
+from typing import Any, Dict, Iterable, List, Mapping, NamedTuple, Optional, Sequence, Set, Tuple
 
 from .rows import FIRST, HEAD, Changes, Glance, Gone, Listed, Open, Opened, Put, Store, flow_of
 
 ANEW = 200  # requests that are told anew each time
 MOST_VALUES = 500  # in a statement
-OVERVIEW = ("select r.id, r.name, r.opened, (select max(at) + 1 from cf_word where request = r.id), "
-            f"substr(r.plan, 1, {HEAD}), g.words, g.said from cf_request r left join cf_glance g on g.request = r.id "
-            "where r.closed is null")
+COLUMNS = ("r.id, r.name, r.opened, (select max(at) + 1 from cf_word where request = r.id), "
+           f"substr(r.plan, 1, {HEAD}), g.words, g.said")
+GLANCED = "cf_request r left join cf_glance g on g.request = r.id"
+OVERVIEW = f"select {COLUMNS} from {GLANCED} where r.closed is null"
+FIRST_OPENED = f"select {COLUMNS}, f.many from ({{}}) f, {GLANCED} where r.id = f.id"
 
 
 class _Mark(NamedTuple):
@@ -17,6 +20,18 @@ class _Mark(NamedTuple):
 
     words: Any
     names: Mapping[int, str]
+    turn: int
+
+
+class _Other(NamedTuple):
+    """What is other in a list: how many words those requests have, by number, to which some were put; the mark of the
+    words until now; the numbers of all that are open; those that are new, and some that are told anew; and the last of
+    these."""
+
+    longer: Mapping[int, int]
+    words: Any
+    numbers: Set[int]
+    opened: List[Open]
     turn: int
 
 
@@ -29,8 +44,7 @@ class TableStore(Store):
 
     VALUE: str  # what stands for a value in a statement
     HAS_PART: str  # whether a name has a part, which is a value
-    OPEN: str  # asks for the numbers of all open requests, with commas between them
-    FIRST_OPEN: str  # asks for those of the first ones by name, each with how many there are in all
+    FIRST_OPEN: str  # asks for the numbers of the first open requests by name, each with how many there are in all
 
     def __init__(self) -> None:
         self._ids: Dict[str, int] = {}
@@ -83,33 +97,38 @@ class TableStore(Store):
 
     def changes(self, mark: Optional[_Mark]) -> Tuple[Changes, _Mark]:
         if mark is None:
-            first = self._ask(self.FIRST_OPEN)
-            if first and int(first[0][1]) > 2 * FIRST:
-                opened = self._opened([number for number, _ in first])
-                return (Changes(opened, {}, [], int(first[0][1])),
+            first = self._ask(FIRST_OPENED.format(self.FIRST_OPEN))
+            if first and int(first[0][-1]) > 2 * FIRST:
+                opened = _opens(row[:-1] for row in first)
+                return (Changes(opened, {}, [], int(first[0][-1])),
                         _Mark(None, {it.number: it.name for it in opened}, 0))
-        # The words first: what comes between is told once more.
-        longer, words = self._longer(None if mark is None else mark.words)
         before: Mapping[int, str] = {} if mark is None else mark.names
-        if mark is None or longer is None:
+        other = None if mark is None or mark.words is None else self._other(mark)
+        if mark is None or other is None:
+            words = self._mark()  # (first: what comes between is told once more)
             opened = self.overview()
             names = {it.number: it.name for it in opened}
             return Changes(opened, {}, _gone(before, before.keys() - names, names)), _Mark(words, names, 0)
-        numbers = {int(it) for it in str(self._ask(self.OPEN)[0][0] or "").split(",") if it}
-        new = numbers - before.keys()
-        # (some are told anew each time, so that a list which misses something misses it for seconds only)
-        again = sorted(it for it in numbers if it > mark.turn)[:ANEW]
-        opened = self._opened([*new, *again])
-        names = {number: name for number, name in before.items() if number in numbers}
-        names.update((it.number, it.name) for it in opened)
-        many = {names[number]: words for number, words in longer.items() if number in names}
-        return (Changes(opened, many, _gone(before, before.keys() - numbers, names)),
-                _Mark(words, names, again[-1] if len(again) == ANEW else 0))
+        names = {number: name for number, name in before.items() if number in other.numbers}
+        names.update((it.number, it.name) for it in other.opened)
+        many = {names[number]: words for number, words in other.longer.items() if number in names}
+        return (Changes(other.opened, many, _gone(before, before.keys() - other.numbers, names)),
+                _Mark(other.words, names, other.turn))
+
+    @staticmethod
+    def _anew(numbers: Iterable[int], turn: int) -> Tuple[List[int], int]:
+        """Those of all open requests that are told anew: some each time, so that a list which misses something misses
+        it for seconds only. And the next turn."""
+        again = heapq.nsmallest(ANEW, (it for it in numbers if it > turn))
+        return again, again[-1] if len(again) == ANEW else 0
 
     @abc.abstractmethod
-    def _longer(self, words: Any) -> Tuple[Optional[Dict[int, int]], Any]:
-        """How many words the requests have, by number, whose words may have changed since a mark, or None where that
-        isn't known; and the next mark."""
+    def _mark(self) -> Any:
+        """Which words stand now, for `_Mark.words`."""
+
+    @abc.abstractmethod
+    def _other(self, mark: _Mark) -> Optional[_Other]:
+        """What is other since a mark, or None where that isn't known."""
 
     def _opened(self, numbers: Sequence[int]) -> List[Open]:
         """Those of these requests that are open."""

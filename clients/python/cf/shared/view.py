@@ -161,10 +161,12 @@ class RowView:
 
     # Reading and putting.
 
-    def catch_up(self) -> List[Done]:
-        """Replays what others have put, and returns what it did."""
-        return [self._take(*entry)
-                for entry in self.sure(lambda: self.store.read(self.name, self.seen, self.opened.number))]
+    def catch_up(self, entries: Optional[Sequence[Entry]] = None) -> List[Done]:
+        """Replays what others have put, and returns what it did. `entries` is what stands behind what is seen, where
+        that was read already."""
+        if entries is None:
+            entries = self.sure(lambda: self.store.read(self.name, self.seen, self.opened.number))
+        return [self._take(*entry) for entry in entries]
 
     def act(self, decide: "Callable[[RowView], Optional[Wanted]]") -> Tuple[Optional[List[Done]], List[Done]]:
         """Puts words at the end of what is seen, and does them.
@@ -393,12 +395,20 @@ class RowView:
     def look_up(self, stages: Iterable[int]) -> None:
         """Reads what is said of these stages, as far as it isn't known, in one call. What can't be read is left to
         `said`, which tells so. `Unknown` at once where the store is silent."""
+        missing = self.unsaid(stages)
+        self.say(missing, self.store.payloads(self.name, list(missing), self.opened.number) if missing else {})
+
+    def unsaid(self, stages: Iterable[int]) -> Dict[int, int]:
+        """Those of these stages of which it isn't known what is said of them, by the places of the words that say
+        it."""
         many = len(self.plan.said)
-        missing = {self.attached[it]: it for it in stages if it >= many and it not in self._said}
-        found = self.store.payloads(self.name, list(missing), self.opened.number) if missing else {}
-        for place, given in found.items():
+        return {self.attached[it]: it for it in stages if it >= many and it not in self._said}
+
+    def say(self, stages: Mapping[int, int], payloads: Mapping[int, bytes]) -> None:
+        """Takes over what payloads say of these stages, both by their places. What can't be read is left to `said`."""
+        for place in stages.keys() & payloads.keys():
             with contextlib.suppress(ValueError):
-                self._said[missing[place]] = said_in(json.loads(given.decode()), missing[place])
+                self._said[stages[place]] = said_in(json.loads(payloads[place].decode()), stages[place])
 
     def read(self, place: int, reader: Callable[[bytes], T]) -> T:
         """What a payload says. `Broken` where it can't be read."""
@@ -501,12 +511,12 @@ class Watcher:
         self._seen: Dict[int, Tuple[Optional[int], float]] = {}
         self._time, self._last = 0.0, host.monotonic()
 
-    def look(self) -> None:
-        """Reads all beats."""
+    def look(self, beats: Optional[Mapping[int, int]] = None) -> None:
+        """Reads all beats, but where they were read just now."""
         now = self._host.monotonic()
         self._time, self._last = self._time + min(now - self._last, self._seconds / 2), now
         try:
-            beats = self._store.beats()
+            beats = self._store.beats() if beats is None else beats
         except Unknown:
             self._seen.clear()  # while the engine was away nobody could beat
             return

@@ -14,7 +14,7 @@ from cf.shared import (Abandoned, Broken, connect, DurableService, Grouped, Memo
                        StoreError, Unknown)
 from cf.shared.glances import glance_of, read
 from cf.shared.plans import text_of
-from cf.shared.rows import FIRST, flow_of, Glance, Gone
+from cf.shared.rows import FIRST, flow_of, Glance, Gone, Wanted
 
 
 class Lists(Case):
@@ -134,6 +134,37 @@ class Lists(Case):
             for name in its:
                 if name[0] == "!" and store.find(name) is not None:
                     store.drop(name)
+
+    def test_rows_that_are_read_together(self):
+        for store in self.listing_stores():
+            its = [store.open(f"{self.name} {k}", f'{{"{k}": 1}}') for k in range(3)]
+            names, numbers = [it.name for it in its], [it.number for it in its]
+            for it in its[:2]:
+                store.append(Put(it.name, 0, [(1, 11), (2, 12), (3, 13)], {1: b"one", 3: it.name.encode()}))
+            wanted = [Wanted(names[0], numbers[0], 0), Wanted(names[1], numbers[1], 2), Wanted(names[2], numbers[2], 0)]
+            rows = store.read_rows(wanted)
+            self.assertEqual({name: row[:2] for name, row in rows.items()}, {
+                names[0]: (its[0], [(1, 11), (2, 12), (3, 13)]), names[1]: (None, [(3, 13)]), names[2]: (its[2], [])})
+            payloads = {1: b"one", 3: names[0].encode()}
+            self.assertLessEqual(rows[names[0]].payloads.items(), payloads.items())
+            places = {(names[0], numbers[0]): [1, 2, 3], (names[1], numbers[1]): [3]}
+            self.assertEqual(store.payloads_of(places), {names[0]: payloads, names[1]: {3: names[1].encode()}})
+            store.drop(names[0]), store.open(names[0], "{}")
+            self.assertEqual(sorted(store.read_rows(wanted)), names[1:])
+            self.assertFalse(store.payloads_of(places).get(names[0]))
+            self.assertEqual(store.read_rows([]), {})
+
+    def test_who_is_there_at_once(self):
+        for store in self.listing_stores():
+            session = new_session()
+            store.beat(session), store.beat(session), store.name_session(session, "here 1")
+            store.open(self.name, "{}")
+            told = store.pulse()
+            self.assertEqual((told.beats, told.names), (store.beats(), store.session_names()))
+            self.assertEqual((told.beats[session], told.names[session]), (2, "here 1"))
+            self.assertAlmostEqual(told.now, store.now(), 0)
+            store.append(Put(self.name, 0, [(1, 11)], {}))
+            self.until(lambda put=told.put: store.pulse().put > put)
 
     def test_who_closes_a_request(self):
         for store in self.listing_stores():

@@ -391,6 +391,51 @@ class Lists(WebCase):
         view.act(lambda view: [(4 << 56 | view.who << 48, None)])
         self.until(lambda: (self.rows()["r"]["state"], self.rows()["r"]["words"]) == ("running", 1))
 
+    def test_a_row_that_is_read_before_its_last_word_is_there(self):
+        """A member of etcd that lags behind knows fewer words than are told. The row is read again."""
+        class Lagging(Memory):
+            late = 3
+
+            def read(self, name, at=0, number=0):
+                entries = super().read(name, at, number)
+                if not entries or not self.late:
+                    return entries
+                self.late -= 1
+                return entries[:-1]
+        for is_looked_at in (True, False):
+            store = Lagging()
+            opened = store.open("r", text_of(self.flow(), f.functions))
+            view = RowView(store, opened, new_session())
+            view.act(lambda view: [(4 << 56 | view.who << 48, None)])
+            page = self.page_over(store)
+            self.until(lambda: (self.rows()["r"]["state"], store.late) == ("running", 0) if is_looked_at else
+                       (page.board.line("r") or view).seen and page.board.line("r").state == "running")
+
+    def test_rows_that_are_read_together(self):
+        """.. are told each for itself, also where one of them can't be read, or isn't there any more."""
+        class Counting(Memory):
+            reads = 0
+
+            def read_rows(self, wanted):
+                self.reads += 1
+                self.drop("gone")
+                return super().read_rows(wanted)
+        store = Counting()
+        for k in range(20):
+            opened = store.open(f"r{k:02}", text_of(self.flow(), f.functions))
+            RowView(store, opened, new_session()).act(
+                lambda view: [(7 << 56 | view.who << 48 | 0 << 24, json.dumps({"name": f"more {k}"}).encode())])
+        store.open("gone", text_of(self.flow(), f.functions))
+        store.append(Put("r07", 1, [(77, 7)], {}))
+        store.open("r08 of another kind", "{}")
+        self.page_over(store)
+        self.until(lambda: "gone" not in self.rows() and
+                   all(it["state"] in ("ready", "broken") for it in self.rows().values()))
+        self.assertEqual(sorted(name for name, it in self.rows().items() if it["state"] == "broken"),
+                         ["r07", "r08 of another kind"])
+        self.assertEqual(self.rows()["r19"]["waits"], [[0, "load", "ready"], [1, "more 19", "pending"]])
+        self.assertLess(store.reads, 5)
+
     @staticmethod
     def flow():
         flow = Flow("flow")

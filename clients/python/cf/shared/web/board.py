@@ -9,7 +9,7 @@ from typing import Any, Dict, List, NamedTuple, Optional, Sequence, Tuple
 
 from ..glances import Queue, Seen, glance_of, read
 from ..rows import Broken, Changes, Glance, Gone, Open, Store, StoreError, Unknown
-from ..view import Watcher
+from ..view import RowView, Watcher
 from .reading import Readings
 
 LOGGER = logging.getLogger("cf.requests")
@@ -17,6 +17,7 @@ LEAST_BETWEEN = 0.1  # seconds between two looks at the store, or so many times 
 SHARE = 2
 BEATS = 1.0  # seconds between two looks at sessions
 READING = 0.25  # seconds of a round in which rows are read whose glances are old
+TOGETHER = 50  # rows that are read together
 WANTED = 5.0  # seconds for which a request counts as looked at
 RESTED = 0.5  # seconds without a new word, before a request is read that nobody looks at
 KEPT = 200  # glances that one put keeps
@@ -204,7 +205,7 @@ class Board:
             self._say(self._take(changes))
             self._mark = mark
             self._next_list += SHARE * (time.monotonic() - now) if self.is_known else 0.0
-        self._say(self._read_some())
+        self._read_some()
         began = time.monotonic()
         if began >= self._next_beats:
             self._next_beats = began + BEATS  # (first: where a store is slow, rows are read all the same)
@@ -269,9 +270,9 @@ class Board:
         return is_more
 
     def _look_at_sessions(self) -> bool:
-        beats, names, put = self.store.beats(), self.store.session_names(), self.store.words_put()
-        self._watcher.look()
-        ahead = self.store.now() - time.time()
+        beats, names, put, now_there = self.store.pulse()
+        self._watcher.look(beats)
+        ahead = now_there - time.time()
         # (where it moves by less, what was told of times stays as it is, and isn't told again)
         self.ahead = ahead if abs(ahead - self.ahead) > LEAST_AHEAD else self.ahead
         now, silences = time.monotonic(), self._watcher.silences()
@@ -296,31 +297,36 @@ class Board:
 
     # Rows whose glances are old.
 
-    def _read_some(self) -> bool:
+    def _read_some(self) -> None:
         """Reads rows whose glances are old, for a while: first those that somebody looks at."""
         now = time.monotonic()
         with self._change:
             wanted = [name for name in self._behind if now - self._wanted.get(name, -WANTED) < WANTED]
             rested = [] if len(wanted) >= 100 else [
                 name for name in self._behind if name not in self._wanted and self._rests(name, now)]
-        read_any = False
-        for name in wanted + rested:
-            if time.monotonic() > now + READING or self._stops.is_set():
-                break
-            read_any = self._read(name, name in self._wanted) or read_any
-        return read_any
+        for names in (wanted, rested):
+            for k in range(0, len(names), TOGETHER):
+                if time.monotonic() > now + READING or self._stops.is_set():
+                    return
+                self._read_all(names[k:k + TOGETHER], names is wanted)
+                self._changed()
 
     def _rests(self, name: str, now: float) -> bool:
         return now - self._lines[name].changed > RESTED
 
-    def _read(self, name: str, keeps: bool) -> bool:
-        line = self._lines.get(name)
-        if line is None:
-            return False
+    def _read_all(self, names: Sequence[str], keeps: bool) -> None:
+        """Reads these rows together, and by itself what can't be had so."""
+        numbers = {name: self._lines[name].number for name in names}
+        views = self.readings.reading_all(numbers, keeps)
+        for name in names:
+            self._read(name, views.get(name))
+
+    def _read(self, name: str, known: Optional[RowView]) -> None:
+        line = self._lines[name]
         made: Optional[Glance] = None
         why = ""
         try:
-            with self.readings.reading(name, line.number, keeps) as view:
+            with contextlib.nullcontext(known) if known else self.readings.reading(name, line.number, False) as view:
                 made = glance_of(view, time.time(), line.seen)
         except Gone:
             self.soon()
@@ -329,13 +335,14 @@ class Board:
         except (ValueError, TypeError) as error:
             why = str(error)
         with self._change:
-            self._behind.pop(name, None)
+            # (a member of etcd that lags behind may know fewer words than are told: it is asked again)
+            if made is None or made.words >= line.words:
+                self._behind.pop(name, None)
             line.why = why
             if made is not None:
                 line.seen, line.glanced, line.words = read(made), made.words, max(line.words, made.words)
                 self._made[name] = made
             line.state = self._state(line)
-        return True
 
     def _keep(self) -> None:
         """Keeps glances that were made here in the store, where the requests rest."""

@@ -2,9 +2,10 @@
 import contextlib
 import threading
 from collections import OrderedDict
-from typing import Generator, List, Optional, Tuple
+from typing import Dict, Generator, List, Mapping, Optional, Tuple
 
-from ..rows import Gone, Store
+from ..glances import told_of
+from ..rows import Broken, Gone, Row, Store, Wanted
 from ..view import RowView, new_session
 
 MOST = 256  # views that are kept
@@ -41,6 +42,42 @@ class Readings:
             except BaseException:
                 kept[0] = None  # (what it knows may be half a row)
                 raise
+
+    def reading_all(self, wanted: Mapping[str, int], keeps: bool) -> Dict[str, RowView]:
+        """Views of these requests, by names and numbers, with all that stands, read together. Where something is
+        wrong, or a row is long, it is left out, and is for `reading`. One thread alone may have views of them."""
+        slots = {name: self._slot(name, number, keeps)[1] for name, number in wanted.items()}
+        seen = {name: kept[0].seen if kept[0] is not None else 0 for name, kept in slots.items()}
+        told: Dict[str, RowView] = {}
+        missing: Dict[Tuple[str, int], Dict[int, int]] = {}
+        for name, row in self._store.read_rows([Wanted(*it, seen[it[0]]) for it in wanted.items()]).items():
+            try:
+                view = self._caught_up(slots[name], row)
+            except BaseException as error:
+                slots[name][0] = None  # (what it knows may be half a row)
+                if not isinstance(error, Broken):
+                    raise
+                continue
+            stages = told_of(view)
+            view.say(view.unsaid(stages), row.payloads)
+            told[name] = view
+            unsaid = view.unsaid(stages)
+            if unsaid:
+                missing[name, view.opened.number] = unsaid
+        if missing:
+            payloads = self._store.payloads_of({key: list(its) for key, its in missing.items()})
+            for (name, _), its in missing.items():
+                told[name].say(its, payloads.get(name, {}))
+        return told
+
+    def _caught_up(self, kept: List[Optional[RowView]], row: Row) -> RowView:
+        """A view that knows a row, in its slot."""
+        view = kept[0]
+        if view is None:
+            assert row.opened is not None
+            view = kept[0] = RowView(self._store, row.opened, self._session, PATIENCE)
+        view.catch_up(row.entries)
+        return view
 
     def _slot(self, name: str, number: int, keeps: bool) -> "Tuple[threading.RLock, List[Optional[RowView]]]":
         with self._lock:
