@@ -1,5 +1,6 @@
 """What crates.txt says: which crates there are, and what each stands on."""
 import os
+import re
 import shutil
 from pathlib import Path
 from typing import Dict, List
@@ -12,6 +13,11 @@ def listed() -> Dict[str, List[str]]:
     """Each crate of the project, in the order of crates.txt, with all that it stands on: the project's and the toolchain's."""
     lines = [line.partition("#")[0].partition(":") for line in (TOP / "crates.txt").read_text(encoding="utf-8").splitlines()]
     return {head.split()[0]: deps.split() for head, _, deps in lines if head.strip()}
+
+
+def static() -> List[str]:
+    """The crates that are static libraries."""
+    return re.findall(r"^(\w+) staticlib:", (TOP / "crates.txt").read_text(encoding="utf-8"), re.M)
 
 
 def own() -> Dict[str, List[str]]:
@@ -32,10 +38,12 @@ def rattle() -> str:
 
 
 def words_over(name: str) -> List[str]:
-    """The words by which the prover reads a library, in its folder or a copy of it, over the libraries that rt ci has just left in this
+    """The words by which the prover reads a crate, in its folder or a copy of it, over the libraries that rt ci has just left in this
     checkout. rt ci leaves these as statements alone, without the sums by which rt would know them, so rt would prove each of them once more."""
     crates = listed()
-    words = ["--crate-name", name, "src/lib.rt", "-L", f"dependency={KIT}/rlibs"]
+    root = "main" if (TOP / "crates" / name / "src/main.rt").exists() else "lib"
+    words = ["--crate-name", name, f"src/{root}.rt", "-L", f"dependency={KIT}/rlibs"]
+    words += ["--crate-type", "staticlib"] if name in static() else []
     for it in ["std", *crates[name]]:  # (std is under each)
         made = TOP / f"crates/{it}/out/rlib" if it in crates else KIT / "rlibs"
         words += ["--extern", f"{it}={made}/{it}.rlib"]

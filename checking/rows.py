@@ -166,7 +166,7 @@ def edited() -> List[str]:
 
 
 def rows_of_edits() -> List[Row]:
-    return [Row(f"wrong bodies of {name}", ["rt", f"proofs below {name}"], [["sweeps/together", name]]) for name in edited()]
+    return [Row(f"wrong bodies of {name}", ["rt", f"proofs below {name}"], [["sweeps/edits", "--gate", name]]) for name in edited()]
 
 
 def rows(tools: Tools, made: Path, is_gate: bool) -> List[Row]:
@@ -176,7 +176,7 @@ def rows(tools: Tools, made: Path, is_gate: bool) -> List[Row]:
                                         for name in ["sweeps/ample", "sweeps/bytes", "sweeps/meets", "conformance/desks/overlaps"])
     return [
         *(rows_of_edits() if is_gate else []),
-        Row("the edits that the gate leaves out, read", ["rt"], [["sweeps/edits", "--read"]]),
+        Row("the edits of the crates, read", ["python3"], [["sweeps/edits", "--read"]]),
         Row("the edits that spoil the clients, read", ["python3"], [["sweeps/spoilt", "--read"]]),
         Row("what a program can check of the pages", ["python3"], [["sweeps/pages"]]),
         Row("where want of memory is told, and that nothing is kept from being freed", ["python3"], [["sweeps/memory"]]),

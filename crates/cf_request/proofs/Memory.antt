@@ -1,10 +1,10 @@
 -- How many words may follow.
-use Rattle.std.proofs.Common.{◌≡◌, ℕ, zero, suc, ◌+◌, ◌-◌, ◌<◌, ◌≤◌, Bool, true, false, cond, not, Option, Some, None, List, [], ◌∷◌, All, Contains, drop, take, take-append-drop, get_or, ◌⊎◌, length, refl, ap, ◌∙◌, arith, subst, sym, inl, inr}
+use Rattle.std.proofs.Common.{◌≡◌, ℕ, zero, suc, ◌+◌, ◌-◌, ◌<◌, ◌≤◌, Bool, true, false, cond, not, Option, Some, None, List, [], ◌∷◌, ◌++◌, All, Contains, drop, take, take-append-drop, get_or, ◌⊎◌, length, refl, ap, ◌∙◌, arith, subst, sym, inl, inr}
 use Rattle.std.specs.Prelude.{is_some}
 use Rattle.std.specs.List.{filter}
 use Rattle.std.proofs.lemmas.Bool.{cases_lt}
 use Rattle.std.proofs.lemmas.List.{get_or_default}
-use Rattle.std.proofs.lemmas.List.Elements.{All-contains, Contains-append_cases}
+use Rattle.std.proofs.lemmas.List.Elements.{All-contains, Contains-append_cases, Contains-append_right}
 use Rattle.std.proofs.lemmas.List.Sums.{count_by-le-length, length-filter}
 use Rattle.cf_model.specs.declared.events.Event.TheVariants.{Finish as Finishes}
 use Rattle.cf_model.specs.declared.events.Reply.{Reply}
@@ -86,9 +86,13 @@ few_relays stages follows =
     let few = count_by-le-length (λ (f : Follow). not (is_settled_in stages f.relay)) follows in
     omega (arith, size, few)
 
+among : (follows : List Follow) (s : State) (d : Due) (due : IsRelayDue follows s d) → Contains follows due.follow
+among follows s d due =
+    subst (λ (l : List Follow). Contains l due.follow) (sym due.is) (Contains-append_right due.front (due.follow ∷ due.back) due.follow (0, omega arith, refl))
+
 pub relay_waits : (follows : List Follow) (s : State) (d : Due) → IsOpen s d.stage → IsRelayDue follows s d → 0 < length (waiting_of s.stages follows)
 relay_waits follows s d waits due =
-    some (λ (f : Follow). not (is_settled_in s.stages f.relay)) follows due.follow due.is (ap not (ap (is_settled_in s.stages) due.relay ∙ waits.1))
+    some (λ (f : Follow). not (is_settled_in s.stages f.relay)) follows due.follow (among follows s d due) (ap not (ap (is_settled_in s.stages) due.relay ∙ waits.1))
 
 pub relays_stay : (follows : List Follow) (old new : List Stage) → StaySettled old new → length (waiting_of new follows) ≤ length (waiting_of old follows)
 relays_stay follows old new stay =
@@ -113,7 +117,7 @@ relays_fewer follows who d old new waits due h =
     let before = (state_of old.ledger).stages in
     let after = (state_of new.ledger).stages in
     let stay = (keeps_settle who d old new h).settled in
-    fewer (λ (f : Follow). not (is_settled_in before f.relay)) (λ (f : Follow). not (is_settled_in after f.relay)) (λ f e. still_open (is_settled_in before f.relay) (is_settled_in after f.relay) (stay f.relay) e) follows due.follow due.is
+    fewer (λ (f : Follow). not (is_settled_in before f.relay)) (λ (f : Follow). not (is_settled_in after f.relay)) (λ f e. still_open (is_settled_in before f.relay) (is_settled_in after f.relay) (stay f.relay) e) follows due.follow (among follows (state_of old.ledger) d due)
     (ap not (ap (is_settled_in before) due.relay ∙ waits.1)) (ap not (ap (is_settled_in after) due.relay ∙ ap is_some h.ends))
 
 -- ---- deadlines

@@ -150,6 +150,12 @@ pub record Passes (moment : ℕ) (old new : Machine) : Type 0 where
   pub forgets : Forgets (state_in new).stages old.deadlines new.deadlines
   pub same : new ≡ record old { teller = new.teller; deadlines = new.deadlines; moment = moment }
 
+-- memory is found for each relay that is open, and for each deadline of an open stage that has come
+pub record FindsToPass (moment : ℕ) (old new : Machine) : Type 0 where
+  pub come : ℕ
+  pub are_come : AreCome moment old.deadlines come
+  pub enough : waiting_in old + length (open_of (state_in old).stages (take come old.deadlines)) ≤ free_in new
+
 -- why time doesn't pass: too little memory was found before, or else the moment is before the last one
 abbrev pub IsNoPass : ℕ → Machine → MachineFault → Type 0
 IsNoPass moment m NoMemory = (come : ℕ) × AreCome moment m.deadlines come × (free_in m < length m.follows + come)

@@ -1,5 +1,5 @@
 -- Stages that follow another stage of the same request.
-use Rattle.std.specs.Prelude.{◌≡◌, ◌⊎◌, ℕ, ◌<◌, ◌≤◌, Bool, true, false, Some, List, All, Contains, drop, length, not, slice_index_or}
+use Rattle.std.specs.Prelude.{◌≡◌, ◌⊎◌, ℕ, ◌<◌, ◌≤◌, Bool, true, false, Some, List, ◌∷◌, ◌++◌, All, Contains, drop, length, not, slice_index_or}
 use Rattle.std.specs.List.{filter}
 use Rattle.cf_model.specs.declared.stage.Stage.{Stage}
 use Rattle.cf_model.specs.States.{State, outcome_in}
@@ -19,10 +19,13 @@ NoneBehind follows stages = All (λ f. is_settled_in stages f.stage ≡ true →
 abbrev pub waiting_of : List Stage → List Follow → List Follow
 waiting_of stages follows = filter (λ f. not (is_settled_in stages f.relay)) follows
 
--- a relay, with the outcome of its stage
+-- the first of those, in the order in which they were set, that are open though their stage is settled, with the outcome of its stage
 pub record IsRelayDue (follows : List Follow) (s : State) (d : Due) : Type 0 where
   pub follow : Follow
-  pub is : Contains follows follow
+  pub front : List Follow
+  pub back : List Follow
+  pub is : follows ≡ front ++ follow ∷ back
+  pub first : NoneBehind front s.stages
   pub relay : follow.relay ≡ d.stage
   pub settled : outcome_in s.stages follow.stage ≡ Some d.outcome
 

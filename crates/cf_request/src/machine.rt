@@ -1,5 +1,5 @@
 //! The machine.
-ghost use Rattle.std.specs.Prelude.{◌≡◌, ◌+◌, ◌-◌, ◌^◌, ◌<◌, ◌≤◌, ◌++◌, ◌∷◌, [], All, IfErr, IfNone, IfOk, IfSome, None, OnErr, OnOk, Some, drop, length, replicate, take, true};
+ghost use Rattle.std.specs.Prelude.{◌≡◌, ◌≢◌, ◌+◌, ◌-◌, ◌^◌, ◌<◌, ◌≤◌, ◌++◌, ◌∷◌, [], All, IfErr, IfNone, IfOk, IfSome, None, OnErr, OnOk, Some, drop, length, replicate, take, true};
 ghost use Rattle.cf_forms.specs.Plans.{has_place, with_room};
 ghost use Rattle.cf_model.specs.States.{claim_at, start};
 ghost use Rattle.cf_request.specs.Composing.{Composes, FinishesClaimed, Links, IsNoCompose, IsNoLink, LinksFound, MayLink, composes};
@@ -8,7 +8,7 @@ ghost use Rattle.cf_request.specs.Gathering.{Gathers, IsNoGather, gathers, stage
 ghost use Rattle.cf_request.specs.Growing.{Grows, IsNoGrowth};
 ghost use Rattle.cf_request.specs.Lanes.{IsIdle, NoneReadyIn, ready_below};
 ghost use Rattle.cf_request.specs.Ready.{IsLaneCount};
-ghost use Rattle.cf_request.specs.Machines.{AppliesWord, CancelsAll, Finds, GoesOn, IsNoCancel, IsNoDeadline, IsNoFollow, IsNoNext, IsNoPass, IsNoWord, OnlyFinds, Passes, Refuses, Restarts, SetsDeadline, SetsFollow, free_in, open_in, state_in, waiting_in};
+ghost use Rattle.cf_request.specs.Machines.{AppliesWord, CancelsAll, Finds, FindsToPass, GoesOn, IsNoCancel, IsNoDeadline, IsNoFollow, IsNoNext, IsNoPass, IsNoWord, OnlyFinds, Passes, Refuses, Restarts, SetsDeadline, SetsFollow, free_in, open_in, state_in, waiting_in};
 ghost use Rattle.cf_request.specs.Relays.{NoneBehind};
 ghost use Rattle.cf_request.specs.Rows.{AreCalls, nothing, unclaimed};
 ghost use Rattle.cf_request.specs.Telling.{AreFresh, AreSettled, IsOnce};
@@ -135,6 +135,7 @@ impl Machine {
         ensures done { IfOk result (λ reply. AppliesWord word lane self.old reply self.new) }
         ensures refused { OnErr result (OnlyFinds self.old self.new) }
         ensures why { IfErr result (λ fault. IsNoWord word self.old fault) }
+        ensures found { IfErr result (λ fault. fault ≢ LedgerFault.NoMemory → waiting_in self.old ≤ free_in self.new) }
     {
         self.teller.reserve(words_beside(self.waiting))?;
         let seen = self.teller.told().len();
@@ -342,6 +343,8 @@ impl Machine {
         ensures set { OnOk result (SetsFollow relay stage self.old self.new) }
         ensures refused { OnErr result (OnlyFinds self.old self.new) }
         ensures why { IfErr result (λ fault. IsNoFollow relay stage (state_in self.old) fault) }
+        ensures found { IfErr result (λ fault.
+            fault ≡ MachineFault.NoStage → 1 + waiting_in self.old ≤ free_in self.new) }
     {
         self.teller.reserve(1 + self.waiting)?;
         self.follows.reserve(1)?;
@@ -385,6 +388,7 @@ impl Machine {
         ensures order { AreInOrder self.old.deadlines }
         ensures refused { OnErr result (OnlyFinds self.old self.new) }
         ensures why { IfErr result (λ fault. IsNoPass moment self.old fault) }
+        ensures found { IfErr result (λ fault. fault ≡ MachineFault.Past → FindsToPass moment self.old self.new) }
     {
         let come = come_by(&self.deadlines, moment);
         self.teller.reserve(self.waiting + come)?;
@@ -443,6 +447,7 @@ impl Machine {
         ensures cancels { OnOk result (CancelsAll who self.old self.new) }
         ensures refused { OnErr result (OnlyFinds self.old self.new) }
         ensures why { IfErr result (λ fault. IsNoCancel who self.old fault) }
+        ensures found { IfErr result (λ fault. fault ≡ StepFault.NoCaller → open_in self.old ≤ free_in self.new) }
     {
         self.teller.reserve(open_stages(&self.teller) as usize)?;
         if who > LAST_CALLER {

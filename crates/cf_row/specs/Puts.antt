@@ -81,9 +81,13 @@ pub record HasTokens (session : ℕ) (put : List Entry) (next : ℕ) : Type 0 wh
 
 -- ---- a put
 
+-- tokens are left for these words, from the next one on
+abbrev pub HasTokensFor : Replica → ℕ → List ℕ → Type 0
+HasTokensFor r next words = next + length words ≤ end_of_tokens r.session
+
 -- words that a session may put behind all that it has seen, with tokens from the next one on
 pub record MayPut (r : Replica) (next : ℕ) (words : List ℕ) : Type 0 where
-  pub tokens : next + length words ≤ end_of_tokens r.session
+  pub tokens : HasTokensFor r next words
   pub number : ℕ
   pub rule : FollowsRule (pairs_of r.seen) (r.session, number)
   pub each : AreWordsBehind r number words
@@ -96,10 +100,10 @@ pub record HasNoNumber (r : Replica) : Type 0 where
 
 -- why nothing is put: the first of these, want of memory being the last
 abbrev pub IsNoPut : Replica → ℕ → List ℕ → PutFault → Type 0
-IsNoPut r next words NoTokens = end_of_tokens r.session < next + length words
-IsNoPut r next words NoNumber = HasNoNumber r
-IsNoPut r next words NoWord = (who : ℕ) × FollowsRule (pairs_of r.seen) (r.session, who) × ¬ AreWordsBehind r who words
-IsNoPut r next words NoMemory = r.free < length words
+IsNoPut r next words NoTokens = ¬ HasTokensFor r next words
+IsNoPut r next words NoNumber = HasTokensFor r next words × HasNoNumber r
+IsNoPut r next words NoWord = HasTokensFor r next words × ((who : ℕ) × FollowsRule (pairs_of r.seen) (r.session, who) × ¬ AreWordsBehind r who words)
+IsNoPut r next words NoMemory = MayPut r next words × (r.free < length words)
 
 -- a put of a session, for the place behind all that it has seen: the graph takes its words there, and their caller's number is the session's
 pub record IsPutOf (r : Replica) (put : List Entry) : Type 0 where

@@ -1,4 +1,5 @@
-use Rattle.std.proofs.Common.{◌≡◌, List, arith, subst, true}
+use Rattle.std.proofs.Common.{◌≡◌, suc, List, arith, drop, get_or, subst, take, true}
+use Rattle.std.proofs.Math.Seq.{split_at}
 use Rattle.std.proofs.lemmas.List.{take_all}
 use Rattle.std.proofs.lemmas.List.Elements.{All-more}
 use Rattle.cf_ledger.specs.Ledgers.{state_of}
@@ -16,3 +17,18 @@ loop-follow-preserved c =
 
 pub returns-clause-none : goal.returns-clause-none
 returns-clause-none c = subst (λ (l : List Follow). NoneBehind l (state_of c.args.teller.now.ledger).stages) (take_all c.loop-follow.follow-index c.args.follows.now (omega arith)) c.loop-follow.invariant
+
+pub returns-in-Some-clause-due : goal.returns-in-Some-clause-due
+returns-in-Some-clause-due c =
+    let d : Follow = record { relay = 0; stage = 0 } in
+    let row = c.args.follows.now in
+    let k = c.loop-follow.follow-index in
+    record {
+      follow = get_or row k d;
+      front = take k row;
+      back = drop (suc k) row;
+      is = split_at row k d (omega arith);
+      first = c.loop-follow.invariant;
+      relay = c.in-Some.ensures.relay;
+      settled = c.in-Some.ensures.settled;
+    }

@@ -1,7 +1,7 @@
 use Rattle.std.proofs.Common.{◌+◌, ◌≤◌, List, arith, length, length-take, refl, subst, sym, take}
 use Rattle.cf_ledger.specs.Ledgers.{state_of}
 use Rattle.cf_request.specs.Deadlines.{IsOverdue}
-use Rattle.cf_request.specs.Machines.{Machine, Passes}
+use Rattle.cf_request.specs.Machines.{FindsToPass, Machine, Passes}
 use Rattle.cf_request.specs.Relays.{IsRelayOr, NoneBehind, waiting_of}
 use Rattle.cf_request.specs.Settling.{SettlesDue}
 use Rattle.cf_request.specs.declared.relays.Follow.{Follow}
@@ -63,3 +63,15 @@ returns-clause-passes c =
       forgets = c.pass.ensures.forgets;
       same = refl;
     })
+
+pub returns-then-moment-self-clause-found : goal.returns-then-moment-self-clause-found
+returns-then-moment-self-clause-found c is =
+    let m = c.self.inside in
+    let r = c.reserve.new.self in
+    let most = c.self.invariant.2.most in
+    let limits = few_limits (state_of m.teller.ledger).stages (take c.come_by-come.result m.deadlines.items) in
+    let size = length-take c.come_by-come.result m.deadlines.items in
+    let enough = c.in_ok-reserve.ensures.enough in
+    let new : Machine = record { teller = r; follows = m.follows.items; deadlines = m.deadlines.items; moment = m.moment; own = m.own } in
+    subst (λ (old : Machine). FindsToPass c.args.moment old new) c.self.view_is
+    (record { come = c.come_by-come.result; are_come = c.come_by-come.ensures; enough = omega (arith, most, limits, size, enough) })
