@@ -388,6 +388,29 @@ CALL(jlong, link)(JNIEnv *env, jclass class, jlong at, jint waiting, jlong word,
   return end(&it, code, reply.answer);
 }
 
+/* Does the words that wait, and attaches stages of this form that wait for all of these stages, or for one of them: no function is ready then. */
+CALL(jlong, gather)(JNIEnv *env, jclass class, jlong at, jint waiting, jint form, jshortArray sources, jint who) {
+  (void)class;
+  struct crossing it;
+  cf_request_gathering step = {.who = (uint8_t)who, .form = (uint32_t)form};
+  begin(&it, at);
+  uint32_t code = do_waiting(&it, waiting);
+  if (code != CF_OK) return end(&it, code, 0);
+  cf_handle *request = &it.core->request;
+  bool heard = it.core->heard == (size_t)it.core->block.events;
+  jsize n = (*env)->GetArrayLength(env, sources);
+  jshort *of = (*env)->GetShortArrayElements(env, sources, NULL);
+  if (!of) return end(&it, CF_NO_MEMORY, 0);
+  do code = cf_request_gather(request, &step, (const uint16_t *)of, (size_t)n, it.told + it.n, TOLD - it.n);
+  while (code == CF_NO_ROOM && (code = cf_request_grow(request)) == CF_OK);
+  (*env)->ReleaseShortArrayElements(env, sources, of, JNI_ABORT);
+  if (code != CF_OK) return end(&it, code, 0);
+  take(&it, step.told);
+  it.core->block.events += n > 2 ? n - 1 : 1;
+  if (heard) it.core->heard = (size_t)it.core->block.events;
+  return end(&it, code, 0);
+}
+
 /* Does the words that wait, and sets a deadline of a stage: it times out then, or gets the value of this number, -1 for null. */
 CALL(jlong, deadline)(JNIEnv *env, jclass class, jlong at, jint waiting, jint stage, jlong moment, jboolean gives, jint number) {
   (void)env, (void)class;

@@ -285,6 +285,12 @@ final class Machine {
         return attached(lane);
     }
 
+    /** Attaches stages that wait for all of those, or for one of them: one less than those, of which the last one does. */
+    void gather(Form form, short[] of, int who) {
+        done(gather(core().at, waiting, form.ordinal(), of, who));
+        stages += of.length - 1;
+    }
+
     private int attached(int lane) {
         if (lane == BY_EXECUTOR) {
             byExecutor(stages);
@@ -546,6 +552,8 @@ final class Machine {
     static native long apply(long core, int waiting, long word, int lane, int who);
 
     static native long finish(long core, int waiting, int stage, boolean isThrown, int number, int who);
+
+    static native long gather(long core, int waiting, int form, short[] sources, int who);
 
     static native long link(long core, int waiting, long word, int relay, int stage, int who);
 

@@ -1,6 +1,7 @@
 package cf.service;
 
 import cf.service.Faults.Fault;
+import cf.service.Waits.Alarm;
 import cf.service.watch.Watch;
 import java.util.ArrayList;
 import java.util.Arrays;
@@ -83,7 +84,8 @@ public final class Request implements AutoCloseable {
      *
      * Attaching. The word of a stage that can't have anything to do yet, since a source isn't settled, waits in the core's
      * memory for the next call that can change something (Machine.attachLater); one crossing does them all. Any other stage
-     * is attached at once, and what it takes of its sources it takes in that word. A composing stage has a source right
+     * is attached at once, and what it takes of its sources it takes in that word. Stages that wait for three or more are attached
+     * by one call, and only the last of them has a Stage, unless there is a watch or a recording. A composing stage has a source right
      * below it, its relay. Where its function gives a lower stage of this request, the finish links to that. Where it gives
      * anything else, the finish links to the relay: the machine has it follow a higher stage of this request, and what is
      * elsewhere settles it by a Link.
@@ -93,8 +95,8 @@ public final class Request implements AutoCloseable {
      * it. Once the stage is settled for which the relay was made, the link is let go, so a future that lives long keeps
      * nothing of requests that are over.
      *
-     * Deadlines. Stage.orTimeout and completeOnTimeout set a deadline of the machine (`limit`). Clock has one thread that
-     * knows when the first deadline of a request comes (`alarm`). Then `passes` lets time pass up to it, in a thread of its
+     * Deadlines. Stage.orTimeout and completeOnTimeout set a deadline of the machine (`limit`). A request has one Waits.Alarm, at
+     * its first deadline, and Clock one thread that knows all alarms. Then `passes` lets time pass up to it, in a thread of its
      * own, where it is an operation as all others; what is settled is so by the caller CLOCK. What was attached without an
      * executor is called there. The next deadline gets its alarm before that, so it comes after the one before it, and isn't
      * delayed by what hangs on that. Once no stage is open that has a deadline, the clock forgets the request.
@@ -129,6 +131,8 @@ public final class Request implements AutoCloseable {
      */
     static final int CLOCK = 0, RELAY = 1, FIRST_THREAD = 2, OTHER_THREADS = 63;
 
+    /** Of how many stages a request that goes on gathers all at once. */
+    private static final int MOST_GATHERED = 1024;
     private static final Stage<?>[] NO_STAGES = {};
     private static final Link[] NO_LINKS = {};
     private static final long[] NO_MOMENTS = {};
@@ -159,9 +163,8 @@ public final class Request implements AutoCloseable {
     private int threadCount;
     /** How many relays and deadlines of stages that aren't settled the machine has: these aren't in the words. */
     private int unwritten;
-    /** By when time is to pass, and who sees to it; {@code Long.MAX_VALUE} and null where nothing is due. */
-    private long alarmAt = Long.MAX_VALUE;
-    private Future<?> alarm;
+    /** By when time is to pass; null where there was never a limit. */
+    private Alarm alarm;
     /** Whether a core that it has again is given back once all relays and deadlines have ended. */
     private boolean isClosed;
     /** Up to where a recording has the words. */
@@ -314,12 +317,12 @@ public final class Request implements AutoCloseable {
 
     /** As {@link CompletableFuture#allOf}; of n stages it takes n - 1. */
     public Stage<Void> allOf(CompletionStage<?>... of) {
-        return tree(Form.ALL_OF, of);
+        return gather(Form.ALL_OF, of);
     }
 
     /** As {@link CompletableFuture#anyOf}; of n stages it takes n - 1. */
     public Stage<Object> anyOf(CompletionStage<?>... of) {
-        return tree(Form.ANY_OF, of);
+        return gather(Form.ANY_OF, of);
     }
 
     /**
@@ -360,7 +363,7 @@ public final class Request implements AutoCloseable {
         if (step.flow() != flow) {
             throw new IllegalArgumentException("the step is of another flow");
         }
-        synchronized (machine) {
+        synchronized (lock()) {
             Stage<U> stage = (Stage<U>) at(step.number());
             if (stage.told == null) {
                 shown(stage);
@@ -399,7 +402,7 @@ public final class Request implements AutoCloseable {
             watch.looked(this);
         }
         History history;
-        synchronized (machine) {
+        synchronized (lock()) {
             history = taken();
         }
         return history.described(describe);
@@ -425,7 +428,7 @@ public final class Request implements AutoCloseable {
         if (service.ends() != null) {
             closed();
         }
-        synchronized (machine) {
+        synchronized (lock()) {
             isClosed = unwritten > 0;
             machine.rest(isClosed ? this::setAgain : null);
         }
@@ -433,7 +436,7 @@ public final class Request implements AutoCloseable {
 
     private void rests() {
         boolean rests;
-        synchronized (machine) {
+        synchronized (lock()) {
             rests = machine.stages() == 1 && stages[0] == null;
             if (rests) {
                 machine.rest(null);
@@ -446,7 +449,7 @@ public final class Request implements AutoCloseable {
 
     private void closed() {
         List<Stage<?>> open = new ArrayList<>();
-        synchronized (machine) {
+        synchronized (lock()) {
             for (int k = 0; k < machine.stages() && !isTold; k++) {
                 if (isOpen(k)) {
                     open.add(at(k));
@@ -475,7 +478,7 @@ public final class Request implements AutoCloseable {
     private void ended() {
         try {
             History history;
-            synchronized (machine) {
+            synchronized (lock()) {
                 if (isTold) {
                     return;
                 }
@@ -489,7 +492,7 @@ public final class Request implements AutoCloseable {
     }
 
     void name(int stage, String name) {
-        synchronized (machine) {
+        synchronized (lock()) {
             if (names == null || names.length <= stage) {
                 names = names == null ? new String[Math.max(stage + 1, 8)] : Arrays.copyOf(names, 2 * stage);
             }
@@ -499,7 +502,7 @@ public final class Request implements AutoCloseable {
 
     /** What a stage was named, or else its form and number. */
     String nameOf(Stage<?> stage) {
-        synchronized (machine) {
+        synchronized (lock()) {
             String given = names == null || names.length <= stage.number ? null : names[stage.number];
             given = given == null && flow != null && stage.number < flow.count() ? flow.name(stage.number) : given;
             return given != null ? given : stage.form.text + " " + stage.number;
@@ -508,11 +511,19 @@ public final class Request implements AutoCloseable {
 
     /** What a stage is called: by its name, or by its form. */
     String called(Stage<?> stage) {
-        synchronized (machine) {
+        synchronized (lock()) {
             String given = names == null || names.length <= stage.number ? null : names[stage.number];
             given = given == null && flow != null && stage.number < flow.count() ? flow.name(stage.number) : given;
             return stage.number + " " + (given != null ? given : stage.form.text);
         }
+    }
+
+    /** The request's lock, for which each thread asks here. */
+    Machine lock() {
+        if (Waits.leader() != null && !Thread.holdsLock(machine)) {
+            Waits.turn();
+        }
+        return machine;
     }
 
     // Attaching.
@@ -525,7 +536,7 @@ public final class Request implements AutoCloseable {
         checkDepth();
         Object carried = service.carried(function);
         Stage<U> stage = null;
-        synchronized (machine) {
+        synchronized (lock()) {
             if (machine.hasPlace(1)) {
                 stage = added(form, null, null, carried, executor, false, null);
             }
@@ -554,45 +565,112 @@ public final class Request implements AutoCloseable {
     }
 
     @SuppressWarnings("unchecked")
-    private static <E extends Throwable> void rethrow(Throwable error) throws E {
+    static <E extends Throwable> void rethrow(Throwable error) throws E {
         throw (E) error;
     }
 
-    /** A stage that is attached takes at most two sources; a tree of them tells what one of all would. */
-    private <U> Stage<U> tree(Form form, CompletionStage<?>[] of) {
+    /** A stage that waits for all of those, or for one of them, which are of any request. */
+    private <U> Stage<U> gather(Form form, CompletionStage<?>[] of) {
         for (CompletionStage<?> each : of) {
             Objects.requireNonNull(each);
         }
+        return gathered(form, of.clone());
+    }
+
+    /** Of up to two it is one stage; of more as many as the machine needs, in one call. */
+    private <U> Stage<U> gathered(Form form, CompletionStage<?>[] of) {
+        if (of.length < 3) {
+            return attach(form, of.length > 0 ? of[0] : null, of.length > 1 ? of[1] : null, null, null, false);
+        }
         if (next != null) {
-            return last().tree(form, of);
+            return last().gathered(form, of);
         }
-        CompletionStage<?>[] row = Arrays.copyOf(of, of.length, CompletionStage[].class);
-        int count = row.length, relays = 0;
-        for (CompletionStage<?> each : row) {
-            relays += isForeign(each) ? 1 : 0;
+        if (goesOn && of.length > MOST_GATHERED) {
+            return inParts(form, of);
         }
-        if (count > 2 && !goesOn && !hasPlace(count - 1 + relays)) {
-            throw new RequestFullException(name);
+        checkDepth();
+        int count = 0;
+        for (CompletionStage<?> each : of) {
+            count += isForeign(each) ? 1 : 0;
         }
-        // Who needs none of them but its last stage needs no relay either once that is settled.
-        Link[] links = new Link[count > 2 ? relays : 0];
-        for (int k = 0, made = 0; made < links.length; k++) {
-            if (isForeign(row[k])) {
-                row[k] = relay(row[k], links, made++, true);
+        Stage<U> root = null;
+        News news = new News(watch);
+        Link[] links = new Link[count];
+        if (hasPlace(of.length - 1 + count)) {
+            Stage<?>[] row = new Stage<?>[of.length];
+            boolean isWhole = true;
+            for (int k = 0, made = 0; k < row.length; k++) {
+                // Who needs only the root needs no relay either once that is settled.
+                row[k] = isForeign(of[k]) ? relay(of[k], links, made++, true) : (Stage<?>) of[k];
+                isWhole &= row[k].request == this;
+            }
+            synchronized (lock()) {
+                if (isWhole && machine.hasPlace(of.length - 1)) {
+                    root = attachAll(form, row, news);
+                }
             }
         }
-        while (count > 2) {
-            int half = (count + 1) / 2;
-            for (int k = 0; k < half; k++) {
-                row[k] = 2 * k + 1 < count ? attach(form, row[2 * k], row[2 * k + 1], null, null, false) : row[2 * k];
-            }
-            count = half;
+        untilSettled(links, root);
+        if (root == null) {
+            return further().gathered(form, of);
         }
-        Stage<U> last = attach(form, count > 0 ? row[0] : null, count > 1 ? row[1] : null, null, null, false);
+        tell(news);
+        return root;
+    }
+
+    /** More than one request may have room for: what waits for all waits for stages that wait for a part each. */
+    private <U> Stage<U> inParts(Form form, CompletionStage<?>[] of) {
+        Stage<?>[] parts = new Stage<?>[(of.length - 1) / MOST_GATHERED + 1];
+        for (int k = 0, from = 0; k < parts.length; k++, from += MOST_GATHERED) {
+            parts[k] = gathered(form, Arrays.copyOfRange(of, from, Math.min(of.length, from + MOST_GATHERED)));
+        }
+        Stage<U> root = gathered(form, parts);
+        for (Stage<?> part : parts) {
+            // Nobody needs a part then, and the relays of one that ends are let go.
+            root.observe(() -> {
+                if (part.told == null) {
+                    part.cancel(false);
+                }
+            });
+        }
+        return root;
+    }
+
+    /** The machine attaches one stage less than there are sources, the last of which is asked for. The others are nobody's but a watch's. */
+    private <U> Stage<U> attachAll(Form form, Stage<?>[] of, News news) {
+        int who = who(), first = machine.stages(), count = of.length - 1;
+        short[] numbers = new short[of.length];
+        Stage<?>[] made = new Stage<?>[count];
+        for (int k = 0; k < of.length; k++) {
+            numbers[k] = (short) of[k].number;
+        }
+        for (int k = watch != null || Recorder.hasStages() ? 0 : count - 1; k < count; k++) {
+            made[k] = new Stage<>(this, first + k, form, null, null);
+        }
+        makePlace(first + count);
+        machine.gather(form, numbers, who);
+        System.arraycopy(made, 0, stages, first, count);
+        for (Stage<?> each : of) {
+            each.dependents++;
+        }
+        for (int k = 0; watch != null && k < count; k++) {
+            attached(made[k], k == 0 ? of[0] : made[k - 1], of[k + 1]);
+        }
+        publish(news, who);
+        @SuppressWarnings("unchecked")
+        Stage<U> root = (Stage<U>) made[count - 1];
+        return root;
+    }
+
+    /** Lets go of these links once that stage is settled, or now where it is null, since there was no place. */
+    private static void untilSettled(Link[] links, Stage<?> stage) {
         for (Link link : links) {
-            link.untilSettled(last);
+            if (link != null && stage != null) {
+                link.untilSettled(stage);
+            } else if (link != null) {
+                link.run();
+            }
         }
-        return last;
     }
 
     /** Attaches a stage behind those, which are of any request. What it takes of them, it takes at once. */
@@ -612,7 +690,7 @@ public final class Request implements AutoCloseable {
             Stage<?> a = own(form, first, links, 0), b = own(form, second, links, 1);
             // What went to a further request is of no use here.
             if ((a == null || a.request == this) && (b == null || b.request == this)) {
-                synchronized (machine) {
+                synchronized (lock()) {
                     if (machine.hasPlace(form.composes ? 2 : 1)) {
                         if (!waits(form, a, b)) {
                             checkDepth();
@@ -623,13 +701,7 @@ public final class Request implements AutoCloseable {
                 }
             }
         }
-        for (Link link : links) {
-            if (link != null && stage != null) {
-                link.untilSettled(stage);
-            } else if (link != null) {
-                link.run();
-            }
-        }
+        untilSettled(links, stage);
         if (stage == null) {
             return further().attach(form, first, second, carried, executor, minimal);
         }
@@ -651,7 +723,7 @@ public final class Request implements AutoCloseable {
     }
 
     private boolean hasPlace(int more) {
-        synchronized (machine) {
+        synchronized (lock()) {
             return machine.hasPlace(more);
         }
     }
@@ -671,7 +743,7 @@ public final class Request implements AutoCloseable {
     }
 
     private Request further() {
-        synchronized (machine) {
+        synchronized (lock()) {
             if (!goesOn) {
                 throw new RequestFullException(name);
             }
@@ -729,22 +801,26 @@ public final class Request implements AutoCloseable {
     }
 
     private void enter(Stage<?> stage) {
-        if (stage.number >= stages.length) {
-            stages = Arrays.copyOf(stages, Math.min(Machine.MOST_STAGES, Math.max(stage.number + 8, 2 * stages.length)));
-        }
+        makePlace(stage.number + 1);
         stages[stage.number] = stage;
+    }
+
+    private void makePlace(int count) {
+        if (count > stages.length) {
+            stages = Arrays.copyOf(stages, Math.min(Machine.MOST_STAGES, Math.max(count + 7, 2 * stages.length)));
+        }
     }
 
     /** A source for a stage that is being made, which calls {@link #entered}: its number, or -1 where there is no place. */
     int reserve() {
         checkDepth();
-        synchronized (machine) {
+        synchronized (lock()) {
             return machine.hasPlace(1) ? reserve(who()) : -1;
         }
     }
 
     void entered(Stage<?> stage) {
-        synchronized (machine) {
+        synchronized (lock()) {
             enter(stage);
             if (watch != null) {
                 attached(stage, null, null);
@@ -770,7 +846,7 @@ public final class Request implements AutoCloseable {
     void begin(Object[] given) {
         checkDepth();
         News news = new News(watch);
-        synchronized (machine) {
+        synchronized (lock()) {
             for (int k = 0; watch != null && k < flow.count(); k++) {
                 watch.attached(at(k), Arrays.stream(flow.at(k).of).mapToObj(this::at).collect(Collectors.toList()));
             }
@@ -803,12 +879,30 @@ public final class Request implements AutoCloseable {
         return settle(Words.CANCEL, stage, null);
     }
 
+    /**
+     * Cancels all stages that aren't settled, the last one first, so no function behind them is called. A function that runs goes on; its answer
+     * comes too late. Stages can still be attached. It takes one event for each such stage; stages of {@link #next} aren't cancelled.
+     */
+    public void cancelAll() {
+        checkDepth();
+        News news = new News(watch);
+        synchronized (lock()) {
+            int who = who();
+            for (int k = machine.stages() - 1; k >= 0; k--) {
+                if (isOpen(k)) {
+                    change(Words.cancel(who, k), who, news);
+                }
+            }
+        }
+        tell(news);
+    }
+
     /** Does one word, and tells what came of it. Answers whether it settled the stage. */
     private boolean settle(int kind, int stage, Object given) {
         checkDepth();
         News news = new News(watch);
         boolean did;
-        synchronized (machine) {
+        synchronized (lock()) {
             int who = who();
             did = change(word(kind, who, stage, given), who, news);
         }
@@ -839,7 +933,7 @@ public final class Request implements AutoCloseable {
             return;
         }
         long moment = Clock.moment(time, unit);
-        synchronized (machine) {
+        synchronized (lock()) {
             if (stage.told != null) {
                 return;
             }
@@ -849,61 +943,40 @@ public final class Request implements AutoCloseable {
             more.limits = more.limits != null ? more.limits : new ArrayList<>(1);
             more.limits.add(limit);
             holds(stage);
-            if (moment >= alarmAt) {
+            alarm = alarm != null ? alarm : new Alarm(this);
+            if (!alarm.isFirst(moment)) {
                 return;
             }
-            alarmAt = moment;
         }
-        wakeAt(moment);
+        alarm.set(moment);
     }
 
-    /** Has time pass at a moment. Where that can't be had, as no thread can be started, the next one who asks tries again. */
-    private void wakeAt(long moment) {
-        Future<?> made = null, over;
-        try {
-            made = Clock.at(moment, this::passes);
-        } finally {
-            synchronized (machine) {
-                over = made;
-                if (alarmAt == moment && (made == null || unwritten > 0)) {
-                    over = alarm;
-                    alarm = made;
-                    alarmAt = made == null ? Long.MAX_VALUE : moment;
-                }
-            }
-            stop(over);
-        }
-    }
-
-    private static void stop(Future<?> alarm) {
-        if (alarm != null) {
-            alarm.cancel(false);
-        }
+    /** Whether the machine has relays or deadlines of stages that aren't settled. The lock is held. */
+    boolean isDue() {
+        return unwritten > 0;
     }
 
     /**
      * Lets time pass up to the first deadline, if that has come, and tells what came of it. What hangs on it may take long, so the next deadline
      * has a thread of its own, which comes after this one has passed.
      */
-    private void passes() {
+    void passes() {
         News news = new News(watch);
-        long due = Long.MAX_VALUE;
-        synchronized (machine) {
-            long moment = alarmAt;
-            if (moment > Clock.now()) {
+        long due = Alarm.NEVER;
+        synchronized (lock()) {
+            long moment = alarm.passes();
+            if (moment == Alarm.NEVER) {
                 return;
             }
             int who = who();
-            alarm = null;
-            alarmAt = Long.MAX_VALUE;
             machine.pass(moment, who);
             due = machine.due();
             publish(news, who);
-            alarmAt = due = unwritten > 0 ? due : Long.MAX_VALUE;
+            due = isDue() && alarm.isFirst(due) ? due : Alarm.NEVER;
         }
         try {
-            if (due < Long.MAX_VALUE) {
-                wakeAt(due);
+            if (due < Alarm.NEVER) {
+                alarm.set(due);
             }
         } catch (Throwable none) {
             news.failure = none;
@@ -914,7 +987,7 @@ public final class Request implements AutoCloseable {
     /** Has a stage settled whose limit a watch lets pass. */
     private void passes(Stage<?> stage, boolean gives, Object value) {
         News news = new News(watch);
-        synchronized (machine) {
+        synchronized (lock()) {
             change(gives ? Words.complete(CLOCK, stage.number, number(value)) : Words.failAs(CLOCK, stage.number, Words.TIMED_OUT), who(), news);
         }
         tell(news);
@@ -943,18 +1016,16 @@ public final class Request implements AutoCloseable {
     /** A stage was settled of which the machine had a relay or a deadline: the clock forgets the request where that was the last one. */
     private void released() {
         Future<?> over = null;
-        synchronized (machine) {
-            if (unwritten == 0) {
-                over = alarm;
-                alarm = null;
-                alarmAt = Long.MAX_VALUE;
+        synchronized (lock()) {
+            if (!isDue()) {
+                over = alarm == null ? null : alarm.forget();
                 if (isClosed) {
                     isClosed = false;
                     machine.rest(null);
                 }
             }
         }
-        stop(over);
+        Alarm.stop(over);
     }
 
     // Relays.
@@ -1014,14 +1085,14 @@ public final class Request implements AutoCloseable {
     }
 
     private void relayed(Stage<?> relay, Object told, boolean wraps, News news) {
-        synchronized (machine) {
+        synchronized (lock()) {
             int who = who();
             change(relayWord(relay.number, told, wraps), who, news);
         }
     }
 
     private boolean feeds(Stage<?> stage, Link link) {
-        synchronized (machine) {
+        synchronized (lock()) {
             if (stage.told == null) {
                 Stage.More more = stage.more();
                 more.outside = and(more.outside, link);
@@ -1039,14 +1110,14 @@ public final class Request implements AutoCloseable {
     }
 
     void unlink(Stage<?> stage, Link link) {
-        synchronized (machine) {
+        synchronized (lock()) {
             stage.more.outside.remove(link);
         }
     }
 
     /** What hangs on a settled stage outside its request. */
     private Link outside(Stage<?> stage) {
-        synchronized (machine) {
+        synchronized (lock()) {
             return stage.more.outside.take();
         }
     }
@@ -1186,7 +1257,7 @@ public final class Request implements AutoCloseable {
 
     private News claim(Stage<?> stage) {
         News news = new News(watch);
-        synchronized (machine) {
+        synchronized (lock()) {
             claim(stage, who(), news);
         }
         watch.happened();
@@ -1197,7 +1268,7 @@ public final class Request implements AutoCloseable {
     void work(Stage<?> stage) {
         checkDepth();
         News news = new News(watch);
-        synchronized (machine) {
+        synchronized (lock()) {
             claim(stage, who(), news);
         }
         tell(news);
@@ -1288,7 +1359,7 @@ public final class Request implements AutoCloseable {
 
     /** A stage whose executor takes nothing ends by what that threw. */
     private void refused(Stage<?> stage, Throwable refused, News news) {
-        synchronized (machine) {
+        synchronized (lock()) {
             int who = who();
             machine.apply(Words.claim(who, stage.number), who);
             if (machine.answer() == History.GRANTED) {
@@ -1320,7 +1391,7 @@ public final class Request implements AutoCloseable {
             ((Throwable) second).addSuppressed(thrown);
         }
         Link link = null;
-        synchronized (machine) {
+        synchronized (lock()) {
             int who = who();
             if (thrown != null) {
                 machine.finish(number, true, code(thrown), who);
@@ -1384,18 +1455,6 @@ public final class Request implements AutoCloseable {
         }
         Stage<?> relay = stages[number - 1];
         return relay != null ? relay : new Stage<>(this, number - 1, Form.SOURCE, null, null);
-    }
-
-    /** Keeps what is to be done at the end of a stage that isn't settled, and says whether it isn't. */
-    boolean observes(Stage<?> stage, Runnable act) {
-        synchronized (machine) {
-            if (stage.told == null) {
-                Stage.More more = stage.more();
-                more.observers = new Stage.Observer(act, more.observers);
-                return true;
-            }
-            return false;
-        }
     }
 
     private void record(Recorder recorder) {

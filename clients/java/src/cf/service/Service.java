@@ -23,11 +23,13 @@ public final class Service {
     /** Null where nobody is told of ends. */
     private final Ends ends;
     private final AtomicLong requests;
+    /** Whether its requests go on in further ones. */
+    private final boolean goesOn;
     /** Who runs it, as a test does; else null. */
     final Watch watch;
 
     static {
-        Watched.madeBy((executor, watch) -> new Service(executor, Describe.ALL, null, null, new AtomicLong(), watch));
+        Watched.madeBy((executor, watch) -> new Service(executor, Describe.ALL, null, null, new AtomicLong(), false, watch));
     }
 
     /** With the executor that {@link CompletableFuture} has where none is given. */
@@ -36,21 +38,22 @@ public final class Service {
     }
 
     public Service(Executor executor) {
-        this(Objects.requireNonNull(executor), Describe.ALL, null, null, new AtomicLong(), null);
+        this(Objects.requireNonNull(executor), Describe.ALL, null, null, new AtomicLong(), false, null);
     }
 
-    private Service(Executor executor, Describe describe, Contexts contexts, Ends ends, AtomicLong requests, Watch watch) {
+    private Service(Executor executor, Describe describe, Contexts contexts, Ends ends, AtomicLong requests, boolean goesOn, Watch watch) {
         this.executor = executor;
         this.describe = describe;
         this.contexts = contexts;
         this.ends = ends;
         this.requests = requests;
+        this.goesOn = goesOn;
         this.watch = watch;
     }
 
     /** One with the same executor, of whose requests it is told by this function what their values and exceptions are. */
     public Service describing(Describe describe) {
-        return new Service(executor, Objects.requireNonNull(describe), contexts, ends, requests, watch);
+        return new Service(executor, Objects.requireNonNull(describe), contexts, ends, requests, goesOn, watch);
     }
 
     /**
@@ -58,7 +61,7 @@ public final class Service {
      * functions those of the place where the request was opened.
      */
     public Service carrying(Contexts contexts) {
-        return new Service(executor, describe, Objects.requireNonNull(contexts), ends, requests, watch);
+        return new Service(executor, describe, Objects.requireNonNull(contexts), ends, requests, goesOn, watch);
     }
 
     /**
@@ -67,7 +70,12 @@ public final class Service {
      * the request was opened. What it throws is logged as a warning of {@code cf.service}.
      */
     public Service onEnd(Consumer<? super History> hook) {
-        return new Service(executor, describe, contexts, new Ends(Objects.requireNonNull(hook)), requests, watch);
+        return new Service(executor, describe, contexts, new Ends(Objects.requireNonNull(hook)), requests, goesOn, watch);
+    }
+
+    /** One with the same executor, of whose requests each {@link Request#goesOn goes on}. */
+    public Service goesOn() {
+        return new Service(executor, describe, contexts, ends, requests, true, watch);
     }
 
     /** A request by this name, which histories tell. */
@@ -77,7 +85,7 @@ public final class Service {
 
     /** A request of which it is told by this function what its values and exceptions are. */
     public Request request(String name, Describe describe) {
-        return new Request(this, Objects.requireNonNull(name), null, ROOM, Objects.requireNonNull(describe));
+        return goingOn(new Request(this, Objects.requireNonNull(name), null, ROOM, Objects.requireNonNull(describe)));
     }
 
     public Request request() {
@@ -98,9 +106,13 @@ public final class Service {
         if (given.length > flow.promises()) {
             throw new IllegalArgumentException(given.length + " values for " + flow.promises() + " promises");
         }
-        Request request = new Request(this, flow.name(), flow, 0, describe);
+        Request request = goingOn(new Request(this, flow.name(), flow, 0, describe));
         request.begin(given);
         return request;
+    }
+
+    private Request goingOn(Request request) {
+        return goesOn ? request.goesOn() : request;
     }
 
     /** An executor that hands on after a time. */

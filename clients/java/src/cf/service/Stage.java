@@ -11,7 +11,6 @@ import java.util.concurrent.ExecutionException;
 import java.util.concurrent.Executor;
 import java.util.concurrent.TimeUnit;
 import java.util.concurrent.TimeoutException;
-import java.util.concurrent.atomic.AtomicReferenceFieldUpdater;
 import java.util.function.BiConsumer;
 import java.util.function.BiFunction;
 import java.util.function.Consumer;
@@ -24,20 +23,11 @@ import java.util.function.Supplier;
  * <p>It is a CompletableFuture, so that all that takes one takes it. The part that it inherits is told what the machine has decided, wakes
  * who waits, and serves what Java's own classes attach by themselves, as the static methods of CompletableFuture do; it decides nothing.
  */
-public class Stage<T> extends CompletableFuture<T> {
-    /** What null is told as. */
-    static final Object NIL = new Object();
-
+public class Stage<T> extends Waits<T> {
     final Request request;
     final int number;
     final Form form;
     final Executor executor;
-
-    @SuppressWarnings("rawtypes")
-    private static final AtomicReferenceFieldUpdater<Stage, Object> TOLD = AtomicReferenceFieldUpdater.newUpdater(Stage.class, Object.class, "told");
-
-    /** What it is settled with: a Fault, NIL or a value; null before. It is written under the request's lock, by {@link #tells}. */
-    volatile Object told;
 
     // These are the request's, under its lock, or of the one thread that tells the news.
     Object function;
@@ -45,7 +35,6 @@ public class Stage<T> extends CompletableFuture<T> {
     /** How many relays and deadlines of it the machine has. */
     int unwritten;
     Stage<?> nextSettled, nextReady;
-    volatile More more;
 
     /** What few stages have. */
     static final class More {
@@ -67,16 +56,6 @@ public class Stage<T> extends CompletableFuture<T> {
             this.moment = moment;
             this.gives = gives;
             this.number = number;
-        }
-    }
-
-    static final class Observer {
-        final Runnable act;
-        final Observer next;
-
-        Observer(Runnable act, Observer next) {
-            this.act = act;
-            this.next = next;
         }
     }
 
@@ -103,15 +82,16 @@ public class Stage<T> extends CompletableFuture<T> {
         at.entered(this);
     }
 
-    /** Settles it. The write needs no fence of its own, since the lock that is held is one. */
-    void tells(Object outcome) {
-        function = null;
-        TOLD.lazySet(this, outcome);
+    @Override
+    final Object lock() {
+        return request.lock();
     }
 
-    More more() {
-        More it = more;
-        return it != null ? it : (more = new More());
+    /** Settles it: nobody needs its function any more. */
+    @Override
+    final void tells(Object outcome) {
+        function = null;
+        super.tells(outcome);
     }
 
     public Request request() {
@@ -585,63 +565,25 @@ public class Stage<T> extends CompletableFuture<T> {
 
     // Telling.
 
-    /** Of a stage that is settled when it is made: there is nobody to tell. */
-    void inherit() {
-        inherit(told);
-    }
-
-    /** Tells the inherited part what the machine has decided, by which it wakes who waits. */
-    @SuppressWarnings("unchecked")
-    private void inherit(Object told) {
-        if (told instanceof Fault) {
-            super.completeExceptionally(((Fault) told).error);
-        } else {
-            super.complete(told == NIL ? null : (T) told);
-        }
-    }
-
-    /**
-     * What it is settled with, or null. Whoever has seen that it is settled finds the inherited part told, too, which {@code allOf} and Java
-     * 19's {@code state} read. Where something hangs on that, the thread that settled the stage is about to tell it: this one may be
-     * anybody's that only asks, and mustn't call functions.
-     */
-    private Object seen() {
+    @Override
+    final Object seen() {
         if (request.watch != null) {
             request.watch.read(request, number);
         }
-        Object told = this.told;
-        if (told != null && !super.isDone() && super.getNumberOfDependents() == 0) {
-            inherit(told);
-        }
-        return told;
-    }
-
-    /** Whether Java's own classes have attached something, which nobody has told yet. */
-    boolean hasJavas() {
-        return !super.isDone() && super.getNumberOfDependents() > 0;
+        return super.seen();
     }
 
     /** Tells all who hang on it, and the recording. */
-    void show() {
-        Object told = this.told;
-        inherit(told);
-        Recorder recorder = Recorder.now();
-        if (recorder != null && recorder.takesStages()) {
-            recorder.stage(request.name(), number, form.text, request.called(this),
-                    Text.of(request.describe, told == NIL ? null : told instanceof Fault ? ((Fault) told).error : told));
-        }
-        More more = this.more;
-        // Nobody adds to them since told is there.
-        for (Observer each; more != null && (each = more.observers) != null;) {
-            more.observers = each.next;
-            each.act.run();
-        }
-    }
-
-    /** Acts once the stage is settled: in the thread that settles it, or in this one if it is settled. */
-    void observe(Runnable act) {
-        if (!request.observes(this, act)) {
-            act.run();
+    @Override
+    final void show() {
+        try {
+            super.show();
+        } finally {
+            Recorder recorder = Recorder.now();
+            if (recorder != null && recorder.takesStages()) {
+                recorder.stage(request.name(), number, form.text, request.called(this),
+                        Text.of(request.describe, told == NIL ? null : told instanceof Fault ? ((Fault) told).error : told));
+            }
         }
     }
 }

@@ -24,6 +24,9 @@ public final class AllTests {
         test("cancellations of one's own", RelaysTest::ownCancellations);
         test("a full request", FullRequestsTest::full);
         test("a full request that goes on", FullRequestsTest::goesOn);
+        test("all of many, or one", GatheringTest::asJavas);
+        test("room for all of many", GatheringTest::room);
+        test("many in parts", GatheringTest::parts);
         test("chains through requests", ChainsTest::backAndForth);
         test("chains of finished futures", ChainsTest::finishedChains);
         test("chains of links", ChainsTest::linkedChains);
@@ -36,6 +39,7 @@ public final class AllTests {
         test("requests closed by their users", ClosingTest::closedWithin);
         test("requests closed by others in every order", ClosingTest::closedAtAnyMoment);
         test("requests closed before time", ClosingTest::closedBefore);
+        test("all that is cancelled", ClosingTest::cancelsAll);
         test("late answers", TimeoutsTest::late);
         test("waiting in a pool of one", FunctionsTest::waitsWhileRunning);
         test("refused tasks", FunctionsTest::refusedTasks);
@@ -59,8 +63,10 @@ public final class AllTests {
         test("what is told now", AskingTest::toldNow);
         test("texts of stages", HistoriesTest::texts);
         test("interrupts", AskingTest::interrupts);
+        test("waits in every order", WaitsTest::searched);
         test("races", RacesTest::races);
         test("who settles a stage in every order", RacesTest::everyOrder);
+        test("cancels that wait for the lock", RacesTest::cancelsTooLate);
         test("races of relays", RacesTest::relayRaces);
         test("contexts", TracesTest::contexts);
         test("contexts that break", TracesTest::brokenContexts);

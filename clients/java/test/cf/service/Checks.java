@@ -1,5 +1,8 @@
 package cf.service;
 
+import java.lang.management.LockInfo;
+import java.lang.management.ManagementFactory;
+import java.lang.management.ThreadInfo;
 import java.lang.reflect.Proxy;
 import java.nio.file.Files;
 import java.nio.file.Path;
@@ -47,6 +50,17 @@ final class Checks {
             is(latch.await(60, TimeUnit.SECONDS), true);
         } catch (InterruptedException interrupted) {
             throw new AssertionError(interrupted);
+        }
+    }
+
+    /** Waits until that thread waits for this monitor, which somebody else has. */
+    static void awaitBlocked(Thread thread, Object monitor) throws InterruptedException {
+        int wanted = System.identityHashCode(monitor);
+        for (LockInfo lock = null; lock == null || lock.getIdentityHashCode() != wanted;) {
+            is(thread.isAlive(), true);
+            Thread.sleep(1);
+            ThreadInfo info = ManagementFactory.getThreadMXBean().getThreadInfo(thread.getId());
+            lock = info == null || info.getThreadState() != Thread.State.BLOCKED ? null : info.getLockInfo();
         }
     }
 

@@ -5,8 +5,11 @@ import static cf.service.Checks.SERVICE;
 
 import cf.service.testing.Orders;
 import java.util.ArrayList;
+import java.util.Arrays;
 import java.util.Collections;
 import java.util.List;
+import java.util.concurrent.CompletableFuture;
+import java.util.concurrent.CountDownLatch;
 import java.util.concurrent.ExecutorService;
 import java.util.concurrent.Executors;
 import java.util.concurrent.Future;
@@ -169,5 +172,41 @@ final class ClosingTest {
             world.atEnd(() -> closing.history().stages() == 6, "all are in the history");
             world.settles(linked, async);
         }).seconds(60).whole().check();
+    }
+
+    /** All open stages are cancelled, so that no function behind them is called; one that runs goes on, and comes too late. */
+    static void cancelsAll() throws Exception {
+        CountDownLatch runs = new CountDownLatch(1), may = new CountDownLatch(1);
+        List<String> called = Collections.synchronizedList(new ArrayList<>());
+        Request request = SERVICE.request();
+        Stage<Integer> done = request.completedFuture(1), open = request.promise();
+        Stage<Integer> running = request.supplyAsync(() -> {
+            runs.countDown();
+            Checks.await(may);
+            called.add("runs");
+            return 2;
+        });
+        Stage<Object> behind = open.handle((value, error) -> called.add("handle"));
+        Stage<Object> any = request.anyOf(open, running, behind);
+        Stage<Integer> elsewhere = request.adopt(new CompletableFuture<>());
+        Stage<Integer> timed = request.<Integer>promise().orTimeout(1, TimeUnit.DAYS);
+        Checks.await(runs);
+        request.cancelAll();
+        for (Stage<?> each : Arrays.asList(open, running, behind, any, elsewhere, timed)) {
+            is(each.isCancelled(), true);
+        }
+        is(done.join(), 1);
+        is(request.completedFuture(3).join(), 3);
+        may.countDown();
+        for (int k = 0; k < 2000 && !request.history().toString().contains("too late"); k++) {
+            Thread.sleep(10);
+        }
+        is(called, Collections.singletonList("runs"));
+        is(request.history().toString().contains("too late"), true);
+        Flow flow = new Flow("cancelled");
+        Flow.Step<Integer> first = flow.promise(), second = first.handle((value, error) -> 1);
+        Request started = SERVICE.start(flow);
+        started.cancelAll();
+        is(started.stage(first).isCancelled() && started.stage(second).isCancelled(), true);
     }
 }

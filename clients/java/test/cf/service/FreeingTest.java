@@ -219,7 +219,7 @@ final class FreeingTest {
 
     /** Where the heap has much room, what requests that nobody closes have outside of it is bounded all the same. */
     static void bounded() throws Exception {
-        is(HostileTest.child("bounded", "-Xmx128m", "-Xmn96m", "-XX:+UseSerialGC").contains("survived"), true);
+        is(HostileTest.child("cf.service.HostileTest", "bounded", "-Xmx128m", "-Xmn96m", "-XX:+UseSerialGC").contains("survived"), true);
     }
 
     /** In a process of its own. */

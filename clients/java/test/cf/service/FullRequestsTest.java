@@ -62,5 +62,10 @@ final class FullRequestsTest {
         }
         is(count, 3);
         is(firstOfFull.thenCombine(lastThatFits, Integer::sum).join(), 10_000);
+        Request ofService = new Service().goesOn().describing(Describe.NOTHING).request();
+        for (int k = 0; k <= 4096; k++) {
+            ofService.promise();
+        }
+        is(ofService.next().history().stages(), 1);
     }
 }

@@ -30,16 +30,16 @@ public final class HostileTest {
         String[] options = {"-Xcheck:jni", "-Xmx16m", "-XX:+UseSerialGC", "-XX:TieredStopAtLevel=1", "-Dcf.room=70000", "-Dcf.kept=-5",
                 "-XX:CompileCommand=exclude,cf.service.HostileTest::deepest", "-XX:CompileCommand=exclude,cf.service.HostileTest::down"};
         for (String what : new String[] {"uses", "memory", "stacks", "stops"}) {
-            String told = child(what, options);
+            String told = child("cf.service.HostileTest", what, options);
             is(what + ": " + (told.contains("survived") && !told.contains("in native method") ? "survived" : told), what + ": survived");
         }
     }
 
-    /** What a process tells that does this. */
-    static String child(String what, String... options) throws Exception {
+    /** What a process tells in which this class does that. */
+    static String child(String main, String what, String... options) throws Exception {
         List<String> command = new ArrayList<>(Arrays.asList(System.getProperty("java.home") + "/bin/java"));
         command.addAll(Arrays.asList(options));
-        command.addAll(Arrays.asList("-cp", System.getProperty("java.class.path"), "cf.service.HostileTest", what));
+        command.addAll(Arrays.asList("-cp", System.getProperty("java.class.path"), main, what));
         Path told = Files.createTempFile("hostile", ".txt");
         Process process = new ProcessBuilder(command).redirectErrorStream(true).redirectOutput(told.toFile()).start();
         boolean ended = process.waitFor(100, TimeUnit.SECONDS);

@@ -177,6 +177,13 @@ final class MachineTest {
             is((Machine.deadline(core, 0, stage, 5, false, 0) & 0xff) != Native.OK, true);
             is((Machine.finish(core, 0, stage, false, 0, WHO) & 0xff) != Native.OK, true);
         }
+        for (short[] of : new short[][] {{0, 1, 0}, {0, 0, -1}, {0, 4096, 0}, new short[5000]}) {
+            is((Machine.gather(core, 0, Form.ALL_OF.ordinal(), of, WHO) & 0xff) != Native.OK, true);
+        }
+        for (int number : new int[] {-1, 64, Form.COMBINE.ordinal(), Integer.MAX_VALUE}) {
+            is((Machine.gather(core, 0, number, new short[3], WHO) & 0xff) != Native.OK, true);
+            is((Machine.gather(core, number == 6 ? -1 : 0, Form.ALL_OF.ordinal(), new short[3], number) & 0xff) != Native.OK, true);
+        }
         is((int) Machine.pass(core, 0, -1, Integer.MAX_VALUE) & 0xff, 0);
         is((int) Machine.apply(core, 0, Words.complete(WHO, 0, 3), Integer.MAX_VALUE, Integer.MAX_VALUE) & 0xff, 34);
         is((int) Machine.apply(core, 0, Words.complete(WHO, 0, 3), 0, WHO) & 0xff, 0);

@@ -17,6 +17,7 @@ import java.util.concurrent.CyclicBarrier;
 import java.util.concurrent.ExecutorService;
 import java.util.concurrent.Executors;
 import java.util.concurrent.Future;
+import java.util.concurrent.FutureTask;
 import java.util.concurrent.TimeUnit;
 import java.util.concurrent.atomic.AtomicInteger;
 import java.util.concurrent.atomic.AtomicReference;
@@ -109,6 +110,21 @@ final class RacesTest {
         boolean did = raced.cancel(true);
         is(did, raced.isCancelled());
         return did;
+    }
+
+    /** A stage that is settled while a cancel waits for the request's lock isn't cancelled, and the cancel says so. */
+    static void cancelsTooLate() throws Exception {
+        Stage<Integer> raced = SERVICE.request().promise();
+        FutureTask<Boolean> cancel = new FutureTask<>(() -> raced.cancel(true));
+        Thread cancels = new Thread(cancel, "cancels");
+        synchronized (raced.request.machine) {
+            cancels.start();
+            Checks.awaitBlocked(cancels, raced.request.machine);
+            is(raced.complete(1), true);
+        }
+        is(cancel.get(20, TimeUnit.SECONDS), false);
+        is(raced.isCancelled(), false);
+        is(raced.request.history().script().contains("[\"cancel\",0]"), true);
     }
 
     /** The clock settles it at once; that isn't told to this thread. */
