@@ -71,6 +71,7 @@
 //! On four cores of 2.5 GHz: about 0.3 µs to attach a stage, 0.4 to claim, call and finish its function on one thread, and 0.8 to 1.4 a stage
 //! where eight threads run trivial functions; 176 bytes a settled stage, of which 44 are this crate's. Values, errors and the history are kept
 //! until nobody has the request or one of its stages any more.
+#![cfg_attr(docsrs, feature(doc_cfg))]
 #![forbid(unsafe_code)]
 #![warn(missing_docs, missing_debug_implementations, unreachable_pub, rust_2018_idioms)]
 
@@ -109,7 +110,7 @@ pub use describe::{Describe, Describes};
 pub use ends::Ends;
 pub use error::{BoxError, Error, Panic, Refusal};
 pub use history::History;
-pub use request::Request;
+pub use request::{Request, Scope};
 #[cfg(feature = "tokio")]
 pub use runtime::{Blocking, Tasks, TokioClock};
 pub use spans::{Called, Span, SpanFile, Status};

@@ -13,6 +13,7 @@ use crate::value::{Call, Gave};
 use crate::word::Form;
 use std::fmt;
 use std::future::Future;
+use std::ops::Deref;
 use std::sync::Arc;
 
 /// Stages that belong together, of which one history is kept. It is a handle: clones are the same request, and stages keep it alive.
@@ -266,6 +267,20 @@ impl Request {
         self.0.cancel_all(here());
     }
 
+    /// Cancels all that is open when this is dropped, as [`cancel_all`](Request::cancel_all) does: a scope that nothing of the request outlives, also
+    /// where it is left by `?` or by a panic. It is used as the request is.
+    ///
+    /// ```
+    /// let scope = cf::Request::new("basket 3", cf::Inline).cancel_on_drop();
+    /// let price = scope.promise::<u32>();
+    /// drop(scope);
+    /// assert!(price.wait().unwrap_err().is_cancelled());
+    /// ```
+    #[must_use = "it cancels all at once where nobody keeps it"]
+    pub fn cancel_on_drop(self) -> Scope {
+        Scope(self)
+    }
+
     /// All that happened until now. It takes some 20 ns an event, and telling it 1 µs.
     ///
     /// ```
@@ -296,6 +311,29 @@ impl Request {
 
     fn attach<U>(&self, form: Form, of: &[u16], call: Option<Call>, made: Made) -> Stage<U> {
         Stage::new(&self.0, self.0.attach(here(), form, of, call, made))
+    }
+}
+
+/// A request that cancels all that is open when this handle of it is dropped: what [`Request::cancel_on_drop`] gives.
+///
+/// ```
+/// let scope: cf::Scope = cf::Request::new("basket 3", cf::Inline).cancel_on_drop();
+/// assert_eq!(scope.supply(|| 49).wait().unwrap(), 49);
+/// ```
+#[derive(Debug)]
+pub struct Scope(Request);
+
+impl Deref for Scope {
+    type Target = Request;
+
+    fn deref(&self) -> &Request {
+        &self.0
+    }
+}
+
+impl Drop for Scope {
+    fn drop(&mut self) {
+        self.0.cancel_all();
     }
 }
 

@@ -111,6 +111,22 @@ fn a_future_goes_with_its_stage() {
     }
 }
 
+/// A scope that is left at any moment leaves nothing open: what isn't settled by then is cancelled.
+#[test]
+fn a_scope_leaves_nothing_open() {
+    let ends = ends(|world| {
+        let request = world.request("scope");
+        let price = world.arrives(request.promise(), 49);
+        let doubled = price.clone().then(|price| price * 2);
+        let scope = request.cancel_on_drop();
+        world.calls("leaves", move || drop(scope));
+        let outcomes = (price.clone(), doubled.clone());
+        world.end_is(move || format!("{} {}", told(outcomes.0.wait()), told(outcomes.1.wait())));
+        (price, doubled)
+    });
+    assert_eq!(ends, ["49 98", "49 cancelled", "cancelled cancelled"]);
+}
+
 /// A history that is taken between any two moves comes again, and goes on where the one before ended.
 #[test]
 fn a_history_goes_on() {

@@ -1,0 +1,68 @@
+//! What README.md says to write for what isn't there, row by row.
+use cf::{HandClock, Inline, Request, Stage};
+use std::sync::atomic::{AtomicU32, Ordering::SeqCst};
+use std::sync::Arc;
+use std::time::Duration;
+
+const SECOND: Duration = Duration::from_secs(1);
+
+/// A request, and a clock that a test turns.
+fn request() -> (Request, HandClock) {
+    let clock = HandClock::new();
+    (Request::with_clock("instead", Arc::new(Inline), Arc::new(clock.clone())), clock)
+}
+
+#[test]
+fn a_delayed_start() {
+    let (request, clock) = request();
+    let later = request.promise().complete_on_timeout((), 2 * SECOND).then(|()| 49);
+    clock.turn(SECOND);
+    assert!(!later.is_settled());
+    clock.turn(SECOND);
+    assert_eq!(later.wait().unwrap(), 49);
+}
+
+fn again(request: Request, ask: Arc<AtomicU32>, left: u32, wait: Duration) -> Stage<u32> {
+    let asks = Arc::clone(&ask);
+    let told = request.try_supply(move || match asks.fetch_add(1, SeqCst) {
+        2 => Ok(49),
+        _ => Err("away"),
+    });
+    if left == 0 {
+        return told;
+    }
+    told.recover_compose(move |_| {
+        let waited = request.promise().complete_on_timeout((), wait);
+        waited.compose(move |()| again(request, ask, left - 1, 2 * wait))
+    })
+}
+
+#[test]
+fn tries_with_longer_and_longer_waits() {
+    for (tries, wanted) in [(2, "49"), (1, "away")] {
+        let ((request, clock), asked) = (request(), Arc::new(AtomicU32::new(0)));
+        let told = again(request, Arc::clone(&asked), tries, SECOND);
+        assert_eq!(asked.load(SeqCst), 1);
+        clock.turn(SECOND);
+        assert_eq!(asked.load(SeqCst), 2);
+        clock.turn(SECOND);
+        assert_eq!(asked.load(SeqCst), 2);
+        clock.turn(SECOND);
+        assert_eq!(told.wait().map_or_else(|error| error.to_string(), |cents| cents.to_string()), wanted);
+    }
+}
+
+/// What the answer waits for is cancelled with it.
+#[test]
+fn a_deadline_for_a_whole_request() {
+    let (request, clock) = request();
+    let backend = {
+        let scope = request.cancel_on_drop();
+        let backend = scope.promise::<u32>();
+        let answer = backend.clone().then(|cents| cents * 2).or_timeout(SECOND);
+        clock.turn(SECOND);
+        assert!(answer.wait().unwrap_err().is_timeout());
+        backend
+    };
+    assert!(backend.wait().unwrap_err().is_cancelled());
+}
