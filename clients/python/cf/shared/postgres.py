@@ -1,6 +1,7 @@
 """Rows in tables of a PostgreSQL database, by psycopg2."""
 import contextlib
 import importlib
+import re
 import select
 import threading
 import time
@@ -28,6 +29,8 @@ SCHEMA = """
     create table if not exists cf_name (request bigint, session bigint, name text not null,
         primary key (request, session));
 """
+# (Where all are there, none is made: an index that is made waits for open transactions, and all puts wait for it.)
+PARTS = re.findall(r"if not exists (\w+)", SCHEMA)
 NOW = "extract(epoch from clock_timestamp())::double precision"
 WORDS_PUT = "pg_stat_get_tuples_inserted('cf_word'::regclass)"
 MARK = "select pg_snapshot_xmin(pg_current_snapshot())::text::bigint"
@@ -58,7 +61,8 @@ OTHER = ("with mark as (select %s::xid8 as at), unclosed as materialized (select
          "where closed is null), anew as (select id from unclosed where made_by >= (select at from mark) union "
          f"(select id from unclosed where id > %s order by id limit {ANEW})) "
          f"select ({MARK}), null, null::double precision, null::int, null, null::int, string_agg(id::text, ','), "
-         "'open' from unclosed union all select request, null, null, max(at) + 1, null, null, null, 'longer' from cf_word "
+         "'open' from unclosed union all "
+         "select request, null, null, max(at) + 1, null, null, null, 'longer' from cf_word "
          "where made_by >= (select at from mark) group by request union all "
          f"select {COLUMNS}, 'told' from anew, {GLANCED} where r.id = anew.id")
 SAFE = {"fsync": ("on",), "full_page_writes": ("on",), "transaction_read_only": ("off",)}
@@ -77,7 +81,7 @@ class Postgres(TableStore):
     whole database. That connection doesn't wait for the disk, since a notice that a crash has lost was for nobody."""
 
     is_transactional = True
-    VALUE, HAS_PART = "%s", "position(%s in name) > 0"
+    VALUE, HAS_PART = "%s", "position(lower(%s) in lower(name)) > 0"
     # (Materialized, it goes through the open ones alone, and not through all by their names.)
     FIRST_OPEN = ("with opened as materialized (select id, name from cf_request where closed is null) "
                   "select id, (select count(*) from opened) as many from opened "
@@ -92,9 +96,16 @@ class Postgres(TableStore):
         self._notifier: Optional[threading.Thread] = None
         self._is_closed = self._is_made = False
         self._lock = threading.Lock()
-        with self._telling(), contextlib.closing(self._connected()) as db, db.cursor() as cursor:
-            cursor.execute(f"select pg_advisory_lock({SET_UP})")  # (two that make a table at once are refused)
-            cursor.execute(SCHEMA)
+        with self._telling(), contextlib.ExitStack() as undone:
+            cursor = undone.enter_context(contextlib.closing(self._connected())).cursor()
+            cursor.execute("select count(to_regclass(name)) from unnest(%s) as name", [PARTS])
+            if cursor.fetchone()[0] < len(PARTS):
+                cursor.execute(f"select pg_advisory_lock({SET_UP})")  # (two that make a table at once are refused)
+                cursor.execute(SCHEMA)
+                cursor.execute(f"select pg_advisory_unlock({SET_UP})")
+            cursor.execute(PREPARED)
+            self._free.append(cursor)
+            undone.pop_all()
         self._is_made = True
 
     # Connections.
@@ -104,16 +115,16 @@ class Postgres(TableStore):
         try:
             db.autocommit = True
             with db.cursor() as cursor:
+                names = [*SAFE, "synchronous_commit"]
+                cursor.execute("select " + ", ".join(f"current_setting('{name}')" for name in names))
+                found = dict(zip(names, cursor.fetchone()))
                 for name, wanted in {} if self._is_unsafe else SAFE.items():
-                    cursor.execute(f"show {name}")
-                    found = cursor.fetchone()[0]
-                    if found not in wanted:
+                    if found[name] not in wanted:
                         is_away = self._is_made and name == "transaction_read_only"
                         raise (Unknown if is_away else StoreError)(
-                            f"{db.info.host}:{db.info.port}: {name} is {found}, "
+                            f"{db.info.host}:{db.info.port}: {name} is {found[name]}, "
                             "with which words are lost or can't be put")
-                cursor.execute("show synchronous_commit")
-                if self._is_unsafe or cursor.fetchone()[0] in ("off", "local"):
+                if self._is_unsafe or found["synchronous_commit"] in ("off", "local"):
                     cursor.execute(f"set synchronous_commit = {'off' if self._is_unsafe else 'on'}")
             return db
         except BaseException:

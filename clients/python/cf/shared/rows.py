@@ -366,8 +366,10 @@ class Store(abc.ABC):
         """Keeps these, each in the place of the one before. Those of requests that aren't open are left out."""
 
     def closed(self, behind: str, most: int, part: str = "") -> List[Listed]:
-        """Up to so many closed requests whose names come behind this one and have this part, by name."""
-        found = [it for it in self.listing() if it.closed is not None and it.name > behind and part in it.name]
+        """Up to so many closed requests whose names come behind this one and have this part, in small letters or
+        large ones, by name."""
+        found = [it for it in self.listing()
+                 if it.closed is not None and it.name > behind and part.lower() in it.name.lower()]
         return found[:most]
 
     def name_session(self, session: int, said: str, request: str = "", number: int = 0) -> None:

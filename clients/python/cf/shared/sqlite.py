@@ -48,7 +48,7 @@ class SQLite(TableStore):
     `Unknown`."""
 
     is_transactional = locks_out = True
-    VALUE, HAS_PART = "?", "instr(name, ?) > 0"
+    VALUE, HAS_PART = "?", "instr(cf_lower(name), cf_lower(?)) > 0"
     # (The limit has it go through the open ones alone, and not through all by their names.)
     FIRST_OPEN = ("select id, (select count(*) from cf_request where closed is null) as many from "
                   f"(select id, name from cf_request where closed is null limit -1) order by name limit {FIRST}")
@@ -83,6 +83,7 @@ class SQLite(TableStore):
             try:
                 mode = db.execute("pragma journal_mode=wal").fetchone()[0]
                 db.execute(f"pragma synchronous={self._synchronous}")
+                db.create_function("cf_lower", 1, str.lower)  # (its own knows the letters of ASCII alone)
                 if mode not in ("wal", "delete", "truncate", "persist"):
                     raise StoreError(f"{self._path}: journal_mode is {mode}, with which a crash loses words")
                 return db

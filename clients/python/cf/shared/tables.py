@@ -43,7 +43,7 @@ class TableStore(Store):
     another request of that name has a number of its own."""
 
     VALUE: str  # what stands for a value in a statement
-    HAS_PART: str  # whether a name has a part, which is a value
+    HAS_PART: str  # whether a name has a part, which is a value, in small letters or large ones
     FIRST_OPEN: str  # asks for the numbers of the first open requests by name, each with how many there are in all
 
     def __init__(self) -> None:

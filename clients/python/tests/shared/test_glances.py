@@ -189,7 +189,7 @@ class Lists(Case):
             self.assertEqual([it.name for it in found], names[:4])
             self.assertTrue(all(it.closed and it.opened and it.words == 1 for it in found))
             self.assertEqual([it.name for it in store.closed(names[3], 100, self.name)], names[4:])
-            self.assertEqual([it.name for it in store.closed(self.name, 100, "b_") if it.name in names], names[1::2])
+            self.assertEqual([it.name for it in store.closed(self.name, 100, "B_") if it.name in names], names[1::2])
             self.assertGreaterEqual(len(store.closed("", 100)), 10)
 
     def test_names_of_sessions(self):

@@ -5,6 +5,7 @@
 """
 import base64
 import hashlib
+import html
 import http.client
 import json
 import logging
@@ -315,8 +316,11 @@ class Hostile(WebCase):
         service.request("r").promise()
         body = self.ask("GET", "/picture?" + urlencode({"name": "r", "number": 0}))[2]
         self.assertRegex(body.decode(), r"^<head><style>[^<]*</style></head></head><script>run\(\)</script>$")
+        asked = "/picture?" + urlencode({"name": "r", "number": 0, "ready": 1})
+        self.assertEqual(self.ask("GET", asked)[::2], (200, b"{}"))  # it can be had
         program.write_text("#!/bin/sh\nexit 1\n")
         service.request("r").promise()
+        self.assertEqual(self.ask("GET", asked)[0], 500)
         self.assertEqual(self.ask("GET", "/picture?" + urlencode({"name": "r", "number": 0}))[0], 500)
         self.page_over(store)
         self.assertEqual(self.ask("GET", "/picture?" + urlencode({"name": "r", "number": 0}))[0], 404)
@@ -345,6 +349,8 @@ class Lists(WebCase):
             self.assertNotIn(name + " waits", self.rows(part=name, flow=""))
             self.assertEqual(list(self.rows(session=f"{service.session:x}", part=name)), [name + " runs"])
             self.assertEqual(self.rows(session="1", part=name), {})
+            told = [self.data(view="requests", **its)["session"] for its in ({"session": "1"}, {})]
+            self.assertEqual((told[0]["id"], told[1]), ("0000000001", None))
             self.assertEqual(list(self.rows(part=name.upper() + " WAITS")), [name + " waits"])
             self.assertEqual(self.data(view="requests", part=name)["counts"]["waiting"], 1)
             closed = self.rows(state="closed", part=name)
@@ -679,9 +685,11 @@ class Away(WebCase):
             self.assertIn("r", self.rows())  # what was known is shown
             self.assertIn("cf_store_up 0\n", self.ask("GET", "/metrics")[2].decode())
             with unittest.mock.patch.object(self, "one", lambda name: {"number": number}):
-                self.assertEqual(self.act("end", "r", who="Ada", cancels=True)[0], status)
+                got, said = self.act("end", "r", who="Ada", cancels=True)
+            self.assertEqual((got, said["said"] == TEXTS["away"]), (status, status == 503))
             got, _, body = self.ask("GET", "/data?view=request&name=r&number=%d" % number)
             self.assertEqual((got, b"<b>" in body), (status, False))
+            self.assertEqual(TEXTS["silent"] in html.unescape(body.decode()), status == 503)  # nothing was to be done
             self.assertEqual(self.ask("GET", "/data?view=requests&state=closed")[0], status)
             store.fault = None
             self.until(lambda: self.data(view="requests")["away"] == "")

@@ -175,8 +175,9 @@ class Board:
             try:
                 self._round()
                 self._say_away("")
-                self._stops.wait(LEAST_BETWEEN)
-                self.store.changed(LEAST_BETWEEN)
+                if self.is_known:  # (else the others follow the first at once)
+                    self._stops.wait(LEAST_BETWEEN)
+                    self.store.changed(LEAST_BETWEEN)
             except (Unknown, StoreError) as error:
                 self.unknown += isinstance(error, Unknown)
                 self._say_away(str(error))

@@ -49,6 +49,7 @@ def requests(board: Board, wanted: Filter) -> Dict[str, Any]:
     board.want([line.name for line in rows])
     return {"view": "requests", "rows": [row(board, line) for line in rows], "total": max(board.many, len(found)),
             "counts": {state: counts[state] for state in STATES}, "flows": sorted(flows)[:MOST_FLOWS],
+            "session": None if wanted.session is None else session_of(board, wanted.session),
             "next": rows[-1].name if more else None, **about(board)}
 
 
@@ -79,7 +80,7 @@ def row(board: Board, line: Line) -> Dict[str, Any]:
 
 
 def closed(board: Board, wanted: Filter) -> Dict[str, Any]:
-    """A page of closed requests, which the store is asked for."""
+    """A page of closed requests, which the store is asked for, by a part of their names alone."""
     found = board.store.closed(wanted.behind, PAGE + 1, wanted.part)
     rows = [{"name": it.name, "said": escaped(it.name), "number": 0, "words": it.words, "flow": "", "state": "closed",
              "opened": it.opened - board.ahead, "closed": (it.closed or it.opened) - board.ahead, "why": ""}

@@ -29,6 +29,7 @@ LOGGER = logging.getLogger("cf.requests")
 LARGEST = 1_000_000  # bytes of an action
 MOST_LIVE = 64  # pages that are sent what changes
 BETWEEN = 0.25  # seconds between two sends to a page
+AT_FIRST = 0.02  # the same while nothing is known
 ALIVE = 10.0  # seconds after which a page is told that the server is there
 STILL = 1.0  # seconds after which a page is asked for anew even where nothing is known to have changed
 MOMENT = ("now", "rate")  # what is other at each moment, and isn't sent by itself
@@ -190,8 +191,9 @@ class Handler(BaseHTTPRequestHandler):
                 "title": server.title}
 
     @staticmethod
-    def _tried(call: Callable[[], None]) -> Tuple[int, str]:
-        """Does it, and says with which status and why that failed; no reason where it didn't."""
+    def _tried(call: Callable[[], None], away: str = "silent") -> Tuple[int, str]:
+        """Does it, and says with which status and why that failed; no reason where it didn't. `away` names what is said
+        where the store doesn't answer."""
         try:
             call()
             return 200, ""
@@ -202,7 +204,7 @@ class Handler(BaseHTTPRequestHandler):
         except Broken as error:
             return 409, TEXTS["broken"].format(f"place {error.place}: {error.why}")
         except Unknown:
-            return 503, TEXTS["away"]
+            return 503, TEXTS[away]
         except StoreError as error:
             return 409, TEXTS["refused"].format(error)
 
@@ -217,7 +219,7 @@ class Handler(BaseHTTPRequestHandler):
             if not isinstance(asked, dict):
                 raise Misused(TEXTS["misused"])
             told.extend(self.server.actions.do(asked))
-        status, why = self._tried(act)
+        status, why = self._tried(act, "away")
         self._json(status, {"done": False, "said": why} if why else {"done": told[0], "said": told[1]})
 
     def _picture(self, given: Asked) -> None:
@@ -231,6 +233,9 @@ class Handler(BaseHTTPRequestHandler):
             if isinstance(error, Unknown):
                 raise
             self._say(500, TEXTS["no_picture"].format(error))
+            return
+        if "ready" in given:  # whether it can be had: who shows a frame doesn't see what became of it
+            self._json(200, {})
             return
         # (as the page's own button does it)
         theme = given.get("theme", "") if given.get("theme") in ("light", "dark") else ""
@@ -270,8 +275,8 @@ class Handler(BaseHTTPRequestHandler):
             elif began - sent_at > ALIVE:
                 self.wfile.write(b": here\n\n")
                 sent_at = began
-            # (what takes long is asked for less often)
-            time.sleep(max(BETWEEN, 2 * (time.monotonic() - began)))
+            # (what takes long is asked for less often, and the first requests are sent as soon as they are known)
+            time.sleep(max(BETWEEN if board.is_known or board.many else AT_FIRST, 2 * (time.monotonic() - began)))
 
     # Answers.
 
