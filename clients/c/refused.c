@@ -654,7 +654,7 @@ static void by_views(void) {
   HOLDS(is_filled() && !empty.full);
 }
 
-/* The caller's number after all others: 64 sessions put one word each, and the next one has none. */
+/* The caller's number after all others: 64 sessions put one word each, and the next one shares its own modulo 64. */
 static void by_sessions(void) {
   cf_handle crowd = {0};
   cf_event event = settles;
@@ -668,9 +668,11 @@ static void by_sessions(void) {
     event.who = who, one.token = (uint64_t)(who + 1) << 23;
     HOLDS(cf_word_of(event, &one.word) == CF_OK && cf_row_saw(&crowd, &one, &reply, NULL, 0, &n) == CF_OK && n == (who == 0 ? 2 : 0));
   }
+  HOLDS(cf_row_number(&crowd, &small) == CF_OK && small == opening.session % 64);
   fill();
-  ROW(cf_row_number(&crowd, &out.small), CF_NO_NUMBER);
-  ROW(cf_row_plan(&crowd, &one.word, 1, &out.word), CF_NO_NUMBER);
+  event.who = (uint8_t)((small + 1) % 64);
+  HOLDS(cf_word_of(event, &one.word) == CF_OK);
+  ROW(cf_row_plan(&crowd, &one.word, 1, &out.word), CF_NO_WORD);
   HOLDS(cf_row_number_of(&crowd, 64, &small) == CF_OK && small == 63);
   HOLDS(is_filled());
   cf_free(&crowd);

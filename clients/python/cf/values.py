@@ -32,7 +32,7 @@ class Code(enum.IntEnum):
     NO_ROOM = 30
     LOST = 31
     BAD_TEXT, TOO_MANY = 36, 37
-    UNDER_WAY, NO_TOKENS, NO_NUMBER = 38, 39, 40
+    UNDER_WAY, NO_TOKENS = 38, 39
     NULL = 255
 
 

@@ -148,7 +148,6 @@ typedef enum {
   CF_TOO_MANY = 37,           /* there are more texts or times than there can be of what they are said of */
   CF_UNDER_WAY = 38,          /* a put of the view is under way */
   CF_NO_TOKENS = 39,          /* there is no such session or token, or the session has fewer tokens left than words */
-  CF_NO_NUMBER = 40,          /* other sessions have all 64 callers' numbers */
   CF_NULL = 255               /* a pointer is null that may not be; nothing was done */
 } cf_code;
 
@@ -1221,10 +1220,11 @@ uint32_t cf_request_do(cf_handle *request, cf_request_call *calls, size_t n, cf_
  * What others have put: read the row from the place behind all that the view has seen, and give cf_row_saw each entry.
  *
  * A session's caller's number is the lowest that no entry of the row had before its first one (cf_row_number). Its words
- * have this number. So at most 64 sessions put to one row.
+ * have this number. Where all 64 are taken, a session shares that which is its own number modulo 64: then the token of an
+ * entry tells whose it is, and not its word.
  *
- * If a session is gone, cf_row_number_of tells its number, and cf_row_claimed the stages that it has claimed and not
- * finished. Any other session may fail those of them that are open. If the session isn't gone, its finish is late.
+ * If a session is gone, cf_row_number_of tells its number, and cf_row_claimed the stages that a caller of this number has
+ * claimed and not finished; where it is shared, whose token the granted claim has tells whose it is. Any other session may fail those of them that are open. If the session isn't gone, its finish is late.
  *
  * The words, the news and the stages of a view are asked by cf_ledger_words, cf_ledger_news, cf_ledger_ready,
  * cf_ledger_stage, cf_ledger_function and cf_ledger_stages. */
@@ -1259,7 +1259,6 @@ uint32_t cf_row_new(cf_handle *plan, const cf_row_opening *opening, cf_handle *v
  *   - CF_UNDER_WAY: a put is under way.
  *   - CF_NOTHING: n is 0.
  *   - CF_NO_TOKENS: the session has fewer tokens left than there are words. It needs another number.
- *   - CF_NO_NUMBER: the session has put nothing yet, and others have all 64 numbers.
  *   - CF_NO_WORD: one of the words stands for no event, or has another caller's number, or names a stage that isn't
  *     there, or attaches a stage for which there is no room. cf_row_grow makes some.
  *   - CF_NO_MEMORY. */
@@ -1296,9 +1295,7 @@ uint32_t cf_row_saw(cf_handle *view, const cf_entry *entry, cf_reply *reply, cf_
 uint32_t cf_row_grow(cf_handle *view, uint16_t more);
 
 /* Tells the caller's number of the session: that which its entries have, or else that which it takes with its next put,
- * which others may take before.
- *
- * Code: CF_NO_NUMBER if it has put nothing, and others have all 64 numbers. */
+ * which others may take before. Where all 64 are taken, that is the session's number modulo 64. */
 uint32_t cf_row_number(cf_handle *view, uint8_t *who);
 
 /* Tells the caller's number of any session.

@@ -7,14 +7,14 @@ use Rattle.cf_row.specs.declared.entry.Entry.{Entry}
 use Rattle.cf_row.specs.declared.faults.PutFault.{PutFault}
 use Rattle.cf_row.specs.declared.faults.PutFault.TheVariants as faults
 use Rattle.cf_row.specs.Numbers.{FollowsRule}
-use Rattle.cf_row.specs.Puts.{HasNoNumber, IsNoPut, OnlyFinds, Plans, Row as Row', TellsOf, pairs_of}
+use Rattle.cf_row.specs.Puts.{IsNoPut, OnlyFinds, Plans, Row as Row', TellsOf, pairs_of}
 use Rattle.cf_row.specs.Rows.{IsNoEntry, NoneClaimed, NoneClaimedFrom, Replica, Takes, ledger_of, session_of, state_of, with_more}
 use Rattle.cf_c_handles.specs.Ledgers.{HaveNews, word_code}
 use Rattle.cf_c_handles.specs.Replies.{as_reply}
 use Rattle.cf_c_handles.specs.RequestCalls.{IsDueAs}
 use Rattle.cf_c_handles.specs.Values.{bit}
 use Rattle.cf_c_handles.specs.declared.code.Code.{Code}
-use Rattle.cf_c_handles.specs.declared.code.Code.TheVariants.{NoMemory, NoNumber, NoTokens, NoWord, Nothing, Room, UnderWay, WrongKind}
+use Rattle.cf_c_handles.specs.declared.code.Code.TheVariants.{NoMemory, NoTokens, NoWord, Nothing, Room, UnderWay, WrongKind}
 use Rattle.cf_c_handles.specs.declared.handle.object.Object.{Object}
 use Rattle.cf_c_handles.specs.declared.handle.object.Object.TheVariants.{Plan, Row}
 use Rattle.cf_c_handles.specs.declared.values.CfReply.{CfReply}
@@ -56,7 +56,6 @@ IfNoPut v r Same Goes = ((0 < length v.put) × (r ≡ Err UnderWay) × Same) ⊎
 abbrev pub put_code : PutFault → Code
 put_code faults.NoMemory = NoMemory
 put_code faults.NoTokens = NoTokens
-put_code faults.NoNumber = NoNumber
 put_code faults.NoWord = NoWord
 
 -- a put of these words is planned, and C has the token of the first
@@ -147,10 +146,10 @@ abbrev pub OfRow : {X : Type 0} → (Replica → Result X Code → Type 0) → O
 OfRow Tells (Row v) r new = Tells v.replica r × (new ≡ Row v)
 OfRow Tells held r new = (r ≡ Err WrongKind) × (new ≡ held)
 
--- the session's own number, which it has or takes with its next put; or others have all
+-- the session's own number, which it has or takes with its next put: there is always one
 abbrev pub TellsNumber : Replica → Result ℕ Code → Type 0
 TellsNumber seen (Ok who) = FollowsRule (pairs_of seen.seen) (seen.session, who)
-TellsNumber seen (Err code) = (code ≡ NoNumber) × HasNoNumber seen
+TellsNumber seen (Err code) = ⊥
 
 -- the number of a session's first entry; or it has put none
 abbrev pub TellsNumberOf : ℕ → Replica → Result ℕ Code → Type 0

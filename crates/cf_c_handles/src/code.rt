@@ -81,8 +81,6 @@ pub enum Code {
     UnderWay,
     /// 39: a session has no such number, or fewer tokens left than there are words.
     NoTokens,
-    /// 40: others have all 64 callers' numbers.
-    NoNumber,
 }
 
 impl From<AllocError> for Code {
@@ -149,7 +147,6 @@ pub fn text_of(number: u32) -> Option<&'static str>
         37 => Some("TooMany"),
         38 => Some("UnderWay"),
         39 => Some("NoTokens"),
-        40 => Some("NoNumber"),
         255 => Some("Null"),
         _ => None,
     }

@@ -11,7 +11,7 @@ use crate::ledger::word_code;
 use crate::values::row::CfRowOpening;
 use crate::values::stage::CfNews;
 use crate::values::{CfReply, put_reply};
-use cf_row::{Entry, PutFault, Replica, Row, SESSIONS, TOKENS};
+use cf_row::{Entry, PutFault, Row, SESSIONS, TOKENS};
 use std::alloc::Global;
 
 /// The view of a row of a plan's request, of which nothing was read yet.
@@ -76,7 +76,6 @@ fn put_code(fault: PutFault) -> Code
     match fault {
         PutFault::NoMemory => Code::NoMemory,
         PutFault::NoTokens => Code::NoTokens,
-        PutFault::NoNumber => Code::NoNumber,
         PutFault::NoWord => Code::NoWord,
     }
 }
@@ -175,17 +174,7 @@ pub fn number(held: &mut Object) -> Result<u8, Code>
     let Object::Row(row) = held else {
         return Err(Code::WrongKind);
     };
-    number_in(row.replica())
-}
-
-/// The same of what the view has seen.
-fn number_in(replica: &Replica) -> Result<u8, Code>
-    ensures { TellsNumber replica.now result }
-{
-    match replica.number() {
-        Some(who) => Ok(who),
-        None => Err(Code::NoNumber),
-    }
+    Ok(row.replica().number())
 }
 
 /// The number of a session that has put something.

@@ -6,7 +6,10 @@ pub mod Tokens
 pub mod Puts
 pub mod Engines
 pub mod Sessions
-pub mod Pigeons
-pub mod OneToOne
+pub mod Elements
+pub mod Merges
+pub mod Sources
+pub mod Callers
+pub mod Ruled
 pub mod Rooms
 pub mod Whole

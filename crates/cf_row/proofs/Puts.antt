@@ -12,7 +12,7 @@ use Rattle.cf_model.specs.Events.{state_after}
 use Rattle.cf_ledger.specs.Ledgers.{AreTaken}
 use Rattle.cf_row.specs.declared.entry.Entry.{Entry}
 use Rattle.cf_row.specs.Rows.{BeginsWith, Replica, history_of, session_of, state_of, with_memory, words_in}
-use Rattle.cf_row.specs.Numbers.{FollowsRule, numbers_in}
+use Rattle.cf_row.specs.Numbers.{AreAllTaken, FollowsRule, numbers_in, shared_number}
 use Rattle.cf_row.specs.Puts.{AreWordsBehind, AreWordsFor, HasTokens, IsOnceOrNever, IsPutOf, IsPutOrNone, MayPut, NoneStands, Row, StandsOnce, TellsOf, pair_of, pairs_of, stamped, who_at}
 use Rattle.cf_row.proofs.Tokens.{planned, stamped_count, stamped_words}
 
@@ -74,12 +74,16 @@ put_still r t put plan session seen h = λ l. (let g = h l in
 
 -- ---- a number that is new
 
-pub new_rule : (s who : ℕ) (seen : List Entry) → All (λ (x : Entry). session_of x.token ≢ s) seen → All (λ (x : Entry). who_at x.word ≢ who) seen →
+pub new_rule : (s who : ℕ) (seen : List Entry) → who < 64 → All (λ (x : Entry). session_of x.token ≢ s) seen → All (λ (x : Entry). who_at x.word ≢ who) seen →
     ((k : ℕ) → k < who → Contains (numbers_in (pairs_of seen)) k) → FollowsRule (pairs_of seen) (s, who)
-new_rule s who seen others free lower = inr (record {
+new_rule s who seen small others free lower = inr (inl (record {
+  small = small;
   others = All-map (λ (q : ℕ × ℕ). (q.0 ≢ s) × (q.1 ≢ who)) pair_of seen (λ k d l. (others k d l, free k d l));
   lower = lower;
-})
+}))
+
+pub late_rule : (s who : ℕ) (seen : List Entry) → All (λ (x : Entry). session_of x.token ≢ s) seen → AreAllTaken (pairs_of seen) → who ≡ shared_number s → FollowsRule (pairs_of seen) (s, who)
+late_rule s who seen others all shares = inr (inr (record { others = All-map (λ (q : ℕ × ℕ). q.0 ≢ s) pair_of seen others; all = all; shares = shares }))
 
 -- ---- what holds of a row whose put is gone
 

@@ -1,6 +1,6 @@
 -- The whole row: its puts, one behind another.
 use Rattle.std.proofs.Common.{◌≡◌, ℕ, suc, ◌+◌, ◌-◌, ◌<◌, ◌≤◌, true, false, eqb, List, [], ◌∷◌, ◌++◌, length, length-append, map, take, drop, cond, All, Contains, get_or, refl, ap, sym, ◌∙◌, subst, append-nil, append_assoc, inl, inr, arith}
-use Rattle.std.specs.Prelude.{Option, Some, None, ◌⊎◌, unwrap_or}
+use Rattle.std.specs.Prelude.{◌≢◌, Option, Some, None, unwrap_or}
 use Rattle.std.proofs.lemmas.Bool.{eq-eqb, ne_eqb}
 use Rattle.std.proofs.lemmas.Bool.Decides.{eqb_tells}
 use Rattle.std.proofs.lemmas.List.{drop_at, get_or-map, length-map, map-append, take_all}
@@ -13,25 +13,25 @@ use Rattle.cf_model.specs.Events.{answered, state_after}
 use Rattle.cf_model.specs.Calls.{who_of}
 use Rattle.cf_model.proofs.Moves.{grants_once}
 use Rattle.cf_event.specs.Words.{IsEvent, word_of}
+use Rattle.cf_event.specs.Histories.{numbers_of}
 use Rattle.cf_event.specs.Events.{AreEventsOf, IsFunctionBelow, NamesFunction}
 use Rattle.cf_event.specs.declared.record.Record.{Record}
 use Rattle.cf_row.specs.declared.entry.Entry.{Entry}
 use Rattle.cf_row.specs.Rows.{BeginsWith, FitsUpTo, IsKept, history_of, own_in, session_of, state_of, words_in}
-use Rattle.cf_row.specs.Numbers.{AllFollow, AreOneToOne, FollowsRule, HaveNoGaps, numbers_in}
+use Rattle.cf_row.specs.Numbers.{AllFollow, FollowsRule}
 use Rattle.cf_row.specs.Puts.{pair_of, pairs_of, who_at, who_by}
 use Rattle.cf_row.specs.Engines.{AreBehind, Group, IsBehind, joined}
-use Rattle.cf_row.specs.Accounts.{Account, AreOneHistory, GivesAccount, IsAccountOf, IsNumberOf, all_completed, completed, unread}
+use Rattle.cf_row.specs.Accounts.{Account, AreOfOneEach, AreOneHistory, GivesAccount, all_completed, callers_of, completed, count_of, unread}
 use Rattle.cf_row.specs.Laws.{RowsAreOneHistory}
 use Rattle.cf_row.proofs.Engines.{made}
-use Rattle.cf_row.proofs.Pigeons.{contains_map}
-use Rattle.cf_row.proofs.OneToOne.{below_count, ruled}
+use Rattle.cf_row.proofs.Ruled.{ruled}
 use Rattle.cf_row.proofs.Fitting.{AreFit, fit_append, fit_lift, fit_state, fit_taken, words_fit, words_who}
 use Rattle.cf_row.proofs.Rooms.{fits_lift, state_lift}
-use Rattle.cf_row.proofs.Sessions.{one_history}
+use Rattle.cf_row.proofs.Callers.{IsAccountOf, below_count, callers_count, callers_fit, callers_known, known_numbers}
 use Rattle.cf_ledger.specs.Ledgers.{AreTaken, Does, IsTaken, Ledger}
 use Rattle.cf_model.proofs.Histories.{state_after-append}
 use Rattle.cf_event.specs.declared.record.Record.TheVariants.{Did}
-use Rattle.cf_row.proofs.Own.{fits_row, history_append, history_push, kept_push}
+use Rattle.cf_row.proofs.Own.{fits_row, history_append, history_count, history_push, kept_push}
 
 -- ---- words that the graph takes
 
@@ -69,31 +69,6 @@ fit_known P s (x ∷ row) h known =
     subst (All (λ (d : Event). P (who_of d))) (sym (fit_state s x.word (words_in row) e h.1))
     (All-cons (λ (d : Event). P (who_of d)) e (history_of row) (subst P who (All-head (λ (y : Entry). P (who_at y.word)) x row known))
     (fit_known P ((answered s e).1) row h.5 (All-tail (λ (y : Entry). P (who_at y.word)) x row known)))
-
--- ---- numbers
-
-tests_alike : (a b c d : ℕ) → (a ≡ b → c ≡ d) → (c ≡ d → a ≡ b) → ((eqb a b ≡ true) × (a ≡ b)) ⊎ ((eqb a b ≡ false) × (a ≡ b → ⊥)) → eqb a b ≡ eqb c d
-tests_alike a b c d f g (inl h) = h.0 ∙ sym (eq-eqb c d (f h.1))
-tests_alike a b c d f g (inr h) = h.0 ∙ sym (ne_eqb c d (λ e. h.1 (g e)))
-
-number_of : (c n : ℕ) (s : State) (row : List Entry) → AreFit s (words_in row) → All (λ (x : Entry). (session_of x.token ≡ n → who_at x.word ≡ c) × (who_at x.word ≡ c → session_of x.token ≡ n)) row → IsNumberOf c n row (history_of row)
-number_of c n s [] h alike = tt
-number_of c n s (x ∷ row) h alike =
-    let e = h.0 in
-    let P : Entry → Type 0 = λ (y : Entry). (session_of y.token ≡ n → who_at y.word ≡ c) × (who_at y.word ≡ c → session_of y.token ≡ n) in
-    let one : (session_of x.token ≡ n → who_at x.word ≡ c) × (who_at x.word ≡ c → session_of x.token ≡ n) = All-head P x row alike in
-    let who : who_at x.word ≡ who_of e = ap who_by h.1 in
-    subst (IsNumberOf c n (x ∷ row)) (sym (fit_state s x.word (words_in row) e h.1)) (
-      tests_alike (session_of x.token) n (who_at x.word) c one.0 one.1 (eqb_tells (session_of x.token) n) ∙ ap (λ (k : ℕ). eqb k c) who,
-      number_of c n ((answered s e).1) row h.5 (All-tail P x row alike),
-    )
-
-row_alike : (row : List Entry) (n c : ℕ) → AreOneToOne (pairs_of row) → Contains (pairs_of row) (n, c) → All (λ (x : Entry). (session_of x.token ≡ n → who_at x.word ≡ c) × (who_at x.word ≡ c → session_of x.token ≡ n)) row
-row_alike row n c one there = λ k d l.
-    let x = get_or row k d in
-    let size = length-map row pair_of in
-    let here : Contains (pairs_of row) (pair_of x) = (k, omega (arith, size), get_or-map pair_of row k d (pair_of x) l) in
-    one (pair_of x) (n, c) here there
 
 -- ---- the rule, put by put
 
@@ -238,35 +213,18 @@ complete plan row a fit taken g =
     subst (λ (r : List Entry). FitsUpTo plan a.session (length row) row (a.records ++ unread a.session (length seen) state r (history_of r))) (sym dropped)
     (subst (λ (r : List Entry). FitsUpTo plan a.session (length r) r (a.records ++ unread a.session (length seen) state rest (history_of rest))) (sym is) done)
 
-same_numbers : (plan : Planned) (row : List Entry) (accounts : List Account) → map (λ (a : Account). a.number) (all_completed plan row accounts) ≡ map (λ (a : Account). a.number) accounts
-same_numbers plan row [] = refl
-same_numbers plan row (a ∷ accounts) = ap (λ (l : List ℕ). a.number ∷ l) (same_numbers plan row accounts)
+-- ---- all of them
 
--- ---- who gives account
+history_size : (s : State) (row : List Entry) → AreFit s (words_in row) → length row ≡ length (history_of row)
+history_size s row fit = sym (history_count row (fit_named s row fit))
 
--- each entry's caller is the number of an account
-known_numbers : (plan : Planned) (row : List Entry) (accounts : List Account) → AreOneToOne (pairs_of row) → All (GivesAccount plan row) accounts →
-    All (λ (x : Entry). Contains (map (λ (a : Account). a.session) accounts) (session_of x.token)) row → All (λ (x : Entry). Contains (map (λ (a : Account). a.number) accounts) (who_at x.word)) row
-known_numbers plan row accounts one give known = λ k d l.
-    let x = get_or row k d in
-    let there = known k d l in
-    let j = there.0 in
-    let none : Account = record { room = 0; seen = []; number = 0; session = 0; records = [] } in
-    let a = get_or accounts j none in
-    let size = length-map accounts (λ (b : Account). b.session) in
-    let lt : j < length accounts = (let m = there.1 in omega (arith, m, size)) in
-    let session : session_of x.token ≡ a.session = sym there.2 ∙ get_or-map (λ (b : Account). b.session) accounts j none (session_of x.token) lt in
-    let who : who_at x.word ≡ a.number = (row_alike row a.session a.number one (give j none lt).number k d l).0 session in
-    subst (λ (n : ℕ). Contains (map (λ (b : Account). b.number) accounts) n) (sym who) (contains_map (λ (b : Account). b.number) accounts a (Contains-get_or accounts j none lt))
+same_sessions : (plan : Planned) (row : List Entry) (accounts : List Account) → map (λ (a : Account). a.session) (all_completed plan row accounts) ≡ map (λ (a : Account). a.session) accounts
+same_sessions plan row [] = refl
+same_sessions plan row (a ∷ accounts) = ap (λ (l : List ℕ). a.session ∷ l) (same_sessions plan row accounts)
 
--- so each is below the count of accounts
-few_numbers : (row : List Entry) (numbers : List ℕ) → HaveNoGaps (pairs_of row) → All (λ (x : Entry). Contains numbers (who_at x.word)) row → All (λ (x : Entry). who_at x.word < length numbers) row
-few_numbers row numbers gaps known = λ k d l.
-    let x = get_or row k d in
-    below_count (pairs_of row) numbers (pair_of x) gaps
-    (λ n there. All-contains (λ (m : ℕ). Contains numbers m) (numbers_in (pairs_of row)) n
-    (All-map (λ (m : ℕ). Contains numbers m) (λ (q : ℕ × ℕ). q.1) (pairs_of row) (All-map (λ (q : ℕ × ℕ). Contains numbers q.1) pair_of row known)) there)
-    (contains_map pair_of row x (Contains-get_or row k d l))
+one_completed : (plan : Planned) (row : List Entry) (accounts : List Account) → AreOfOneEach accounts → AreOfOneEach (all_completed plan row accounts)
+one_completed plan row [] h = tt
+one_completed plan row (a ∷ accounts) h = (All-map (λ (b : Account). b.session ≢ a.session) (completed plan row) accounts h.0, one_completed plan row accounts h.1)
 
 pub whole_row : (plan : Planned) (groups : List Group) (accounts : List Account) → AreBehind plan [] groups → All (GivesAccount plan (joined groups)) accounts →
     All (λ (x : Entry). Contains (map (λ (a : Account). a.session) accounts) (session_of x.token)) (joined groups) → AreOneHistory plan (joined groups) accounts
@@ -275,20 +233,21 @@ whole_row plan groups accounts behind give sessions =
     let fit : AreFit (start plan) (words_in row) = fit_from plan [] groups tt behind in
     let taken = fit_taken (start plan) (words_in row) fit in
     let rules = ruled (pairs_of row) (follow_all plan [] groups behind) in
-    let one = rules.one_to_one in
-    let known = known_numbers plan row accounts one give sessions in
-    let few = few_numbers row (map (λ (a : Account). a.number) accounts) rules.no_gaps known in
     let told = all_completed plan row accounts in
-    let size : length told ≡ length accounts = length-map {B = Account} accounts (completed plan row) in
-    let count : length (map (λ (a : Account). a.number) accounts) ≡ length told = length-map accounts (λ (a : Account). a.number) ∙ sym size in
+    let each : All (IsAccountOf plan row) told =
+    All-map (IsAccountOf plan row) (completed plan row) accounts
+    (All-weaker (GivesAccount plan row) (λ (a : Account). IsAccountOf plan row (completed plan row a)) (λ a h. record { number = h.number; fits = complete plan row a fit taken h }) accounts give) in
+    let known = known_numbers plan row told rules.one_each each (subst (λ (l : List ℕ). All (λ (x : Entry). Contains l (session_of x.token)) row) (sym (same_sessions plan row accounts)) sessions) in
+    let few : All (λ (x : Entry). who_at x.word < count_of told) row = All-weaker (λ (x : Entry). Contains (map (λ (a : Account). a.number) told) (who_at x.word)) (λ (x : Entry). who_at x.word < count_of told) (λ x h. below_count told (who_at x.word) h) row known in
+    let callers = callers_of told in
+    let count : count_of told ≡ length callers = sym (callers_count (count_of told) told) in
     record {
-      one = one_history plan 4096 row told
-          (fit_events (length told) (start plan) row fit (subst (λ (n : ℕ). All (λ (x : Entry). who_at x.word < n) row) count few))
-          (All-map (IsAccountOf plan row) (completed plan row) accounts
-          (All-weaker (GivesAccount plan row) (λ (a : Account). IsAccountOf plan row (completed plan row a))
-          (λ a h. record { number = number_of a.number a.session (start plan) row fit (row_alike row a.session a.number one h.number); fits = complete plan row a fit taken h }) accounts give))
-          (subst (λ (l : List ℕ). All (λ (e : Event). Contains l (who_of e)) (history_of row)) (sym (same_numbers plan row accounts))
-          (fit_known (λ (c : ℕ). Contains (map (λ (a : Account). a.number) accounts) c) (start plan) row fit known));
+      each = All-weaker (IsAccountOf plan row) (λ (a : Account). FitsUpTo plan a.session (length row) row a.records) (λ a h. h.fits) told each;
+      one = λ diff. record {
+        taken = fit_events (length callers) (start plan) row fit (subst (λ (n : ℕ). All (λ (x : Entry). who_at x.word < n) row) count few);
+        each = callers_fit plan row told (count_of told) fit (history_size (start plan) row fit) rules.one_each each (one_completed plan row accounts diff) (subst (λ (l : List ℕ). All (λ (x : Entry). Contains l (session_of x.token)) row) (sym (same_sessions plan row accounts)) sessions);
+        no_other = fit_known (λ (c : ℕ). Contains (numbers_of callers) c) (start plan) row fit (All-weaker (λ (x : Entry). who_at x.word < count_of told) (λ (x : Entry). Contains (numbers_of callers) (who_at x.word)) (λ x h. callers_known told (count_of told) (who_at x.word) h) row few);
+      };
       granted_once = λ i. grants_once (start plan) (history_of row) i;
     }
 

@@ -3,7 +3,7 @@ use Rattle.std.specs.Prelude.{◌≡◌, ◌≢◌, ◌⊎◌, ℕ, ◌+◌, ◌
 use Rattle.cf_forms.specs.Plans.{Planned}
 use Rattle.cf_row.specs.declared.entry.Entry.{Entry}
 use Rattle.cf_row.specs.Rows.{BeginsWith, StandsAt, session_of}
-use Rattle.cf_row.specs.Numbers.{AllFollow, AreOneToOne, HaveNoGaps}
+use Rattle.cf_row.specs.Numbers.{AllFollow, AreSharedLast, HaveNoGaps, HaveOneEach}
 use Rattle.cf_row.specs.Puts.{IsOnceOrNever, NoneStands, StandsOnce, stamped}
 use Rattle.cf_row.specs.Engines.{Group, HaveOwnTokens, Puts, Runs}
 use Rattle.cf_row.specs.Accounts.{Account, AllGiveAccount, AreOneHistory}
@@ -38,13 +38,14 @@ PutsStandOnceOrNever =
     (plan : Planned) (asked : List Group) (row : List Entry) → Runs plan [] asked row → HaveOwnTokens asked →
     All (λ (g : Group). 0 < length g.put → IsOnceOrNever row (length g.by.seen) g.put) asked
 
--- where all follow the rule, no number is two sessions', no session has two, and where one is taken all lower ones are
+-- where all follow the rule, no session has two numbers, none is two sessions' before all are taken, and where one is taken all lower ones are
 pub record RuledNumbers (row : List (ℕ × ℕ)) : Type 0 where
-  pub one_to_one : AreOneToOne row
+  pub one_each : HaveOneEach row
+  pub shared_last : AreSharedLast row
   pub no_gaps : HaveNoGaps row
 
-abbrev pub NumbersAreOneToOne : Type 0
-NumbersAreOneToOne = (row : List (ℕ × ℕ)) → AllFollow [] row → RuledNumbers row
+abbrev pub NumbersAreRuled : Type 0
+NumbersAreRuled = (row : List (ℕ × ℕ)) → AllFollow [] row → RuledNumbers row
 
 -- ALL SESSIONS: whatever engine keeps the premises, whichever puts it was asked for, how often and how late, and whatever it answered, if
 -- each session that put something gives account of what it has seen, all accounts and the row's words are one history.

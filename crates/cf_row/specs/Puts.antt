@@ -10,9 +10,9 @@ use Rattle.cf_event.specs.Decoding.{event_of}
 use Rattle.cf_ledger.specs.Ledgers.{AreTaken}
 use Rattle.cf_row.specs.declared.entry.Entry.{Entry}
 use Rattle.cf_row.specs.declared.faults.PutFault.{PutFault}
-use Rattle.cf_row.specs.declared.faults.PutFault.TheVariants.{NoMemory, NoTokens, NoNumber, NoWord}
+use Rattle.cf_row.specs.declared.faults.PutFault.TheVariants.{NoMemory, NoTokens, NoWord}
 use Rattle.cf_row.specs.Rows.{BeginsWith, Replica, history_of, session_of, state_of, with_memory, words_in}
-use Rattle.cf_row.specs.Numbers.{FollowsRule, numbers_in}
+use Rattle.cf_row.specs.Numbers.{FollowsRule}
 
 -- what a contract sees: what was replayed, the put that is under way, if there is one, and the token that comes next
 pub record Row : Type 0 where
@@ -93,15 +93,9 @@ pub record MayPut (r : Replica) (next : ℕ) (words : List ℕ) : Type 0 where
   pub each : AreWordsBehind r number words
   pub taken : AreTaken (start r.plan) (history_of r.seen)
 
--- no number is left for the session: it has put nothing, and others have all 64
-pub record HasNoNumber (r : Replica) : Type 0 where
-  pub others : All (λ (x : Entry). session_of x.token ≢ r.session) r.seen
-  pub all : (k : ℕ) → k < 64 → Contains (numbers_in (pairs_of r.seen)) k
-
 -- why nothing is put: the first of these, want of memory being the last
 abbrev pub IsNoPut : Replica → ℕ → List ℕ → PutFault → Type 0
 IsNoPut r next words NoTokens = ¬ HasTokensFor r next words
-IsNoPut r next words NoNumber = HasTokensFor r next words × HasNoNumber r
 IsNoPut r next words NoWord = HasTokensFor r next words × ((who : ℕ) × FollowsRule (pairs_of r.seen) (r.session, who) × ¬ AreWordsBehind r who words)
 IsNoPut r next words NoMemory = MayPut r next words × (r.free < length words)
 

@@ -10,8 +10,6 @@ pub enum PutFault {
     NoMemory,
     /// The session has fewer tokens left than there are words. It needs another number.
     NoTokens,
-    /// The session has put nothing yet, and others have all 64 callers' numbers.
-    NoNumber,
     /// One of the words is no event's, or another caller's, or the graph doesn't take it behind those before it: a
     /// stage that it names isn't there, or there is no room for the stage that it attaches.
     NoWord,

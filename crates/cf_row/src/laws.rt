@@ -1,6 +1,6 @@
 //! Laws of rows: the contract of each function is the statement, and its body is empty. A host uses a law by calling it
 //! before it concludes something.
-ghost use Rattle.cf_row.specs.Laws.{LandedPutsStandOnce, NumbersAreOneToOne, PutsKeepOnceOrNever, PutsStandOnceOrNever, RowsAreOneHistory, RowsOnlyGrow, ToldIsTrue, TokensAreApart};
+ghost use Rattle.cf_row.specs.Laws.{LandedPutsStandOnce, NumbersAreRuled, PutsKeepOnceOrNever, PutsStandOnceOrNever, RowsAreOneHistory, RowsOnlyGrow, ToldIsTrue, TokensAreApart};
 
 /// A row of which a session's view is true, and in which more entries stand behind it, has the longer view, too.
 pub fn told_is_true()
@@ -34,10 +34,10 @@ pub fn puts_stand_once_or_never()
     ensures { PutsStandOnceOrNever }
 {}
 
-/// Where each session takes the lowest number that nobody has, no number is two sessions', no session has two, and
-/// below a number that is taken all are.
-pub fn numbers_are_one_to_one()
-    ensures { NumbersAreOneToOne }
+/// Where each session takes its number by the rule, no session has two, no number is two sessions' before all 64 are
+/// taken, and below a number that is taken all are.
+pub fn numbers_are_ruled()
+    ensures { NumbersAreRuled }
 {}
 
 /// Whatever puts an engine was asked for, how often and how late, and whatever it answered: the accounts of all

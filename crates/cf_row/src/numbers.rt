@@ -1,7 +1,7 @@
-//! Callers' numbers: a session takes the lowest that no entry has, and keeps it.
-ghost use Rattle.std.specs.Prelude.{◌≡◌, ◌≢◌, ◌<◌, ◌≤◌, ℕ, All, Contains, IfNone, IfSome};
+//! Callers' numbers: a session takes the lowest that no entry has, and keeps it. Where all are taken it shares one.
+ghost use Rattle.std.specs.Prelude.{◌≡◌, ◌≢◌, ◌%◌, ◌<◌, ◌≤◌, ℕ, All, Contains, IfNone, IfSome};
 ghost use Rattle.std.specs.Bool.{OnFalse, OnTrue};
-ghost use Rattle.cf_row.specs.Numbers.{FollowsRule, numbers_in};
+ghost use Rattle.cf_row.specs.Numbers.{AreAllTaken, FollowsRule, numbers_in};
 ghost use Rattle.cf_row.specs.Rows.{session_of};
 ghost use Rattle.cf_row.specs.Puts.{pairs_of, who_at};
 
@@ -21,14 +21,13 @@ fn who_at(word: u64) -> u8
     }
 }
 
-/// A session's number in a row: that of its first entry, or the lowest that no entry has, if there is one.
-pub(crate) fn number_in(seen: &[Entry], session: u64) -> Option<u8>
-    ensures rule { IfSome result (λ who. FollowsRule (pairs_of seen.now) (session, who)) }
-    ensures others { IfNone result (All (λ x. session_of x.token ≢ session) seen.now) }
-    ensures all { IfNone result ((k : ℕ) → k < 64 → Contains (numbers_in (pairs_of seen.now)) k) }
+/// A session's number in a row: that of its first entry; or the lowest that no entry has; or where all are taken, the
+/// one that it shares.
+pub(crate) fn number_in(seen: &[Entry], session: u64) -> u8
+    ensures { FollowsRule (pairs_of seen.now) (session, result) }
 {
     match number_of(seen, session) {
-        Some(who) => Some(who),
+        Some(who) => who,
         None => new_number(seen, session),
     }
 }
@@ -46,18 +45,17 @@ pub(crate) fn number_of(seen: &[Entry], session: u64) -> Option<u8>
     None
 }
 
-/// The lowest number that no entry has, if there is one, for a session that has put none.
-fn new_number(seen: &[Entry], session: u64) -> Option<u8>
+/// The number of a session that has put none.
+fn new_number(seen: &[Entry], session: u64) -> u8
     requires { All (λ x. session_of x.token ≢ session) seen.now }
-    ensures rule { IfSome result (λ who. FollowsRule (pairs_of seen.now) (session, who)) }
-    ensures none { IfNone result ((k : ℕ) → k < 64 → Contains (numbers_in (pairs_of seen.now)) k) }
+    ensures { FollowsRule (pairs_of seen.now) (session, result) }
 {
     for who in 0..CALLERS {
         if is_free(seen, who) {
-            return Some(who);
+            return who;
         }
     }
-    None
+    (session % CALLERS as u64) as u8
 }
 
 /// Whether no entry has this number.

@@ -4,7 +4,7 @@ ghost use Rattle.cf_forms.specs.Plans.{has_place, with_room};
 ghost use Rattle.cf_model.specs.States.{claim_at, outcome_at, start};
 ghost use Rattle.cf_event.specs.Words.{word_of};
 ghost use Rattle.cf_ledger.specs.Ledgers.{AreTaken, LedgerRefuses};
-ghost use Rattle.cf_row.specs.Numbers.{FollowsRule, numbers_in};
+ghost use Rattle.cf_row.specs.Numbers.{FollowsRule};
 ghost use Rattle.cf_row.specs.Puts.{IsPutOrNone, pairs_of};
 ghost use Rattle.cf_row.specs.Rows.{FitsEachRow, IsMisfit, NoneClaimed, NoneClaimedFrom, Replays, Takes, history_of, ledger_of, session_of, state_of, with_memory, with_more, with_outcome, words_in};
 
@@ -110,11 +110,11 @@ impl Replica {
         &self.ledger
     }
 
-    /// The session's number: that of its first entry, or the lowest that no entry has, if there is one.
-    pub fn number(&self) -> Option<u8>
-        ensures rule { IfSome result (λ who. FollowsRule (pairs_of self.now.seen) (self.now.session, who)) }
-        ensures others { IfNone result (All (λ x. session_of x.token ≢ self.now.session) self.now.seen) }
-        ensures all { IfNone result ((k : ℕ) → k < 64 → Contains (numbers_in (pairs_of self.now.seen)) k) }
+    /// The session's number: that of its first entry; or the lowest that no entry has; or where all are taken, the one
+    /// that it shares with others, which is the session's number modulo 64. It costs a look at each entry, and up to 64
+    /// where the session has put nothing.
+    pub fn number(&self) -> u8
+        ensures { FollowsRule (pairs_of self.now.seen) (self.now.session, result) }
     {
         number_in(&self.seen, self.session)
     }

@@ -109,7 +109,7 @@ impl Row {
     }
 
     /// Plans a put of these words, and finds the memory that it needs if it lands. It is refused for the first of:
-    /// tokens, the caller's number, the words, memory. Where it is refused all stays as it was.
+    /// tokens, the words, memory. Where it is refused all stays as it was.
     pub fn plan(&mut self, words: &[u64]) -> Result<(), PutFault>
         requires none { self.old.put ≡ [] }
         ensures planned { OnOk result (Plans self.old words.now self.new) }

@@ -22,10 +22,7 @@ pub(crate) fn check(replica: &Replica, next: u64, words: &[u64]) -> Result<(), P
     if words.len() as u64 > TOKENS - used {
         return Err(PutFault::NoTokens);
     }
-    let Some(who) = replica.number() else {
-        return Err(PutFault::NoNumber);
-    };
-    if !are_behind(replica, who, words) {
+    if !are_behind(replica, replica.number(), words) {
         return Err(PutFault::NoWord);
     }
     // What was seen are words that the graph takes.

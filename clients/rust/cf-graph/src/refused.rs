@@ -9,7 +9,7 @@ use std::sync::atomic::{AtomicBool, Ordering};
 #[derive(Clone, Copy, PartialEq, Eq, Debug)]
 pub struct Refused(u32);
 
-const WORDS: [&str; 40] = [
+const WORDS: [&str; 39] = [
     "the plan has 4,096 stages already",
     "a source isn't below the new stage's number",
     "the number of sources isn't the form's",
@@ -49,7 +49,6 @@ const WORDS: [&str; 40] = [
     "there are more texts or times than there can be",
     "a put is under way",
     "a session has no such number, or too few tokens left",
-    "other sessions have all 64 callers' numbers",
 ];
 
 impl Refused {
@@ -89,7 +88,6 @@ impl Refused {
     pub const TOO_MANY: Refused = Refused(37);
     pub const UNDER_WAY: Refused = Refused(38);
     pub const NO_TOKENS: Refused = Refused(39);
-    pub const NO_NUMBER: Refused = Refused(40);
     /// No code of the library: what is linked isn't the library that this crate was written for.
     pub const OTHER_LIBRARY: Refused = Refused(256);
 

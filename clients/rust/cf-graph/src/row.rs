@@ -79,7 +79,7 @@ impl Row {
     }
 
     /// Plans a put of words behind all that was seen, at least one, and gives the token of the first; each further word has the next one. All of
-    /// them are of this session's [`number`](Row::number). `UNDER_WAY`, `NO_TOKENS`, `NO_NUMBER`, `NO_MEMORY`; `NO_WORD` where one stands for no
+    /// them are of this session's [`number`](Row::number). `UNDER_WAY`, `NO_TOKENS`, `NO_MEMORY`; `NO_WORD` where one stands for no
     /// event, has another number, names a stage that isn't there, or attaches one for which there is no room ([`grow`](Row::grow) makes some).
     ///
     /// # Panics
@@ -135,7 +135,7 @@ impl Row {
     }
 
     /// The caller's number of this session: that which its entries have, or else that which it takes with its next put, which others may take
-    /// before. `NO_NUMBER`.
+    /// before. Where others have all 64 numbers it is one that others have, too.
     pub fn number(&mut self) -> Result<u8, Refused> {
         // SAFETY: alone, pointers: `h` and what is told to are this call's.
         self.handle.tell(|h, told| unsafe { sys::cf_row_number(h, told) })

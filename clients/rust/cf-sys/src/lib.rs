@@ -67,7 +67,6 @@ pub const CF_BAD_TEXT: u32 = 36;
 pub const CF_TOO_MANY: u32 = 37;
 pub const CF_UNDER_WAY: u32 = 38;
 pub const CF_NO_TOKENS: u32 = 39;
-pub const CF_NO_NUMBER: u32 = 40;
 pub const CF_NULL: u32 = 255;
 
 pub const CF_SOURCE: u32 = 0;

@@ -1,4 +1,6 @@
 use crate::row::steps::{Engine, Step, take};
+use cf_forms::Args;
+use cf_model::Claimed;
 use cf_outcome::{Cause, Outcome, Value};
 use cf_row::{LedgerFault, PutFault, Reply};
 
@@ -25,6 +27,11 @@ const CANCEL_BY_1: u64 = 0x0301001000000000;
 const ATTACH_BY_0: u64 = 0x0700000103000003;
 
 const CLAIM_2_BY_0: u64 = 0x0400002000000000;
+
+/// Caller 7 claims the apply.
+const CLAIM_BY_7: u64 = 0x0407001000000000;
+
+const FIVE: Args = Args::One(Value::Int(5));
 
 /// Bits that no event has.
 const NO_WORD: u64 = 0xff00000000000000;
@@ -81,10 +88,10 @@ const FINDS: [(u8, Step); 9] = [
 /// The second session claims the apply, and is gone. The first finds its claim, and fails the stage. The claim is open
 /// until the second session finishes it, which is too late.
 const GONE: [(u8, Step); 15] = [
-    (0, Step::Number(Some(0))),
+    (0, Step::Number(0)),
     (0, Step::Lands(Engine::Sound, &[COMPLETE_BY_0])),
     (1, Step::Saw(SETTLED)),
-    (1, Step::Number(Some(1))),
+    (1, Step::Number(1)),
     (1, Step::Lands(Engine::Sound, &[CLAIM_BY_1])),
     (0, Step::NumberOf(9, None)),
     (0, Step::Sees),
@@ -124,12 +131,23 @@ const GROUPS: [(u8, Step); 12] = [
     (1, Step::Plan(&[CLAIM_BY_1], Err(PutFault::NoTokens))),
 ];
 
-/// Others have all numbers.
-const CROWDED: [(u8, Step); 4] = [
+/// Others have all numbers. The first session shares 7, and the second 9, each its own. Each entry is recorded by whose
+/// it is, and not by its number: of the two claims by caller 7 the first session's own isn't granted.
+const CROWDED: [(u8, Step); 14] = [
     (0, Step::Crowd),
     (0, Step::Sees),
-    (0, Step::Number(None)),
-    (0, Step::Plan(&[COMPLETE_BY_0], Err(PutFault::NoNumber))),
+    (0, Step::Number(7)),
+    (0, Step::Plan(&[COMPLETE_BY_0], Err(PutFault::NoWord))),
+    (0, Step::Claimed(7, None)),
+    (0, Step::Others(CLAIM_BY_7)),
+    (0, Step::Saw(Ok(Reply::Claim(Claimed::Granted(FIVE))))),
+    (0, Step::Records(0)),
+    (0, Step::Claimed(7, Some(1))),
+    (0, Step::Lands(Engine::Sound, &[CLAIM_BY_7])),
+    (0, Step::Records(1)),
+    (0, Step::Number(7)),
+    (1, Step::Sees),
+    (1, Step::Number(9)),
 ];
 
 /// An engine overwrites: the second session doesn't know that the first has finished the apply, and is told that it has

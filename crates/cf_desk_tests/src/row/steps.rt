@@ -44,8 +44,10 @@ pub(crate) enum Step {
     IsOwn(usize, bool),
     /// How many records the session has.
     Records(usize),
+    /// A session that has put something already puts a word, with a token of its own.
+    Others(u64),
     /// The session's number.
-    Number(Option<u8>),
+    Number(u8),
     /// The number of this session.
     NumberOf(u64, Option<u8>),
     /// The lowest stage that is claimed by a caller.
@@ -100,6 +102,15 @@ fn crowd(store: &mut Vec<Entry>) -> bool {
     true
 }
 
+/// The eighth of those sessions puts a word.
+fn put_by_another(store: &mut Vec<Entry>, word: u64) -> bool {
+    let entry = Entry {
+        word,
+        token: 27 * TOKENS + 1,
+    };
+    store.push(entry).is_ok()
+}
+
 /// Words are planned, an engine says that they stand, and the session is told so.
 fn lands(engine: Engine, store: &mut Vec<Entry>, row: &mut Row, words: &[u64]) -> bool {
     let place = row.replica().seen().len();
@@ -125,6 +136,7 @@ fn is_told(store: &mut Vec<Entry>, row: &mut Row, step: Step) -> bool {
             place < store.len() && row.put().is_empty() && row.saw(store[place]) == answer
         }
         Step::Crowd => crowd(store),
+        Step::Others(word) => put_by_another(store, word),
         _ => is_answered(row, step),
     }
 }

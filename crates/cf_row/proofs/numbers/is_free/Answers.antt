@@ -5,7 +5,7 @@ use Rattle.std.proofs.lemmas.List.Elements.{Contains-get_or}
 use Rattle.cf_row.specs.declared.entry.Entry.{Entry}
 use Rattle.cf_row.specs.Numbers.{numbers_in}
 use Rattle.cf_row.specs.Puts.{pair_of, pairs_of, who_at}
-use Rattle.cf_row.proofs.Pigeons.{contains_map}
+use Rattle.cf_row.proofs.Elements.{contains_map}
 use Rattle.cf_row.proofs.numbers.is_free.Goals as goal
 
 pub returns-then-who_at-who-clause-taken : goal.returns-then-who_at-who-clause-taken
