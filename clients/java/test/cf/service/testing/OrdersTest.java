@@ -385,6 +385,14 @@ public final class OrdersTest {
             world.calls("somebody", request.promise(), it -> it.cancel(true));
             world.touches(request.supplyAsync(() -> request.history().events()), "own");
         }).get(0), 2);
+        is(counts(world -> {
+            Request request = world.service().request();
+            Stage<Integer> one = request.promise();
+            for (int number = 1; number <= 2; number++) {
+                int value = number;
+                world.touches(request.supplyAsync(() -> one.complete(value) | one.isDone()), "name " + value);
+            }
+        }).get(0), 2);
         is(Orders.of(world -> {
             Request request = world.service().request();
             Stage<?> one = request.promise(), two = request.promise();
