@@ -15,8 +15,9 @@ from .rows import (FIRST, HEAD, Broken, Changes, Entry, Glance, Gone, Listed, Op
                    StoreError, Timer, Unknown, Wanted, flow_of, in_a_row)
 
 MOST_ENTRIES = 40  # in a put: a transaction of etcd has 128 operations at most by default
-MOST_READS = 100  # ranges that a transaction reads
+MOST_READS = 120  # ranges that a transaction reads
 MOST_KEYS = 1000  # that one answer has, so that it comes in time
+MOST_PLANS = 250  # the same of requests, whose plans may be long
 MOST_WORDS = 64  # of a row that is read together with others
 MOST_GLANCES = 60  # in a transaction: each is two comparisons
 SECONDS = 3  # for an answer
@@ -73,17 +74,21 @@ class Etcd(Store):
     def _get(self, key: bytes, end: Optional[bytes] = None, **more: Any) -> List[Tuple[bytes, bytes]]:
         return _pairs(self._keys(key, end, **more)[0])
 
-    def _keys(self, key: bytes, end: Optional[bytes] = None, **more: Any) -> Tuple[List[Any], int]:
+    def _keys(self, key: bytes, end: Optional[bytes] = None, most: int = 0, **more: Any) -> Tuple[List[Any], int]:
         """What stands in a range at one revision, and that one. It is read some keys at a time."""
         found: List[Any] = []
         while True:
-            told = self._post("/v3/kv/range", _range(key, end, limit=MOST_KEYS, **more))
+            told = self._post("/v3/kv/range", _range(key, end, limit=most or MOST_KEYS, **more))
             found += told.get("kvs", [])
             # (of a revision any member that knows it has the same answer)
             more = {"revision": told["header"]["revision"], "serializable": True, **more}
             if not told.get("more"):
                 return found, int(more["revision"])
             key = base64.b64decode(found[-1]["key"]) + b"\0"
+
+    def _count(self, key: bytes, end: bytes) -> int:
+        """How many keys a range has."""
+        return int(self._post("/v3/kv/range", _range(key, end, count_only=True)).get("count", 0))
 
     def _ranges(self, ranges: Sequence[Any], **more: Any) -> List[List[Any]]:
         """What stands in each of these ranges. They are read some at a time."""
@@ -146,7 +151,7 @@ class Etcd(Store):
     def news(self, mark: Any) -> Tuple[Dict[str, int], Any]:
         # Since a mark any member's answer will do. Of all, a request that a member that lags behind doesn't know yet
         # would seem closed.
-        more = {} if mark is None else {"min_mod_revision": str(mark + 1), "serializable": True}
+        more: Any = {} if mark is None else {"min_mod_revision": str(mark + 1), "serializable": True}
         kvs, revision = self._keys(b"cf/o/", b"cf/o0", **more)
         ends = {name: words for (name, _), words in _ends(kvs).items()}
         return ends, max(mark or 0, revision)  # (a member that lags behind has a lower one)
@@ -444,10 +449,16 @@ class Etcd(Store):
 
     def _read_heads(self, keys: List[Tuple[str, str]]) -> None:
         # (by a majority: the member of the watch may know a request that others don't know yet)
-        for key, kvs in zip(keys, self._ranges([_range(_key("r", name)) for name, _ in keys])):
-            for found in kvs:
-                said = json.loads(base64.b64decode(found["value"]))
-                self._heads[key] = (int(found["create_revision"]), float(said["opened"]),
+        if len(keys) > MOST_KEYS and self._count(b"cf/r/", b"cf/r0") <= 2 * len(keys):
+            plans = self._keys(b"cf/r/", b"cf/r0", MOST_PLANS)[0]  # (it costs a third of one range for each)
+            known: Dict[str, List[Any]] = {_name(base64.b64decode(it["key"])): [it] for it in plans}
+            found = [known.get(name, []) for name, _ in keys]
+        else:
+            found = self._ranges([_range(_key("r", name)) for name, _ in keys])
+        for key, kvs in zip(keys, found):
+            for it in kvs:
+                said = json.loads(base64.b64decode(it["value"]))
+                self._heads[key] = (int(it["create_revision"]), float(said["opened"]),
                                     flow_of(str(said["plan"])[:HEAD]))
 
     def keep_glances(self, glances: Sequence[Glance]) -> None:
@@ -466,7 +477,7 @@ class Etcd(Store):
         return bool(self._txn(are_so, puts).get("succeeded"))
 
     def words_put(self) -> Optional[int]:
-        return int(self._post("/v3/kv/range", _range(b"cf/w/", b"cf/w0", count_only=True)).get("count", 0))
+        return self._count(b"cf/w/", b"cf/w0")
 
     # Clock and timers.
 

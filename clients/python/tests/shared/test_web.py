@@ -27,6 +27,7 @@ import shared_functions as f
 from cf.service import Flow
 from cf.shared import (connect, DurableService, Functions, Memory, new_session, Put, RowView, StoreError, Unknown)
 from cf.shared.plans import text_of
+from cf.shared.rows import Changes
 from cf.shared.web.server import Server
 from cf.shared.web.wording import TEXTS
 
@@ -408,6 +409,10 @@ class Lists(WebCase):
                     return entries
                 self.late -= 1
                 return entries[:-1]
+
+            def changes(self, mark):
+                changes, names = super().changes(mark)
+                return (changes if mark is None else Changes([], {}, [])), names  # (each is told once)
         for is_looked_at in (True, False):
             store = Lagging()
             opened = store.open("r", text_of(self.flow(), f.functions))
