@@ -204,6 +204,8 @@ CALLS: Dict[str, List[Any]] = {
     "cf_request_gather": [_H, c.POINTER(CGathering), _OF, _SIZE, *_TOLD],
     "cf_request_next": [_H, c.POINTER(CRequestStep), c.POINTER(CTask), *_TOLD],
     "cf_request_follow": [_H, _U16, _U16, *_TOLD, _SIZE_OUT],
+    "cf_request_deadline": [_H, _U16, _U64, _U32, CValue],
+    "cf_request_pass": [_H, _U64, *_TOLD, _SIZE_OUT],
     "cf_request_refuse": [_H, _U8, _U32, *_TOLD, _SIZE_OUT],
     "cf_request_told": [_H, *_TOLD, _SIZE_OUT],
     "cf_request_ready": [_H, _U8, _U16_OUT],

@@ -30,8 +30,8 @@
 #include "cf.h"
 
 enum { MOST = 4096, CALLERS = 64, NONE = 0xFFFF, THIS_THREAD = -1 };
-/* In whose name a machine itself settles stages: RELAY of words.py. */
-enum { OWN = 2 };
+/* In whose name a machine itself settles stages: CLOCK of words.py. */
+enum { OWN = 1 };
 /* Calls of Python's beyond its limit for what has to be told, and how often that is tried. */
 enum { DEEPER = 200, TRIES = 100 };
 /* How many machines of a plan are kept for its next requests, and of how many stages at most. */
@@ -49,8 +49,27 @@ enum { GIVING = 1, RAISING = 2, LINKING = 3 };  /* how `_end` finishes a stage: 
 static _Thread_local int caller;   /* which caller this thread is */
 static const uint8_t lanes[MOST];  /* each stage is of the only lane */
 
-/* Machines of requests that are over, which start again for the next ones of their plan. */
-typedef struct { uint32_t many; cf_handle *machines[KEPT]; } Pool;
+/* The things of other modules that are used here, and names, which have no module: each by its place in a table. */
+enum {
+  CANCELLED_ERROR, FUTURE_ERROR, CONDITION, RUNTIME_ERROR, STR, PENDING, RUNNING, FINISHED, CANCELLED_STATE,
+  PUT, REFUSAL, SHOW, LOG, WAIT, RELAY, KEPT_NAME, AT, MOST_NAME, ROWS, THINGS
+};
+static const struct { const char *module, *name; } things[THINGS] = {
+  {"concurrent.futures", "CancelledError"}, {"concurrent.futures", "TimeoutError"}, {"threading", "Condition"},
+  {"builtins", "RuntimeError"}, {"builtins", "str"}, {"concurrent.futures._base", "PENDING"},
+  {"concurrent.futures._base", "RUNNING"}, {"concurrent.futures._base", "FINISHED"},
+  {"concurrent.futures._base", "CANCELLED_AND_NOTIFIED"},
+  {NULL, "put"}, {NULL, "refusal"}, {NULL, "_show"}, {NULL, "_log"}, {NULL, "_wait"}, {NULL, "relay"},
+  {NULL, "kept"}, {NULL, "at"}, {NULL, "most"}, {NULL, "rows"}};
+
+typedef struct Row Row;
+
+/* A plan, and machines of requests of it that are over, which start again for the next ones. */
+typedef struct {
+  uint32_t many, most, stages;
+  cf_handle *machines[KEPT], *plan;
+  Row *rows;  /* of its stages, as they are at first, whose names are borrowed */
+} Pool;
 
 /* What one interpreter has of this. */
 typedef struct {
@@ -61,9 +80,8 @@ typedef struct {
   uint32_t forks;            /* how many forks lie between the first process and this one */
   PyTypeObject *request_core, *stage_core;
   PyTypeObject *stage_type;  /* the class of futures, below `stage_core`, once `use` told it */
-  PyObject *full, *bad_answer, *cancelled_error, *future_error, *condition_class;
-  PyObject *pending, *running, *finished, *cancelled_state;
-  PyObject *put_name, *refusal_name, *show_name, *log_name, *wait_name, *qualname_name, *func_name, *relay_name;
+  PyObject *full, *bad_answer, *name_of;  /* as `use` told them */
+  PyObject *things[THINGS];
 } State;
 
 /* What stands beside a stage. `told` is pending until the stage is settled. `error` is one more than the number of the
@@ -71,7 +89,7 @@ typedef struct {
  * `from` is the stage from which it may have that, if it is linked or follows; else it is one of its sources. `of` says
  * of an attached one how many sources it has, and these. `stage` is its future, which is held until all was told of it,
  * and may be missing of a planned one. */
-typedef struct {
+struct Row {
   cf_outcome told;
   uint32_t error;
   uint16_t of[3], from;
@@ -79,7 +97,7 @@ typedef struct {
   uint8_t form;
   bool running;
   PyObject *stage, *name;
-} Row;
+};
 
 /* The works are given the request once for each function that becomes ready. That is a turn: who has it runs whichever
  * function is the lowest ready one then. There are as many turns as ready functions, or more, and one for which none is
@@ -88,8 +106,7 @@ typedef struct {
   PyObject_HEAD
   State *state;
   cf_handle *machine;
-  Pool *pool;               /* the State's, or that of the capsule */
-  PyObject *capsule;
+  Pool *pool;               /* the State's, or that of its plan */
   uint32_t room, most, stages, events, event_room; /* `room` and `event_room` are of rows and times */
   uint32_t turns, forks;  /* forks as in a stage */
   bool counts;  /* whether words are counted, as the machine may have done some by itself or by others' calls */
@@ -97,7 +114,8 @@ typedef struct {
   int64_t *times;  /* of each word, in nanoseconds */
   PyObject *works, *title, *keeps, *values, *errors, *weak;
   PyTypeObject *stage_type;  /* the class of its futures, if that isn't the one in use: then turns are its class's */
-  PyObject *plan, *planned;  /* a PlanCore, and its rows, whose numbers were looked at */
+  PyObject *plan, *kept;     /* a PlanCore, and what that keeps: a capsule of its Pool, and its rows */
+  PyObject *planned;         /* these rows, whose numbers were looked at, borrowed */
   uint32_t many_planned;
 } Request;
 
@@ -123,6 +141,7 @@ static void empty(Pool *pool) {
     cf_free(machine);
     PyMem_Free(machine);
   }
+  PyMem_Free(pool->rows);
 }
 
 static PyObject *refused(uint32_t code) {
@@ -175,9 +194,10 @@ static void note(Request *self, size_t words, size_t n, News *news) {
     const cf_told *told = &self->state->told[k];
     Row *row = &self->rows[told->stage];
     row->told = told->outcome;
-    if (row->told.kind == CF_TIMED_OUT || row->told.kind == CF_BAD_ANSWER)
-      row->error = told->stage == news->own && news->error ? news->error :
-                   error_of_sources(self, told->stage, row->told.kind);
+    bool has_code = row->told.kind != CF_TIMED_OUT && row->told.kind != CF_BAD_ANSWER;
+    if (has_code) row->error = 0;
+    else if (told->stage == news->own && news->error) row->error = news->error;
+    else if (row->told.wrapped || !row->error) row->error = error_of_sources(self, told->stage, row->told.kind);
     row->next_settled = NONE;
     if (news->last_settled == NONE) news->settled = told->stage;
     else self->rows[news->last_settled].next_settled = told->stage;
@@ -244,34 +264,17 @@ static PyObject *error_out(Request *self, cf_outcome outcome, uint32_t error) {
     Py_INCREF(given);
     return given;
   }
-  return PyObject_CallNoArgs(outcome.kind == CF_CANCELLED ? self->state->cancelled_error :
+  return PyObject_CallNoArgs(outcome.kind == CF_CANCELLED ? self->state->things[CANCELLED_ERROR] :
                              outcome.kind == CF_TIMED_OUT ? PyExc_TimeoutError : self->state->bad_answer);
 }
 
 static bool was_cancelled(cf_outcome outcome) { return outcome.kind == CF_CANCELLED && !outcome.wrapped; }
 
-/* An attribute, or NULL without an error where it isn't there. */
-static PyObject *attribute_of(PyObject *thing, PyObject *name) {
-  PyObject *found = PyObject_GetAttr(thing, name);
-  if (!found && PyErr_ExceptionMatches(PyExc_AttributeError)) PyErr_Clear();
-  return found;
-}
-
-/* What a function is called: its qualified name, that of what a partial calls, or that of its class. */
+/* What a function is called: its qualified name; words.py names others. */
 static PyObject *name_of(State *state, PyObject *call) {
-  if (PyFunction_Check(call)) {
-    PyObject *name = ((PyFunctionObject *)call)->func_qualname;
-    Py_INCREF(name);
-    return name;
-  }
-  PyObject *held = attribute_of(call, state->func_name), *name = NULL;
-  if (!PyErr_Occurred()) name = attribute_of(held ? held : call, state->qualname_name);
-  if (name && !PyUnicode_Check(name)) Py_SETREF(name, PyObject_Str(name));
-  if (!name && !PyErr_Occurred()) {
-    const char *whole = Py_TYPE(call)->tp_name, *dot = strrchr(whole, '.');
-    name = PyUnicode_FromString(dot ? dot + 1 : whole);
-  }
-  Py_XDECREF(held);
+  if (!PyFunction_Check(call)) return PyObject_CallOneArg(state->name_of, call);
+  PyObject *name = ((PyFunctionObject *)call)->func_qualname;
+  Py_INCREF(name);
   return name;
 }
 
@@ -364,7 +367,7 @@ static void show(Stage *stage, Kept *first) {
   be_here(stage);
   for (int tries = 0; !stage->shown; tries++) {
     if (!stage->condition || tries == TRIES) { stage->shown = true; return; }
-    PyObject *none = ask((PyObject *)stage, stage->state->show_name, NULL, first);
+    PyObject *none = ask((PyObject *)stage, stage->state->things[SHOW], NULL, first);
     if (!none) keep(first);
     Py_XDECREF(none);
   }
@@ -377,7 +380,7 @@ static void call_back(Stage *stage, PyObject *call, Kept *first) {
     PyErr_Fetch(&type, &error, &trace);
     PyErr_NormalizeException(&type, &error, &trace);
     if (trace) PyException_SetTraceback(error, trace);
-    none = PyObject_CallMethodOneArg((PyObject *)stage, stage->state->log_name, error);
+    none = PyObject_CallMethodOneArg((PyObject *)stage, stage->state->things[LOG], error);
     Py_XDECREF(type); Py_XDECREF(error); Py_XDECREF(trace);
   }
   if (!none) keep(first);
@@ -397,7 +400,7 @@ static void let_go(Stage *stage, Kept *first) {
 /* Gives somebody a turn, and says whether it is taken. An interrupt that comes meanwhile is raised once it is: a turn
  * too many does nothing, and one too few leaves a function behind. */
 static int put(Request *self, Kept *interrupt) {
-  PyObject *is_taken = ask(self->works, self->state->put_name, (PyObject *)self, interrupt);
+  PyObject *is_taken = ask(self->works, self->state->things[PUT], (PyObject *)self, interrupt);
   int taken = is_taken ? PyObject_IsTrue(is_taken) : -1;
   Py_XDECREF(is_taken);
   return taken;
@@ -426,7 +429,7 @@ static void hand_on(Request *self, Kept *first) {
     keep(first);
     self->turns -= self->turns < turns ? self->turns : turns;
   } else if (!taken) {
-    PyObject *error = ask(self->works, self->state->refusal_name, NULL, first);
+    PyObject *error = ask(self->works, self->state->things[REFUSAL], NULL, first);
     PyObject *none = error ? by_class(self, "_fail_ready", error) : NULL;
     if (!none) keep(first);
     Py_XDECREF(error); Py_XDECREF(none);
@@ -543,33 +546,60 @@ static int plan_row(PyObject *given, uint16_t i, Row *row) {
   return 0;
 }
 
+static const char POOL[] = "cf._cf.pool";
+
 static void empty_capsule(PyObject *capsule) {
-  Pool *pool = PyCapsule_GetPointer(capsule, NULL);
+  Pool *pool = PyCapsule_GetPointer(capsule, POOL);
   empty(pool);
   PyMem_Free(pool);
 }
 
-/* The machines that a plan keeps, in a capsule that it has. */
-static PyObject *capsule_of(PyObject *plan) {
-  PyObject *capsule = PyObject_GetAttrString(plan, "kept");
-  if (!capsule || PyCapsule_IsValid(capsule, NULL)) return capsule;
-  Py_DECREF(capsule);
-  Pool *pool = PyMem_Calloc(1, sizeof *pool);
-  if (!pool) return PyErr_NoMemory();
-  if (!(capsule = PyCapsule_New(pool, NULL, empty_capsule))) { PyMem_Free(pool); return NULL; }
-  if (PyObject_SetAttrString(plan, "kept", capsule)) Py_CLEAR(capsule);
-  return capsule;
+/* Reads a plan: the address of its handle, how many stages a request of it may have, and its rows. */
+static int read_plan(PyObject *at, PyObject *most, PyObject *rows, Pool *pool) {
+  if (!PyTuple_Check(rows)) { PyErr_SetString(PyExc_TypeError, "no plan"); return -1; }
+  long bound = number_below(most, MOST + 1, "most of stages");
+  pool->plan = bound < 0 ? NULL : PyLong_AsVoidPtr(at);
+  if (!pool->plan || PyTuple_GET_SIZE(rows) > bound) {
+    if (!PyErr_Occurred()) PyErr_SetString(PyExc_TypeError, "no plan");
+    return -1;
+  }
+  pool->most = (uint32_t)bound;
+  pool->stages = (uint32_t)PyTuple_GET_SIZE(rows);
+  pool->rows = PyMem_Calloc(pool->stages ? pool->stages : 1, sizeof *pool->rows);
+  if (!pool->rows) { PyErr_NoMemory(); return -1; }
+  for (uint16_t i = 0; i < pool->stages; i++)
+    if (plan_row(PyTuple_GET_ITEM(rows, i), i, &pool->rows[i])) return -1;
+  return 0;
 }
 
-/* A machine of a plan of so many stages, with room for others. */
-static uint32_t open_machine(Request *self, cf_handle *of, uint16_t room, size_t stages) {
-  if (self->pool->many) {
-    self->machine = self->pool->machines[--self->pool->many];
+/* What a plan keeps, as it is read at its first request: a tuple of a capsule, which has its Pool, and its rows. */
+static PyObject *kept_of(State *state, PyObject *plan) {
+  PyObject *kept = PyObject_GetAttr(plan, state->things[KEPT_NAME]);
+  if (kept && PyTuple_Check(kept) && PyTuple_GET_SIZE(kept) == 2 &&
+      PyCapsule_IsValid(PyTuple_GET_ITEM(kept, 0), POOL)) return kept;
+  PyObject *at = kept ? PyObject_GetAttr(plan, state->things[AT]) : NULL;
+  PyObject *most = at ? PyObject_GetAttr(plan, state->things[MOST_NAME]) : NULL;
+  PyObject *rows = most ? PyObject_GetAttr(plan, state->things[ROWS]) : NULL, *capsule = NULL;
+  Pool *pool = rows ? PyMem_Calloc(1, sizeof *pool) : NULL;
+  if (pool && !(capsule = PyCapsule_New(pool, POOL, empty_capsule))) PyMem_Free(pool);
+  if (rows && !pool) PyErr_NoMemory();
+  Py_XSETREF(kept, capsule && !read_plan(at, most, rows, pool) ? PyTuple_Pack(2, capsule, rows) : NULL);
+  if (kept && PyObject_SetAttr(plan, state->things[KEPT_NAME], kept)) Py_CLEAR(kept);
+  if (!kept && PyErr_ExceptionMatches(PyExc_AttributeError)) PyErr_SetString(PyExc_TypeError, "no plan");
+  Py_XDECREF(at); Py_XDECREF(most); Py_XDECREF(rows); Py_XDECREF(capsule);
+  return kept;
+}
+
+/* A machine of the request's plan, with room for others. */
+static uint32_t open_machine(Request *self, uint16_t room) {
+  Pool *pool = self->pool;
+  if (pool->many) {
+    self->machine = pool->machines[--pool->many];
     return CF_OK;
   }
   cf_request_sizes sizes = {room, 1, OWN};
   cf_handle *made = PyMem_Calloc(1, sizeof *made);
-  uint32_t code = made ? cf_request_new(of, &sizes, lanes, stages, made) : CF_NO_MEMORY;
+  uint32_t code = made ? cf_request_new(pool->plan, &sizes, lanes, pool->stages, made) : CF_NO_MEMORY;
   if (code) PyMem_Free(made); else self->machine = made;
   return code;
 }
@@ -583,7 +613,7 @@ static void close_machine(Request *self) {
   self->machine = NULL;
 }
 
-static int Request_init(Request *self, PyObject *args, PyObject *kwargs) {
+static int Request_init(Request *self, PyObject *args, PyObject *Py_UNUSED(kwargs)) {
   PyObject *works, *title, *keeps = Py_None, *plan = Py_None, *stage_class = Py_None;
   unsigned int room;
   if (!PyArg_ParseTuple(args, "OOI|OOO", &works, &title, &room, &keeps, &plan, &stage_class)) return -1;
@@ -596,46 +626,32 @@ static int Request_init(Request *self, PyObject *args, PyObject *kwargs) {
     Py_INCREF(stage_class);
     Py_XSETREF(self->stage_type, (PyTypeObject *)stage_class);
   }
-  cf_handle *of = &self->state->nothing;
-  long stages = 0, most = MOST;
+  self->pool = &self->state->pool;
   if (plan != Py_None) {
-    PyObject *at = PyObject_GetAttrString(plan, "at"), *many = at ? PyObject_GetAttrString(plan, "most") : NULL;
-    PyObject *rows = many ? PyObject_GetAttrString(plan, "rows") : NULL;
-    bool is_plan = at && many && rows && PyTuple_Check(rows);
-    if (is_plan) {
-      of = PyLong_AsVoidPtr(at);
-      most = PyLong_AsLong(many);
-      stages = PyTuple_GET_SIZE(rows);
-    }
-    Py_XDECREF(at); Py_XDECREF(many);
-    if (!is_plan || PyErr_Occurred() || !of || stages > most || most > MOST) {
-      Py_XDECREF(rows);
-      PyErr_SetString(PyExc_TypeError, "no plan");
-      return -1;
-    }
+    PyObject *kept = kept_of(self->state, plan);
+    if (!kept) return -1;
     Py_INCREF(plan);
     Py_XSETREF(self->plan, plan);
-    Py_XSETREF(self->planned, rows);
-    Py_XSETREF(self->capsule, capsule_of(plan));
-    if (!self->capsule) return -1;
+    Py_XSETREF(self->kept, kept);
+    self->pool = PyCapsule_GetPointer(PyTuple_GET_ITEM(kept, 0), POOL);
+    self->planned = PyTuple_GET_ITEM(kept, 1);
   }
-  self->pool = self->capsule ? PyCapsule_GetPointer(self->capsule, NULL) : &self->state->pool;
+  uint32_t stages = self->pool->stages;
   if (plan == Py_None && !room) room = 1;
-  if (room > most - stages) room = (unsigned int)(most - stages);
+  if (room > self->pool->most - stages) room = self->pool->most - stages;
   Row *made = PyMem_Calloc(stages + room ? stages + room : 1, sizeof *made);
   if (!made) { PyErr_NoMemory(); return -1; }
-  for (uint16_t i = 0; i < stages; i++)
-    if (plan_row(PyTuple_GET_ITEM(self->planned, i), i, &made[i])) { PyMem_Free(made); return -1; }
   size_t n = 0;
-  uint32_t code = open_machine(self, of, (uint16_t)room, (size_t)stages);
+  uint32_t code = open_machine(self, (uint16_t)room);
   if (!code && stages) code = cf_request_told(self->machine, self->state->told, MOST, &n);
   if (code) { PyMem_Free(made); refused(code); return -1; }
+  if (stages) memcpy(made, self->pool->rows, stages * sizeof *made);
   for (size_t k = 0; k < n; k++) made[self->state->told[k].stage].told = self->state->told[k].outcome;
-  for (long i = 0; i < stages; i++) Py_INCREF(made[i].name);
+  for (uint32_t i = 0; i < stages; i++) Py_INCREF(made[i].name);
   self->rows = made;
-  self->room = (uint32_t)stages + room;
-  self->most = (uint32_t)most;
-  self->stages = self->many_planned = (uint32_t)stages;
+  self->room = stages + room;
+  self->most = self->pool->most;
+  self->stages = self->many_planned = stages;
   Py_INCREF(works); self->works = works;
   Py_INCREF(title); self->title = title;
   Py_INCREF(keeps); self->keeps = keeps;
@@ -647,7 +663,7 @@ static int Request_traverse(Request *self, visitproc visit, void *arg) {
   Py_VISIT(self->state->module);
   for (uint32_t i = 0; i < self->stages; i++) Py_VISIT(self->rows[i].stage);
   Py_VISIT(self->works); Py_VISIT(self->keeps); Py_VISIT(self->values); Py_VISIT(self->errors); Py_VISIT(self->plan);
-  Py_VISIT(self->planned); Py_VISIT(self->stage_type);
+  Py_VISIT(self->kept); Py_VISIT(self->stage_type);
   return 0;
 }
 
@@ -666,9 +682,8 @@ static void Request_dealloc(Request *self) {
   Request_clear(self);
   for (uint32_t i = 0; i < self->stages; i++) Py_CLEAR(self->rows[i].name);
   Py_CLEAR(self->values); Py_CLEAR(self->errors); Py_CLEAR(self->title); Py_CLEAR(self->stage_type);
-  Py_CLEAR(self->planned);
   close_machine(self);
-  Py_CLEAR(self->capsule);
+  Py_CLEAR(self->kept);
   PyMem_Free(self->rows); PyMem_Free(self->times);
   type->tp_free((PyObject *)self);
   Py_DECREF(state->module);
@@ -725,7 +740,7 @@ static PyObject *Request_attach(Request *self, PyObject *const *args, Py_ssize_t
   if (form < 0) return NULL;
   if ((args[4] != Py_None && !PyTuple_Check(args[4])) || (args[5] != Py_None && !PyDict_Check(args[5])))
     return PyErr_Format(PyExc_TypeError, "arguments are a tuple and a dict");
-  PyObject *call = args[3] == Py_None ? NULL : args[3], *name = args[6], *relay = self->state->relay_name;
+  PyObject *call = args[3] == Py_None ? NULL : args[3], *name = args[6], *relay = self->state->things[RELAY];
   uint32_t sources = (args[1] != Py_None) + (args[2] != Py_None), code = CF_OK;
   if ((args[1] != Py_None && !is_own(self, args[1])) || (args[2] != Py_None && !is_own(self, args[2])))
     return PyErr_Format(PyExc_TypeError, "no stage of this request");
@@ -854,21 +869,30 @@ static PyObject *Request_change(Request *self, PyObject *const *args, Py_ssize_t
   return PyBool_FromLong(reply.answer);
 }
 
-/* _takes_from(stage, other): lets a stage have another one's exception, by which it will end. */
-static PyObject *Request_takes_from(Request *self, PyObject *const *args, Py_ssize_t n) {
-  uint16_t stage, other;
-  if (n != 2) return PyErr_Format(PyExc_TypeError, "_takes_from takes 2");
-  if (number_in(self, args[0], &stage) || number_in(self, args[1], &other)) return NULL;
-  self->rows[stage].from = other;
+/* _takes(stage, other, code): if a stage times out from now on, or has a bad answer, it has that by another one or with an
+ * exception, whose numbers these are; -1 stands for neither. */
+static PyObject *Request_takes(Request *self, PyObject *const *args, Py_ssize_t n) {
+  uint16_t stage;
+  if (n != 3) return PyErr_Format(PyExc_TypeError, "_takes takes 3");
+  if (number_in(self, args[0], &stage)) return NULL;
+  long other = PyLong_AsLong(args[1]), code = PyLong_AsLong(args[2]);
+  if (PyErr_Occurred()) return NULL;
+  if (other >= (long)self->stages || code >= (self->errors ? PyList_GET_SIZE(self->errors) : 0))
+    return PyErr_Format(PyExc_IndexError, "no such stage or exception");
+  if (other >= 0) self->rows[stage].from = (uint16_t)other;
+  if (code >= 0 && !self->rows[stage].told.kind) self->rows[stage].error = (uint32_t)code + 1;
   self->counts = true;
   Py_RETURN_NONE;
 }
 
-/* _code(error): the number of an exception. */
-static PyObject *Request_code(Request *self, PyObject *error) {
+static PyObject *number_of(PyObject **list, PyObject *thing) {
   uint32_t number;
-  return kept(&self->errors, error, &number) ? NULL : PyLong_FromUnsignedLong(number);
+  return kept(list, thing, &number) ? NULL : PyLong_FromUnsignedLong(number);
 }
+
+/* _code(error), _keep(value): the number of an exception or a value. */
+static PyObject *Request_code(Request *self, PyObject *error) { return number_of(&self->errors, error); }
+static PyObject *Request_keep(Request *self, PyObject *value) { return number_of(&self->values, value); }
 
 /* What a granted claim lets be called: with the stage's own arguments, or with as many as stand here. */
 typedef struct { PyObject *call, *args, *kwargs, *given[3]; int many; } Called;
@@ -1152,35 +1176,22 @@ static PyObject *copied(PyObject *list) {
   return list ? PyList_GetSlice(list, 0, PyList_GET_SIZE(list)) : PyList_New(0);
 }
 
-/* _facts(): the words, the time of each in nanoseconds, and names, values and errors. */
-static PyObject *Request_facts(Request *self, PyObject *Py_UNUSED(none)) {
-  /* All objects are made first: what is collected meanwhile may call the request. */
-  stamp(self, 0);
-  for (;;) {
-    uint32_t events = self->events, stages = self->stages;
-    PyObject *words = PyBytes_FromStringAndSize(NULL, events * 8), *times = PyBytes_FromStringAndSize(NULL, events * 8);
-    PyObject *names = PyList_New(stages), *values = copied(self->values), *errors = copied(self->errors), *facts = NULL;
-    bool is_made = words && times && names && values && errors, is_same = events == self->events;
-    if (is_made && is_same) {
-      size_t count;
-      cf_ledger_words(self->machine, 0, (uint64_t *)PyBytes_AS_STRING(words), events, &count);
-      if (events) memcpy(PyBytes_AS_STRING(times), self->times, events * 8);
-      for (uint32_t i = 0; i < stages; i++) {
-        Py_INCREF(self->rows[i].name);
-        PyList_SET_ITEM(names, i, self->rows[i].name);
-      }
-      facts = PyTuple_Pack(5, words, times, names, values, errors);
-    }
-    Py_XDECREF(words); Py_XDECREF(times); Py_XDECREF(names); Py_XDECREF(values); Py_XDECREF(errors);
-    if (!is_made || is_same) return facts;
+static PyObject *list_of(PyObject **list) {
+  if (!*list) {
+    PyObject *made = PyList_New(0);
+    if (!made) return NULL;
+    if (!*list) *list = made; else Py_DECREF(made);
   }
+  Py_INCREF(*list);
+  return *list;
 }
 
-/* _take_turn(): whether a function is ready that has no turn, which is the caller's then. */
-static PyObject *Request_take_turn(Request *self, PyObject *Py_UNUSED(none)) {
-  bool is_left = ready(self) > self->turns;
-  self->turns += is_left;
-  return PyBool_FromLong(is_left);
+static PyObject *Request_values(Request *self, void *Py_UNUSED(which)) { return list_of(&self->values); }
+static PyObject *Request_errors(Request *self, void *Py_UNUSED(which)) { return list_of(&self->errors); }
+
+static PyObject *Request_times(Request *self, void *Py_UNUSED(which)) {
+  stamp(self, 0);
+  return PyBytes_FromStringAndSize((char *)self->times, self->events * (Py_ssize_t)sizeof *self->times);
 }
 
 /* _hand_on(): gives a turn for each function that is ready and has none. What was raised meanwhile. */
@@ -1191,13 +1202,6 @@ static PyObject *Request_hand_on(Request *self, PyObject *Py_UNUSED(none)) {
   return caught();
 }
 
-/* _take_back(): takes all turns back. */
-static PyObject *Request_take_back(Request *self, PyObject *Py_UNUSED(none)) {
-  self->turns = 0;
-  self->counts = true;
-  Py_RETURN_NONE;
-}
-
 static PyObject *Request_at(Request *self, void *Py_UNUSED(which)) { return PyLong_FromVoidPtr(self->machine); }
 
 #define FAST(function) (PyCFunction)(void (*)(void))function
@@ -1205,8 +1209,9 @@ static PyMethodDef request_methods[] = {
   {"_attach", FAST(Request_attach), METH_FASTCALL, "Attaches a stage."},
   {"_gather", FAST(Request_gather), METH_FASTCALL, "Attaches stages that wait for all of some, or for one."},
   {"_change", FAST(Request_change), METH_FASTCALL, "Completes, fails or cancels a stage."},
-  {"_takes_from", FAST(Request_takes_from), METH_FASTCALL, "Lets a stage have another one's exception."},
+  {"_takes", FAST(Request_takes), METH_FASTCALL, "Lets a stage have another one's exception, or this one."},
   {"_code", (PyCFunction)Request_code, METH_O, "The number of an exception."},
+  {"_keep", (PyCFunction)Request_keep, METH_O, "The number of a value."},
   {"_run", (PyCFunction)Request_run, METH_O, "Uses a turn."},
   {"_work", (PyCFunction)Request_work, METH_O, "Runs all that is ready."},
   {"_begin", FAST(Request_begin), METH_FASTCALL, "Claims a stage."},
@@ -1216,10 +1221,7 @@ static PyMethodDef request_methods[] = {
   {"_set_running", (PyCFunction)Request_set_running, METH_O, "Marks a stage as running."},
   {"_name_of", (PyCFunction)Request_name, METH_O, "The name of a stage."},
   {"_rename", FAST(Request_rename), METH_FASTCALL, "Gives a stage a name."},
-  {"_facts", (PyCFunction)Request_facts, METH_NOARGS, "All that is written down."},
-  {"_take_turn", (PyCFunction)Request_take_turn, METH_NOARGS, "Takes a turn that nobody has."},
   {"_hand_on", (PyCFunction)Request_hand_on, METH_NOARGS, "Gives turns for what is ready."},
-  {"_take_back", (PyCFunction)Request_take_back, METH_NOARGS, "Takes all turns back."},
   {NULL}};
 static PyMemberDef request_members[] = {
   {"_works", T_OBJECT, offsetof(Request, works), READONLY, NULL},
@@ -1228,9 +1230,16 @@ static PyMemberDef request_members[] = {
   {"_stages", T_UINT, offsetof(Request, stages), READONLY, NULL},
   {"_events", T_UINT, offsetof(Request, events), READONLY, NULL},
   {"_most", T_UINT, offsetof(Request, most), READONLY, NULL},
+  {"_turns", T_UINT, offsetof(Request, turns), 0, NULL},
+  {"_counts", T_BOOL, offsetof(Request, counts), 0, NULL},
   {"__weaklistoffset__", T_PYSSIZET, offsetof(Request, weak), READONLY, NULL},
   {NULL}};
-static PyGetSetDef request_getters[] = {{"_at", (getter)Request_at, NULL, NULL, NULL}, {NULL}};
+static PyGetSetDef request_getters[] = {
+  {"_at", (getter)Request_at, NULL, NULL, NULL},
+  {"_times", (getter)Request_times, NULL, NULL, NULL},
+  {"_values", (getter)Request_values, NULL, NULL, NULL},
+  {"_errors", (getter)Request_errors, NULL, NULL, NULL},
+  {NULL}};
 #ifdef Py_TPFLAGS_IMMUTABLETYPE
 enum { FIXED = Py_TPFLAGS_IMMUTABLETYPE, NOT_CALLED = Py_TPFLAGS_DISALLOW_INSTANTIATION };
 #else
@@ -1246,17 +1255,21 @@ static PyType_Spec request_spec = {
 
 /* ---- Futures ---- */
 
+#define OF_STAGE(DO) \
+  do { \
+    DO(self->request); DO(self->call); DO(self->args); DO(self->kwargs); \
+    DO(self->callbacks); DO(self->condition); DO(self->waiters); DO(self->error); \
+  } while (0)
+
 static int Stage_traverse(Stage *self, visitproc visit, void *arg) {
   Py_VISIT(Py_TYPE(self));
   Py_VISIT(self->state->module);
-  Py_VISIT(self->request); Py_VISIT(self->call); Py_VISIT(self->args); Py_VISIT(self->kwargs);
-  Py_VISIT(self->callbacks); Py_VISIT(self->condition); Py_VISIT(self->waiters); Py_VISIT(self->error);
+  OF_STAGE(Py_VISIT);
   return 0;
 }
 
 static int Stage_clear(Stage *self) {
-  Py_CLEAR(self->request); Py_CLEAR(self->call); Py_CLEAR(self->args); Py_CLEAR(self->kwargs);
-  Py_CLEAR(self->callbacks); Py_CLEAR(self->condition); Py_CLEAR(self->waiters); Py_CLEAR(self->error);
+  OF_STAGE(Py_CLEAR);
   return 0;
 }
 
@@ -1301,12 +1314,12 @@ static int settle(Stage *self, PyObject *const *args, Py_ssize_t n, PyObject *na
     return -1;
   }
   if (!told(self).kind) {
-    PyObject *none = PyObject_CallMethodOneArg((PyObject *)self, self->state->wait_name, many ? args[0] : Py_None);
+    PyObject *none = PyObject_CallMethodOneArg((PyObject *)self, self->state->things[WAIT], many ? args[0] : Py_None);
     if (!none) return -1;
     Py_DECREF(none);
-    if (!told(self).kind) { PyErr_SetNone(self->state->future_error); return -1; }
+    if (!told(self).kind) { PyErr_SetNone(self->state->things[FUTURE_ERROR]); return -1; }
   }
-  if (was_cancelled(told(self))) { PyErr_SetNone(self->state->cancelled_error); return -1; }
+  if (was_cancelled(told(self))) { PyErr_SetNone(self->state->things[CANCELLED_ERROR]); return -1; }
   return 0;
 }
 
@@ -1343,12 +1356,10 @@ static PyObject *Stage_add_done_callback(Stage *self, PyObject *call) {
 
 static PyObject *Stage_state(Stage *self, void *Py_UNUSED(which)) {
   be_here(self);
-  cf_outcome outcome = told(self);
-  State *of = self->state;
-  PyObject *state = self->shown ? was_cancelled(outcome) ? of->cancelled_state : of->finished
-                    : self->request && self->request->rows[self->number].running ? of->running : of->pending;
-  Py_INCREF(state);
-  return state;
+  int state = self->shown ? was_cancelled(told(self)) ? CANCELLED_STATE : FINISHED
+              : self->request && self->request->rows[self->number].running ? RUNNING : PENDING;
+  Py_INCREF(self->state->things[state]);
+  return self->state->things[state];
 }
 
 static PyObject *Stage_form(Stage *self, void *Py_UNUSED(which)) {
@@ -1372,22 +1383,12 @@ static int Stage_set_shown(Stage *self, PyObject *shown, void *Py_UNUSED(which))
 static PyObject *Stage_condition(Stage *self, void *Py_UNUSED(which)) {
   be_here(self);
   if (!self->condition) {
-    PyObject *made = PyObject_CallNoArgs(self->state->condition_class);
+    PyObject *made = PyObject_CallNoArgs(self->state->things[CONDITION]);
     if (!made) return NULL;
     if (!self->condition) self->condition = made; else Py_DECREF(made);
   }
   Py_INCREF(self->condition);
   return self->condition;
-}
-
-static PyObject *list_of(PyObject **list) {
-  if (!*list) {
-    PyObject *made = PyList_New(0);
-    if (!made) return NULL;
-    if (!*list) *list = made; else Py_DECREF(made);
-  }
-  Py_INCREF(*list);
-  return *list;
 }
 
 static PyObject *Stage_waiters(Stage *self, void *Py_UNUSED(which)) {
@@ -1439,19 +1440,21 @@ static PyType_Spec stage_spec = {
 
 /* ---- The module ---- */
 
-/* use(Stage, RequestFull, BadAnswer): the classes that are written in Python. */
+/* use(Stage, RequestFull, BadAnswer, name_of): what is written in Python. */
 static PyObject *use(PyObject *module, PyObject *args) {
   State *state = PyModule_GetState(module);
-  PyObject *type, *full, *bad_answer;
-  if (!PyArg_ParseTuple(args, "O!OO", &PyType_Type, &type, &full, &bad_answer)) return NULL;
+  PyObject *type, *full, *bad_answer, *name_of;
+  if (!PyArg_ParseTuple(args, "O!OOO", &PyType_Type, &type, &full, &bad_answer, &name_of)) return NULL;
   if (!PyType_IsSubtype((PyTypeObject *)type, state->stage_core))
     return PyErr_Format(PyExc_TypeError, "no class of stages");
-  if (!PyExceptionClass_Check(full) || !PyExceptionClass_Check(bad_answer))
-    return PyErr_Format(PyExc_TypeError, "no class of exceptions");
-  Py_INCREF(type); Py_INCREF(full); Py_INCREF(bad_answer);
-  Py_XSETREF(state->stage_type, (PyTypeObject *)type);
-  Py_XSETREF(state->full, full);
-  Py_XSETREF(state->bad_answer, bad_answer);
+  if (!PyExceptionClass_Check(full) || !PyExceptionClass_Check(bad_answer) || !PyCallable_Check(name_of))
+    return PyErr_Format(PyExc_TypeError, "no class of exceptions, or nothing to call");
+  PyObject **places[] = {(PyObject **)&state->stage_type, &state->full, &state->bad_answer, &state->name_of};
+  for (Py_ssize_t k = 0; k < 4; k++) {
+    PyObject *given = PyTuple_GET_ITEM(args, k);
+    Py_INCREF(given);
+    Py_XSETREF(*places[k], given);
+  }
   Py_RETURN_NONE;
 }
 
@@ -1502,34 +1505,26 @@ static int fill(PyObject *module) {
   }
   it->told = PyMem_RawMalloc(MOST * sizeof *it->told);
   if (!it->told || cf_builder_new(&it->nothing, 0, 0) || cf_build(&it->nothing)) { PyErr_NoMemory(); return -1; }
+  it->pool = (Pool){.most = MOST, .plan = &it->nothing};
   if (!(it->request_core = type_of(module, &request_spec, "RequestCore"))) return -1;
   if (!(it->stage_core = type_of(module, &stage_spec, "StageCore"))) return -1;
   it->stage_core->tp_new = NULL;  /* a request makes its stages (Python 3.9 has no flag for it) */
-  Py_INCREF(PyExc_RuntimeError); it->full = PyExc_RuntimeError;  /* until `use` tells another */
-  Py_INCREF(PyExc_RuntimeError); it->bad_answer = PyExc_RuntimeError;
-  it->cancelled_error = of_module("concurrent.futures", "CancelledError");
-  it->future_error = of_module("concurrent.futures", "TimeoutError");
-  it->condition_class = of_module("threading", "Condition");
-  it->pending = of_module("concurrent.futures._base", "PENDING");
-  it->running = of_module("concurrent.futures._base", "RUNNING");
-  it->finished = of_module("concurrent.futures._base", "FINISHED");
-  it->cancelled_state = of_module("concurrent.futures._base", "CANCELLED_AND_NOTIFIED");
-  it->put_name = PyUnicode_InternFromString("put");
-  it->refusal_name = PyUnicode_InternFromString("refusal");
-  it->show_name = PyUnicode_InternFromString("_show");
-  it->log_name = PyUnicode_InternFromString("_log");
-  it->wait_name = PyUnicode_InternFromString("_wait");
-  it->qualname_name = PyUnicode_InternFromString("__qualname__");
-  it->func_name = PyUnicode_InternFromString("func");
-  it->relay_name = PyUnicode_InternFromString("relay");
-  return PyErr_Occurred() ? -1 : 0;
+  for (int k = 0; k < THINGS; k++) {
+    it->things[k] = things[k].module ? of_module(things[k].module, things[k].name) :
+                                       PyUnicode_InternFromString(things[k].name);
+    if (!it->things[k]) return -1;
+  }
+  it->full = it->bad_answer = it->things[RUNTIME_ERROR];  /* until `use` tells others */
+  it->name_of = it->things[STR];
+  Py_INCREF(it->full); Py_INCREF(it->bad_answer); Py_INCREF(it->name_of);
+  return 0;
 }
 
 static int module_traverse(PyObject *module, visitproc visit, void *arg) {
   State *it = PyModule_GetState(module);
   Py_VISIT(it->request_core); Py_VISIT(it->stage_core); Py_VISIT(it->stage_type);
-  Py_VISIT(it->full); Py_VISIT(it->bad_answer); Py_VISIT(it->cancelled_error); Py_VISIT(it->future_error);
-  Py_VISIT(it->condition_class);
+  Py_VISIT(it->full); Py_VISIT(it->bad_answer); Py_VISIT(it->name_of);
+  for (int k = 0; k < THINGS; k++) Py_VISIT(it->things[k]);
   return 0;
 }
 
@@ -1545,12 +1540,8 @@ static void module_free(void *module) {
   State *it = PyModule_GetState((PyObject *)module);
   module_clear((PyObject *)module);
   Py_CLEAR(it->request_core); Py_CLEAR(it->stage_core);
-  Py_CLEAR(it->full); Py_CLEAR(it->bad_answer); Py_CLEAR(it->cancelled_error); Py_CLEAR(it->future_error);
-  Py_CLEAR(it->condition_class);
-  Py_CLEAR(it->pending); Py_CLEAR(it->running); Py_CLEAR(it->finished); Py_CLEAR(it->cancelled_state);
-  Py_CLEAR(it->put_name); Py_CLEAR(it->refusal_name); Py_CLEAR(it->show_name); Py_CLEAR(it->log_name);
-  Py_CLEAR(it->wait_name);
-  Py_CLEAR(it->qualname_name); Py_CLEAR(it->func_name); Py_CLEAR(it->relay_name);
+  Py_CLEAR(it->full); Py_CLEAR(it->bad_answer); Py_CLEAR(it->name_of);
+  for (int k = 0; k < THINGS; k++) Py_CLEAR(it->things[k]);
   empty(&it->pool);
   cf_free(&it->nothing);
   PyMem_RawFree(it->told);

@@ -5,16 +5,19 @@ call does. Stages that a call here settles aren't told by it. They stay to be to
 call of the machine, whichever thread makes it.
 """
 import ctypes as c
+import os
+import threading
 from array import array
-from typing import TYPE_CHECKING, Any, Callable, ContextManager, List, Optional, Sequence, Tuple
+from typing import TYPE_CHECKING, Any, Callable, ContextManager, Dict, List, Optional, Sequence, Tuple, cast
 
-from .._library import _HIGHEST, CALLS, CRequestStep, CTask, CTold, path
+from .._library import _HIGHEST, CALLS, CRequestStep, CTask, CTold, CValue, path
 from ..plan import Plan
 from ..values import Code, Form, check
-from .words import MOST_EDGES, MOST_STAGES, RequestFull
+from .words import ATTACH, CLOCK, COMPOSE_FORMS, MOST_EDGES, MOST_STAGES, RELAY, RequestFull
 
 if TYPE_CHECKING:
     from .request import Works
+    from .stage import Stage
 
 _loaded = c.PyDLL(path)
 
@@ -22,11 +25,13 @@ _loaded = c.PyDLL(path)
 def bound(name: str) -> Callable[..., int]:
     """A call of the library that is given addresses."""
     call: Any = getattr(_loaded, name)
-    call.argtypes, call.restype = [it if it in _HIGHEST else c.c_void_p for it in CALLS[name]], c.c_uint32
+    by_value = (*_HIGHEST, CValue)
+    call.argtypes, call.restype = [it if it in by_value else c.c_void_p for it in CALLS[name]], c.c_uint32
     return call  # type: ignore[no-any-return]
 
 
 _follow, _refuse, _next = bound("cf_request_follow"), bound("cf_request_refuse"), bound("cf_request_next")
+_deadline, _pass = bound("cf_request_deadline"), bound("cf_request_pass")
 _count, _ready, _words = bound("cf_request_ready"), bound("cf_ledger_ready"), bound("cf_ledger_words")
 _ROW, _MANY = CTold(), c.c_size_t()
 _untold, _many = c.addressof(_ROW), c.addressof(_MANY)  # of a row without room, and of a number that isn't looked at
@@ -58,23 +63,80 @@ class PlanCore:
         self.most: int = min(MOST_STAGES, len(self.rows) + (MOST_EDGES - edges) // 2)
 
 
+_LONGEST, _NIL = 9e9, CValue(0, 0)  # seconds, over 280 years; and the value of what times out or gets None
+_first = threading.RLock()  # held while a request gets its `Limits`; a fork waits for that
+if hasattr(os, "register_at_fork"):
+    os.register_at_fork(before=_first.acquire, after_in_parent=_first.release, after_in_child=_first.release)
+
+
+class Limit:
+    """What a stage gets when its time is over: a value, which gets this number then (below 0 where it is None), or an
+    exception that tells how many seconds it had."""
+
+    __slots__ = ("stage", "gives", "is_value", "number", "moment")
+
+    def __init__(self, stage: "Stage[Any]", gives: Any, is_value: bool, number: int) -> None:
+        self.stage, self.gives, self.is_value, self.number, self.moment = stage, gives, is_value, number, -1
+
+    def release(self, _settled: object = None) -> None:
+        """The stage is settled, and needs it no more. Nothing is rung for a request that has none left."""
+        request = self.stage.request
+        limits = request._limits
+        if limits.get(self.moment) is self:
+            del limits[self.moment]
+        if not limits:
+            request._works.clock.drop(request)
+
+
+class Limits(Dict[int, Limit]):
+    """The time limits of a request's open stages, by their moments, no two of which are the same. Each is a deadline of
+    the machine.
+
+    Attributes:
+        passed: The moment up to which time has passed.
+        alarm: The clock's own: when the request is to be rung, and the alarm's number."""
+
+    passed, alarm = -1, (0, -1)
+
+    def add(self, limit: Limit, moment: int) -> None:
+        """Keeps a limit by this moment, or by the next one that is free and hasn't passed. Another thread may let time
+        pass meanwhile."""
+        while limit.moment < 0:
+            if moment <= self.passed:
+                moment = self.passed + 1
+            while self.setdefault(moment, limit) is not limit:
+                moment += 1
+            if moment > self.passed:
+                limit.moment = moment
+            else:
+                del self[moment]
+
+
 class Calls:
     """Calls of a request's machine."""
-
-    __slots__ = ()
 
     if TYPE_CHECKING:
         _lock: ContextManager[Any]
         _works: Works
+        _limits: Limits
+        _plan: Optional[PlanCore]
+        _values: List[Any]
+        _errors: List[BaseException]
+        _times: Any  # of each word, in nanoseconds, as a buffer
+        _turns: int
+        _counts: bool  # whether words are counted, as the machine may have done some by itself
 
         @property
         def _at(self) -> int:
             """The address of the machine's handle."""
 
         def _code(self, error: BaseException) -> int: ...
-        def _takes_from(self, stage: int, other: int) -> None: ...
-        def _take_back(self) -> None: ...
+        def _keep(self, value: Any) -> int: ...
+        def _name_of(self, number: int) -> str: ...
+        def _takes(self, stage: int, other: int, code: int) -> None: ...
         def _take_told(self) -> None: ...
+    else:
+        __slots__ = ()
 
     def _open(self) -> None:
         """Hands on what is ready in a plan from the start."""
@@ -83,7 +145,7 @@ class Calls:
     def _follow_within(self, relay: int, number: int) -> None:
         """Lets a relay end as another stage of this request does."""
         with self._lock:
-            self._takes_from(relay, number)
+            self._takes(relay, number, -1)
             check(_follow(self._at, relay, number, _untold, 0, _many))
         self._take_told()
 
@@ -98,14 +160,83 @@ class Calls:
         self._fail_ready(error)
         self._take_told()
 
+    def _take_turn(self) -> bool:
+        """Whether a function is ready that has no turn, which is this thread's then."""
+        many = c.c_uint16()
+        with self._lock:
+            check(_count(self._at, 0, c.addressof(many)))
+            is_left = many.value > self._turns
+            self._turns += is_left
+            return is_left
+
+    def _take_back(self) -> None:
+        """Takes all turns back. The lock is held."""
+        self._turns, self._counts = 0, True
+
+    def _limit(self, stage: "Stage[Any]", seconds: float, gives: Any, is_value: bool) -> int:
+        """Sets a deadline of a stage, after so many seconds, by which it gets a value or times out. Its moment. Where it
+        raises, nothing has changed."""
+        clock: Any = self._works.clock
+        limits, number = self._limits if hasattr(self, "_limits") else self._first_limits(), -1
+        if is_value and gives is not None:
+            with self._lock:
+                number = self._keep(None)
+        limit = Limit(stage, gives if is_value else seconds, is_value, number)
+        limits.add(limit, clock.now(self) + int(min(max(seconds, 0), _LONGEST) * 1e9))
+        try:
+            clock.ask(self, limit.moment)
+            stage.add_done_callback(limit.release)
+            given = _NIL if number < 0 else CValue(1, number)
+            with self._lock:
+                check(_deadline(self._at, stage.number, limit.moment, is_value, given))
+        except BaseException:
+            limit.release()
+            raise
+        return limit.moment
+
+    def _first_limits(self) -> Limits:
+        """Those of this request, of which two threads may ask at once."""
+        with _first:
+            if not hasattr(self, "_limits"):
+                self._limits = Limits()
+            return self._limits
+
+    def _ring(self, now: int) -> None:
+        """Time passes up to a moment. The machine settles what is due; what that gets is at hand before. Then the clock
+        is asked for the next limit."""
+        limits = self._limits
+        now = limits.passed = max(now, limits.passed)
+        due = sorted(moment for moment in list(limits) if moment <= now)
+        with self._lock:
+            for moment in reversed(due):  # (of two of one stage the first one decides)
+                self._hand_out(limits.get(moment))
+            self._counts = True
+            check(_pass(self._at, now, _untold, 0, _many))
+        try:
+            self._take_told()
+        finally:
+            left, clock = list(limits), cast(Any, self._works.clock)
+            if left:
+                clock.ask(self, min(left))
+
+    def _hand_out(self, limit: Optional[Limit]) -> None:
+        """Puts what a limit gives where its stage takes it from. The lock is held."""
+        if limit is not None and not limit.is_value:
+            self._takes(limit.stage.number, -1, self._code(limit.stage._timed_out(limit.gives)))
+        elif limit is not None and limit.number >= 0:
+            self._values[limit.number] = limit.gives
+
     def _ready_ones(self) -> List[int]:
         """The stages whose functions are ready."""
+        found: List[int] = []
+        told = c.c_uint16()
         with self._lock:
-            found: List[int] = []
-            told = c.c_uint16()
-            while _ready(self._at, found[-1] + 1 if found else 0, c.addressof(told)) != Code.NOTHING:
+            while True:
+                code = _ready(self._at, found[-1] + 1 if found else 0, c.addressof(told))
+                if code == Code.NOTHING:
+                    return found
+                check(code)
                 found.append(told.value)
-            return found
 
     def _leave_to_parent(self) -> None:
         """In a child of `fork`, where no thread of the parent's is: what these were to run is claimed here by nobody.
@@ -123,3 +254,19 @@ class Calls:
         words = array("Q", bytes(8 * max(many.value, 1)))
         check(_words(self._at, 0, words.buffer_info()[0], many.value, c.addressof(many)))
         return words[:many.value]
+
+    def _facts(self) -> "Tuple[array[int], array[int], List[str], List[Any], List[BaseException]]":
+        """The words, the time of each in nanoseconds, and names, values and errors. What the machine does to a relay by
+        itself is told as the relay's."""
+        with self._lock:
+            words, times = self._words(), array("q", bytes(self._times))
+            del words[len(times):]
+            forms = [row[0] for row in (() if self._plan is None else self._plan.rows)]
+            forms += [word >> 24 & 0xFF for word in words if word >> 56 == ATTACH]
+            names = [self._name_of(number) for number in range(len(forms))]
+            facts = words, times[:len(words)], names, self._values[:], self._errors[:]
+        for place, word in enumerate(words):
+            above = (word >> 36 & 0xFFF) + 1
+            if word >> 48 & 0xFF == CLOCK and above < len(forms) and forms[above] in COMPOSE_FORMS:
+                words[place] = word ^ (CLOCK ^ RELAY) << 48
+        return facts

@@ -26,9 +26,9 @@ from typing import TYPE_CHECKING, Any, Callable, Dict, List, Optional, Sequence,
 from .._library import CApplied, CGathering, CHandle, CRequestSizes, CRequestStep, CStage, CTask, CTold
 from ..values import Code, Form, Refused, check
 from ._machine import Calls, PlanCore, bound
-from .words import (ANSWER, ARGS, ATTACH, CANCEL, CANCELLED, CLAIM, COMPLETE, COMPOSE_FORMS, FAIL, FAIL_AS, FAILURES,
-                    FINISH, GIVES, GOT, LINKS, PENDING, RELAY, THIS_THREAD, THROWN, THROWS,
-                    TIMED_OUT, VALUE, RequestFull, Told, name_of)
+from .words import (ANSWER, ARGS, ATTACH, CANCEL, CANCELLED, CLAIM, CLOCK, COMPLETE, COMPOSE_FORMS, FAIL, FAIL_AS,
+                    FAILURES, FINISH, GIVES, GOT, LINKS, PENDING, THIS_THREAD, THROWN, THROWS, TIMED_OUT, VALUE,
+                    RequestFull, Told, name_of)
 
 if TYPE_CHECKING:
     from .request import Works
@@ -85,8 +85,8 @@ def be(who: int) -> None:
 _classes: Dict[str, Any] = {}
 
 
-def use(stage: type, full: type, bad_answer: type) -> None:
-    """Tells the classes that are written in Python."""
+def use(stage: type, full: type, bad_answer: type, name: Callable[[Any], str]) -> None:
+    """Tells what the module knows of the rest."""
     _classes.update(stage=stage, bad_answer=bad_answer)
 
 
@@ -260,7 +260,7 @@ class _Machine:
         self.numbers = memoryview(self._memory).cast("I")
         self.at = at = c.addressof(c.c_char.from_buffer(self._memory))
         self.applied, self.told, self.count = at + 4 * _REPLY, at + 4 * _TOLD, at + 4 * _COUNT
-        self.numbers[_SIZES] = room | 1 << 16 | RELAY << 24
+        self.numbers[_SIZES] = room | 1 << 16 | CLOCK << 24
         of = plan or _nothing
         check(_new(of.at, at + 4 * _SIZES, bytes(len(of.rows) + 1), len(of.rows), at))
 
@@ -370,7 +370,8 @@ class RequestCore(Calls):
 
     def _note(self, many: int, settled: "List[Stage[Any]]", own: int = -1, error: Optional[int] = None) -> None:
         """Shows the stages that are told, and adds them to those that were settled. The stage `own` has the exception
-        of this number, where it is one. Those behind take that of their first source that has one."""
+        of this number, where it is one; one that its limit lets time out has its own. Those behind take that of their
+        first source that has one."""
         machine, rows = self._machine, self._rows
         while many:
             told = machine.numbers[_TOLD:_TOLD + _TOLD_NUMBERS * min(many, ROWS)].tolist()
@@ -378,8 +379,12 @@ class RequestCore(Calls):
                 number, outcome = told[k] & 0xFFFF, Told(*told[k + 1:k + 6])
                 row = rows[number]
                 row.kind = outcome.kind
-                if outcome.kind in FAILURES:
-                    row.error = error if number == own and error is not None else self._error_of(row, outcome.kind)
+                if outcome.kind not in FAILURES:
+                    row.error = None
+                elif number == own and error is not None:
+                    row.error = error
+                elif outcome.wrapped or row.error is None:
+                    row.error = self._error_of(row, outcome.kind)
                 stage, row.stage = row.stage, None
                 if stage is not None:
                     stage._publish(outcome)
@@ -471,9 +476,14 @@ class RequestCore(Calls):
         self._tell(settled, is_ready)
         return bool(did)
 
-    def _takes_from(self, stage: int, other: int) -> None:
-        """Lets a stage have another one's exception, by which it will end. The lock is held."""
-        self._rows[stage].of, self._counts = (other,), True
+    def _takes(self, stage: int, other: int, code: int) -> None:
+        """If a stage times out from now on, or has a bad answer, it has that by another one or with an exception, whose
+        numbers these are; -1 stands for neither. The lock is held."""
+        row, self._counts = self._rows[stage], True
+        if other >= 0:
+            row.of = (other,)
+        if code >= 0 and row.kind == PENDING:
+            row.error = code
 
     def _run(self, who: int) -> None:
         """Uses a turn: claims a stage, calls its function and finishes it, and goes on where another function became
@@ -599,12 +609,6 @@ class RequestCore(Calls):
     def _rename(self, number: int, name: str) -> None:
         self._rows[number].name = name
 
-    def _facts(self) -> Tuple[Any, Any, List[str], List[Any], List[BaseException]]:
-        """The words, the time of each in nanoseconds, and names, values and errors."""
-        with self._lock:
-            return (self._words(), self._times[:], [row.name for row in self._rows], self._values[:],
-                    self._errors[:])
-
     # Turns.
 
     def _take_told(self) -> None:
@@ -652,17 +656,6 @@ class RequestCore(Calls):
                 break
         return first
 
-    def _take_turn(self) -> bool:
-        """Whether a function is ready that has no turn, which is this thread's then."""
-        with self._lock:
-            is_left = self._machine.ready() > self._turns
-            self._turns += is_left
-            return is_left
-
-    def _take_back(self) -> None:
-        """Takes all turns back. The lock is held."""
-        self._turns, self._counts = 0, True
-
     # What the machine's numbers stand for. The lock is held.
 
     def _args(self, stage: "Stage[Any]", at: int) -> Tuple[Any, ...]:
@@ -691,10 +684,11 @@ class RequestCore(Calls):
 
     def _number(self, value: Any) -> int:
         """The last bits of a word that gives a value."""
-        if value is None:
-            return 0
+        return 0 if value is None else GIVES << 32 | self._keep(value)
+
+    def _keep(self, value: Any) -> int:
         self._values.append(value)
-        return GIVES << 32 | len(self._values) - 1
+        return len(self._values) - 1
 
     def _code(self, error: BaseException) -> int:
         self._errors.append(error)

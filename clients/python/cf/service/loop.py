@@ -3,7 +3,7 @@ clock."""
 import asyncio
 import inspect
 import itertools
-from typing import Any, Awaitable, Callable, List, Optional, Set, Type, cast
+from typing import Any, Awaitable, Callable, Dict, Optional, Set, Type, cast
 
 from .contexts import ContextRequest, ended, Within
 from .ending import EndingRequest, Ends, Hook
@@ -78,6 +78,7 @@ class _LoopWorks:
                  watch: Optional[Watch]) -> None:
         self._loop, self.describe, self.ends, self.watch = loop, describe, ends, watch
         self._tasks: "Set[asyncio.Task[None]]" = set()
+        self._alarms: Dict[Request, asyncio.TimerHandle] = {}
 
     @property
     def clock(self) -> "_LoopWorks":
@@ -97,30 +98,40 @@ class _LoopWorks:
             return False
         return True
 
-    def after(self, seconds: float, act: Callable[[], object]) -> Callable[[], None]:
-        """Acts on the loop after some seconds, unless what is given is called before, by any thread."""
-        acts: List[Callable[[], object]] = [act]
-        handles: List[asyncio.TimerHandle] = []
+    def now(self, _request: Optional[Request] = None) -> int:
+        """In nanoseconds."""
+        return int(self._loop.time() * 1e9)
 
-        def begin() -> None:
-            if acts:
-                handles.append(self._loop.call_later(seconds, lambda: acts and acts.pop()()))
+    def ask(self, request: Request, moment: int) -> None:
+        """Has the loop ring a request that has limits at a moment, if it isn't rung before. Any thread may."""
+        self._loop.call_soon_threadsafe(self._ask, request, moment)
 
-        def cancel() -> None:
-            for handle in handles:
-                handle.cancel()
+    def drop(self, request: Request) -> None:
+        """Doesn't ring a request that has no limits. Any thread may."""
+        self._soon(self._drop, request)
 
-        def forget() -> None:
-            if acts:
-                acts.clear()
-                self._soon(cancel)
+    def _ask(self, request: Request, moment: int) -> None:
+        alarm = self._alarms.get(request)
+        if request._limits and (alarm is None or moment / 1e9 < alarm.when()):
+            self._forget(request)
+            self._alarms[request] = self._loop.call_at(moment / 1e9, self._ring, request, moment)
 
-        self._loop.call_soon_threadsafe(begin)
-        return forget
+    def _drop(self, request: Request) -> None:
+        if not request._limits:
+            self._forget(request)
 
-    def _soon(self, act: Callable[[], object]) -> None:
+    def _forget(self, request: Request) -> None:
+        alarm = self._alarms.pop(request, None)
+        if alarm is not None:
+            alarm.cancel()
+
+    def _ring(self, request: Request, moment: int) -> None:
+        del self._alarms[request]
+        request._ring(max(moment, self.now()))
+
+    def _soon(self, act: Callable[..., object], *given: object) -> None:
         try:
-            self._loop.call_soon_threadsafe(act)
+            self._loop.call_soon_threadsafe(act, *given)
         except RuntimeError:  # the loop is closed, and calls nothing any more
             pass
 

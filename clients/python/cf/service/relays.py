@@ -10,6 +10,7 @@ import weakref
 from collections import deque
 from typing import TYPE_CHECKING, Any, Callable, Deque, Dict, List, Optional, Tuple
 
+from ._machine import Limit
 from .words import CANCEL, COMPLETE, FAIL, FAIL_AS, FAILURES, RELAY
 
 if TYPE_CHECKING:
@@ -102,8 +103,8 @@ def is_relay(call: object) -> bool:
 
 
 def is_release(call: object) -> bool:
-    """Whether a callback only lets go of a relay."""
-    return getattr(call, "__func__", None) is _Link.release
+    """Whether a callback only lets go of a relay or a limit."""
+    return getattr(call, "__func__", None) in (_Link.release, Limit.release)
 
 
 class _Handing(threading.local):

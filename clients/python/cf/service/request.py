@@ -13,9 +13,10 @@ What is kept where
       stage a row with name, form, future, and what was told of it; and the lists of values and exceptions. A word names
       a value or an exception by its index in these lists. The future of a stage is in its row until the stage is
       settled, and has the function with its arguments until then.
-    - What isn't hot stands once, for both cores, in `_machine.py`: plans, relays within a request, refusals, words.
-    - `Request` and `Stage` are below the cores, and have what isn't hot either: the methods that users call, relays
-      of futures that stand elsewhere, time limits.
+    - What isn't hot stands once, for both cores, in `_machine.py`: plans, relays within a request, time limits,
+      refusals, words.
+    - `Request` and `Stage` are below the cores, and have what isn't hot either: the methods that users call, and relays
+      of futures that stand elsewhere.
     - `Works` (works.py) has the threads and the clock of a `Service`, `_LoopWorks` (loop.py) the event loop of a
       `LoopService`. To a request both are the protocol `Works` below.
 
@@ -57,9 +58,10 @@ Relays
     (`_follow_within`), and else `link` does (`_follow`).
 
 Time limits
-    `_later` asks the clock of the works to act after some seconds, and takes that back at the stage's end by a
-    callback. The act is a change by the caller CLOCK: FAIL_AS, by which the stage times out, or COMPLETE. They aren't
-    the machine's deadlines.
+    Each is a deadline of the machine (`_limit`), by moments of the clock of the works, no two of which are the same. The
+    request asks that clock for one alarm at a time, at the first of its limits. When it is rung (`_ring`), it lets time
+    pass up to then: the machine settles what is due, in the name of CLOCK. A stage's `Limit` says what it gets by that,
+    and is let go of by a callback once the stage is settled; with the last one the alarm goes, too.
 
 Room
     A request has at most 4,096 stages, and 16,384 mentions of sources, two of which are set aside for each stage that
@@ -99,9 +101,16 @@ if TYPE_CHECKING:
     from .flow import Step
 
     class Clock(Protocol):
-        """Acts after some seconds, unless what it gives is called before."""
+        """Knows the time, and rings each request (`_ring`) at the first of its limits. Moments are nanoseconds of a clock
+        that never goes back."""
 
-        def after(self, seconds: float, act: Callable[[], object]) -> Callable[[], object]: ...
+        def now(self, request: Request) -> int: ...
+
+        def ask(self, request: Request, moment: int) -> None:
+            """A request that has limits is to be rung at this moment, if it isn't before."""
+
+        def drop(self, request: Request) -> None:
+            """A request that has no limits needn't be rung."""
 
     class Works(Protocol):
         """Runs stages that are ready: threads or an event loop."""
@@ -144,7 +153,7 @@ class Request(RequestCore):
         RequestFull: There would be more than 4,096 stages. Nothing is changed.
         RuntimeError: The stage has a function, and the service is shut down. Nothing is changed."""
 
-    __slots__ = ("_describe",)  # what histories tell of values, where that isn't what the service chose
+    __slots__ = ("_describe", "_limits")  # (what histories tell of values, where that isn't what the service chose)
     _describe: Describe
 
     @property
@@ -310,14 +319,12 @@ class Request(RequestCore):
         if self._stages + stages > self._most:
             raise RequestFull("a request has at most 4,096 stages")
 
-    def _later(self, stage: "Stage[T]", seconds: float, act: Callable[[], object]) -> "Stage[T]":
-        """Acts on the stage after some seconds, unless it is settled before. Where they are over already, as soon as
-        may be; after endless ones never."""
+    def _limited(self, stage: "Stage[T]", seconds: float, gives: Any, is_value: bool) -> "Stage[T]":
+        """Gives a stage a time limit, after endless seconds none."""
         if math.isnan(seconds):
             raise ValueError("a time limit can't be NaN")
         if seconds != math.inf and not stage.done():
-            forget = self._works.clock.after(seconds, act)
-            stage.add_done_callback(lambda _: forget())
+            self._limit(stage, seconds, gives, is_value)
         return stage
 
     def _link(self, stage: "Stage[Any]", who: int, to: Any) -> bool:

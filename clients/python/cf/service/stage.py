@@ -9,7 +9,7 @@ from typing import TYPE_CHECKING, Any, Callable, Generator, Generic, Optional, T
 from ..values import BadAnswer, Form
 from ._core import StageCore, use
 from .history import escaped
-from .words import CANCEL, CLOCK, COMPLETE, FAIL, FAIL_AS, THIS_THREAD, RequestFull
+from .words import CANCEL, COMPLETE, FAIL, THIS_THREAD, RequestFull, name_of
 
 if TYPE_CHECKING:
     from .request import Request
@@ -196,9 +196,7 @@ class Stage(_Future[T]):
 
         Raises:
             ValueError: `seconds` is NaN."""
-        error = f"{escaped(self.name)} took longer than {seconds} s"
-        return self.request._later(self, seconds,
-                                   lambda: self.request._change(FAIL_AS, CLOCK, self, TimeoutError(error)))
+        return self.request._limited(self, seconds, None, False)
 
     def complete_on_timeout(self, value: T, seconds: float) -> "Stage[T]":
         """Sets a time limit, after which the stage gets a value unless it is settled.
@@ -212,7 +210,7 @@ class Stage(_Future[T]):
 
         Raises:
             ValueError: `seconds` is NaN."""
-        return self.request._later(self, seconds, lambda: self.request._change(COMPLETE, CLOCK, self, value))
+        return self.request._limited(self, seconds, value, True)
 
     def set_result(self, result: T) -> None:
         """As `complete`, for code that is written for `concurrent.futures`.
@@ -267,7 +265,11 @@ class Stage(_Future[T]):
         cancels this stage alone, and not while its function runs."""
         return asyncio.wrap_future(self).__await__()
 
-    # For the C module.
+    # For what stands below.
+
+    def _timed_out(self, seconds: float) -> TimeoutError:
+        """What it fails with by a time limit."""
+        return TimeoutError(f"{escaped(self.name)} took longer than {seconds} s")
 
     _told = 0  # of those who wait
     _relays: Optional[object] = None  # of other requests, that end as it does
@@ -291,4 +293,4 @@ class Stage(_Future[T]):
         LOGGER.error("exception calling callback for %r", self, exc_info=error)
 
 
-use(Stage, RequestFull, BadAnswer)
+use(Stage, RequestFull, BadAnswer, name_of)

@@ -137,8 +137,18 @@ class WatchedWorks:
         self.ends: Optional[Ends] = None  # (such a service has no hook)
 
     @property
-    def clock(self) -> Any:
-        raise RuntimeError("limits are told to the watch")
+    def clock(self) -> "WatchedWorks":
+        return self
+
+    def now(self, request: Request) -> int:
+        """In nanoseconds."""
+        return int(self.watch.now(request) * 1e9)
+
+    def ask(self, request: Request, moment: int) -> None:
+        """The watch knows each limit, and rings by itself."""
+
+    def drop(self, request: Request) -> None:
+        """The watch looks whether a stage is settled."""
 
     def refusal(self) -> RuntimeError:
         return RuntimeError("cannot schedule new futures after shutdown")
@@ -293,12 +303,26 @@ class WatchedRequest(Request):
         super()._follow(stage, relay, to)
         self.watch.linked(relay, to)
 
-    def _later(self, stage: "Stage[T]", seconds: float, act: Callable[[], object]) -> "Stage[T]":
-        if self._is_on_loop or seconds != seconds:
-            return super()._later(stage, seconds, act)
-        if seconds != float("inf") and not stage.done():
-            self.watch.limit(stage, seconds, act)
-        return stage
+    def _limit(self, stage: "Stage[Any]", seconds: float, gives: Any, is_value: bool) -> int:
+        moment = super()._limit(stage, seconds, gives, is_value)
+        if not self._is_on_loop:
+            self.watch.limit(stage, seconds, lambda: self._pass(stage, moment))
+        return moment
+
+    def _pass(self, stage: "Stage[Any]", moment: int) -> None:
+        """The limit of a stage passes, which may be settled by now."""
+        if is_settled(stage):
+            self.watch.changed(stage, False)
+        else:
+            self._ring(moment)
+
+    def _ring(self, now: int) -> None:
+        due = [limit.stage for moment, limit in sorted(self._limits.items()) if moment <= now]
+        still_open = [stage for stage in due if not is_settled(stage)]
+        super()._ring(now)
+        self._date()
+        for stage in still_open:
+            self.watch.changed(stage, True)
 
 
 class WatchedStage(Stage[T]):

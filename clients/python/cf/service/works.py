@@ -10,7 +10,7 @@ import time
 import weakref
 from concurrent.futures.thread import BrokenThreadPool
 from queue import Empty, SimpleQueue
-from typing import TYPE_CHECKING, Any, Callable, Iterable, List, Optional, Set, Tuple, TypeVar
+from typing import TYPE_CHECKING, Any, Callable, Dict, Iterable, List, Optional, Set, Tuple, TypeVar
 
 from ._core import be
 from .ending import Ends
@@ -238,7 +238,7 @@ def _all(act: "Callable[[T], object]", things: "Iterable[T]") -> None:
 
 
 class Clock:
-    """A thread, started as it is needed, that acts at given times."""
+    """A thread, started as it is needed, that rings requests at the first of their limits."""
 
     def __init__(self, name: str) -> None:
         self._name = name
@@ -246,67 +246,101 @@ class Clock:
         self._forked()
 
     def _forked(self) -> None:
-        self._changed = threading.Condition()
-        self._due: List[Tuple[float, int, List[Callable[[], object]]]] = []
-        self._forgotten = 0
+        self._lock = threading.RLock()  # (which the thread that has it may take again, as in a `__del__`)
+        self._changed = threading.Condition(self._lock)
+        self._due: List[Tuple[int, int]] = []  # the moments and numbers of alarms, also of those that nobody wants
+        self._wanted: "Dict[int, Request]" = {}  # by the numbers of alarms
         self._thread: Optional[threading.Thread] = None
 
-    def after(self, seconds: float, act: Callable[[], object]) -> Callable[[], None]:
-        """Acts after some seconds, unless what is given is called before."""
-        acts = [act]
-        with self._changed:
-            if self._thread is None:
-                self._thread = threading.Thread(target=self._run, name=self._name, daemon=True)
-                try:
-                    self._thread.start()
-                except BaseException:  # the next call tries again
-                    self._thread = None
-                    raise
-            entry = (time.monotonic() + seconds, next(self._numbers), acts)
-            heapq.heappush(self._due, entry)
-            if self._due[0] is entry:
-                self._changed.notify()
-        return lambda: self._forget(acts)
+    def now(self, _request: "Optional[Request]" = None) -> int:
+        """In nanoseconds."""
+        return time.monotonic_ns()
 
-    def _forget(self, acts: List[Callable[[], object]]) -> None:
-        """Lets an act go. Where over half of the list are such, they are taken out."""
-        with self._changed:
-            dropped, acts[:] = acts[:], []  # (what it has to itself is freed behind the lock)
-            if dropped:
-                self._forgotten += 1
-            if self._forgotten > 64 and 2 * self._forgotten > len(self._due):
-                many, left = len(self._due), [entry for entry in self._due if entry[2]]
-                heapq.heapify(left)
-                if many == len(self._due):  # (what is collected meanwhile may have added some)
-                    self._due, self._forgotten = left, 0
+    def ask(self, request: "Request", moment: int) -> None:
+        """Has a request that has limits rung at a moment, if it isn't rung before."""
+        limits = request._limits
+        at, number = limits.alarm
+        if at <= moment and number in self._wanted:  # (who drops an alarm, or rings it, looks for limits behind that)
+            return
+        with self._lock:
+            at, number = limits.alarm
+            is_wanted = number in self._wanted
+            if not limits or (is_wanted and at <= moment):
+                return
+            self._begin()
+            if is_wanted:
+                self._forget(number)
+            number = next(self._numbers)
+            limits.alarm = alarm = moment, number
+            self._wanted[number] = request
+            heapq.heappush(self._due, alarm)
+            if self._due[0] is alarm:
+                self._changed.notify()
+
+    def drop(self, request: "Request") -> None:
+        """Doesn't ring a request that has no limits."""
+        limits = request._limits
+        with self._lock:
+            if not limits:
+                self._forget(limits.alarm[1])
+        if limits:
+            self.ask(request, min(list(limits), default=0))
+
+    def _begin(self) -> None:
+        if self._thread is None:
+            self._thread = threading.Thread(target=self._run, name=self._name, daemon=True)
+            try:
+                self._thread.start()
+            except BaseException:  # the next call tries again
+                self._thread = None
+                raise
+
+    def _forget(self, number: int) -> None:
+        """Nobody wants an alarm any more. Where that goes for most of the list, they are taken out."""
+        self._wanted.pop(number, None)
+        due, many = self._due, len(self._due)
+        if many > 64 + 2 * len(self._wanted):
+            left = sorted(alarm for alarm in due if alarm[1] in self._wanted)
+            if self._due is due and len(due) == many:  # (what is collected meanwhile may have added some)
+                self._due = left
 
     def end(self) -> None:
         """Forgets what is due later, and waits for its thread: an interpreter within this process can't end while
         there is one."""
-        with self._changed:
-            thread, due, self._due, self._forgotten = self._thread, self._due, [], 0
+        with self._lock:
+            thread, wanted, self._wanted = self._thread, self._wanted, {}
+            self._due.clear()
             self._changed.notify()
-        del due  # (not under the lock)
+        del wanted  # (not under the lock)
         if thread is not None and thread is not threading.current_thread():
             thread.join()
 
     def _run(self) -> None:
         while True:
-            with self._changed:
-                while self._due and self._due[0][0] > time.monotonic():
-                    self._changed.wait(min(self._due[0][0] - time.monotonic(), threading.TIMEOUT_MAX))
-                if not self._due:
+            with self._lock:
+                request = self._next()
+                if request is None:
                     self._thread = None
                     return
-                acts = heapq.heappop(self._due)[2]
-                self._forgotten -= not acts
-                act = acts.pop() if acts else None
             try:
-                if act is not None:
-                    act()
+                request._ring(self.now())
             except BaseException:  # a callback's
                 LOGGER.critical("Exception in clock", exc_info=True)
-            del act, acts
+            del request
+
+    def _next(self) -> "Optional[Request]":
+        """Waits for the next alarm. Who wants it; None where none is left."""
+        while self._due:
+            moment, number = self._due[0]
+            left = moment - self.now() if number in self._wanted else 0
+            if left > 0:
+                self._changed.wait(min(left / 1e9, threading.TIMEOUT_MAX))
+                continue
+            heapq.heappop(self._due)
+            request = self._wanted.pop(number, None)
+            if request is not None:
+                return request
+        return None
 
 
 class Here:

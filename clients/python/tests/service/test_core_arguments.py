@@ -14,6 +14,7 @@ import types
 import unittest
 
 from case import Case, CoreCase, program
+from cf import Refused
 from cf.service import _core, Flow, Request, RequestFull, Stage
 from cf.service._core import IS_MODULE
 from cf.service.words import COMPLETE
@@ -37,7 +38,8 @@ class CoreArguments(CoreCase):
                          lambda: made._set_running(core_stage), lambda: made._name_of(0), lambda: made._rename(0, "x"),
                          lambda: made._attach(3, core_stage, None, str, None, None, None))
             self.assertIsNone(made._open())
-            self.assertEqual(made._facts()[2], [])
+            self.assertEqual((made._at, made._times, made._values, made._errors), (0, b"", [], []))
+            self.refused(lambda: made._takes(0, -1, -1), made._facts, made._ready_ones, kinds=(IndexError, Refused))
 
     def test_an_opening_that_fails(self):
         opened = _core.RequestCore.__new__(_core.RequestCore)
@@ -114,16 +116,17 @@ class CoreArguments(CoreCase):
                      lambda: core._attach(3, 7, None, str, None, None, None), lambda: core._begin(3, other),
                      lambda: core._begin(None), lambda: core._end(core_stage, 3, 3, other),
                      lambda: core._change(COMPLETE, 0, "x", 1), lambda: core._set_running(other),
-                     lambda: core._work(None),
+                     lambda: core._work(None), lambda: core._takes(1, 0, -1), lambda: core._takes(0, 1, -1),
+                     lambda: core._takes(0, 0, 0), lambda: core._takes(0, 0), lambda: core._takes(0, None, -1),
                      lambda: _core.RequestCore(), lambda: _core.RequestCore(1, 2, 3, 4, 5, 6),
                      lambda: _core.RequestCore(None, "", 1, None, None, 7),
                      lambda: _core.RequestCore(None, "", 1, None, None, int))
         self.fits(core)
 
     def test_classes_in_use(self):
-        self.refused(lambda: _core.use(int, RequestFull, ValueError), lambda: _core.use(Stage, 7, ValueError),
-                     lambda: _core.use(Stage, RequestFull, "x"), lambda: _core.use(object(), object(), object()),
-                     lambda: _core.use())
+        self.refused(lambda: _core.use(int, RequestFull, ValueError, str), lambda: _core.use(Stage, 7, ValueError, str),
+                     lambda: _core.use(Stage, RequestFull, "x", str), lambda: _core.use(*[object()] * 4),
+                     lambda: _core.use(Stage, RequestFull, ValueError, "x"), lambda: _core.use())
         self.assertIs(type(self.request.promise()), Stage)
         full = Flow().run()
         with self.assertRaises(RequestFull):

@@ -34,6 +34,22 @@ class Forks(unittest.TestCase):
         self.assertEqual((out, status), ("child True 1 False\nparent True True\n", 0), err)
 
     @unittest.skipUnless(hasattr(os, "fork"), "no fork")
+    def test_limits_that_were_set_before(self):
+        """They pass in the child once it sets one of the same request, and else in the parent alone."""
+        out, err, status = program("""
+            service = Service(1)
+            request, other = service.request(), service.request()
+            before, others = request.promise().complete_on_timeout(1, 0.1), other.promise().complete_on_timeout(2, 0.1)
+            pid = os.fork()
+            if not pid:
+                later = request.promise().complete_on_timeout(3, 0.3)
+                print(later.result(20), before.result(20), others.done(), flush=True)
+                os._exit(0)
+            print(os.waitpid(pid, 0)[1], before.result(20), others.result(20), flush=True)
+        """)
+        self.assertEqual((out, status), ("3 1 False\n0 1 2\n", 0), err)
+
+    @unittest.skipUnless(hasattr(os, "fork"), "no fork")
     def test_what_is_ready_is_the_parents(self):
         """A stage of the same request that becomes ready in the child is run there, and what was ready before isn't."""
         out, err, status = program("""

@@ -23,6 +23,30 @@ REQUESTS = int(os.environ.get("CF_REQUESTS", "20000"))
 class Kept(Case):
     """What is let go of, and when."""
 
+    def test_nothing_is_left_to_the_next_request(self):
+        """The module keeps machines of requests that are over: neither words nor deadlines nor moments of one may be
+        there in the next one of its plan."""
+        flow = Flow()
+        number = flow.promise()
+        end = number.then(inc)
+
+        def done(request, promise, behind, value):
+            self.assertIsInstance(request.promise().or_timeout(0).exception(20), TimeoutError)
+            late = promise.complete_on_timeout(-1, 1000)
+            self.assertTrue(promise.complete(value))
+            self.assertEqual((late.result(20), behind.result(20)), (value, value + 1))
+            self.assertEqual(len(request._facts()[0]), len(request.history().words))
+            return len(request.history().words), request.history().names
+        told = []
+        for value in range(6):
+            planned, request = self.service.start(flow), self.service.request()
+            promise = request.promise()
+            told.append((done(planned, planned[number], planned[end], value),
+                         done(request, promise, promise.then(inc), value)))
+            del planned, request, promise
+        self.assertEqual(told, told[:1] * 6)
+        self.assertEqual(told[0], ((5, ["promise", "inc", "promise"]), (7, ["promise", "inc", "promise"])))
+
     def things(self, attach):
         """A stage that is attached with things alone; and whether they are still there."""
         things = [Thing() for _ in range(5)]

@@ -31,6 +31,32 @@ class Histories(Case):
                                                     r"1 failed: 1 total by Oops\('x'\); 0 open$")
         self.assertEqual(self.service.submit.__name__, "submit")
 
+    def test_who_settles_what_the_machine_does(self):
+        """A relay within the request is settled by the relay, a limit passes by the clock, and so does what nobody runs."""
+        recorded, made = self.service.request("r"), []
+        behind = recorded.supply(str).named("x").compose(lambda _: made.append(recorded.promise("late")) or made[-1])
+        self.assertTrue(until(lambda: made))
+        made[0].complete_on_timeout(5, 0)
+        self.assertEqual(behind.result(20), 5)
+        flow = Flow()
+        flow.promise().compose(lambda _: made[1])
+        planned = self.service.start(flow)
+        made.append(planned.promise("later"))
+        self.assertTrue(planned._stage(0).complete(1))
+        self.assertTrue(until(lambda: "relay of later" in planned.history().names))
+        made[1].complete_on_timeout(7, 0)
+        self.assertEqual(planned._stage(2).result(20), 7)
+        text, of_plan = str(recorded.history()), str(planned.history())
+        for part in ("clock completes 3 late with 5\n", "relay completes 1 relay of late with 5\n"):
+            self.assertIn(part, text)
+        for part in ("clock completes 3 later with 7\n", "relay completes 1 relay of later with 7\n"):
+            self.assertIn(part, of_plan)
+        last = recorded.promise("last").then(inc)
+        self.service.shutdown()
+        recorded._stage(4).complete(1)
+        self.assertIsInstance(last.exception(20), RuntimeError)
+        self.assertIn("clock fails 5 inc with", str(recorded.history()))
+
     def test_texts_that_fail(self):
         class Mute:
             def __repr__(self):

@@ -140,7 +140,7 @@ service.request().promise().or_timeout(1000)
                 spec.loader.exec_module(module)
                 class Own(module.StageCore):
                     pass
-                module.use(Own, ValueError, KeyError)
+                module.use(Own, ValueError, KeyError, str)
                 request = module.RequestCore(None, "", 1)
                 stage = request._attach(0, None, None, None, None, None, "x")
                 assert type(stage) is Own

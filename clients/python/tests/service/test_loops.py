@@ -75,6 +75,24 @@ class Loops(unittest.TestCase):
                 on_loop.promise().or_timeout(math.nan)
         asyncio.run(main())
 
+    def test_one_alarm_for_all_limits_of_a_request(self):
+        """The loop has one timer for each request, at its first limit, and none once its stages are settled."""
+        async def main():
+            service = LoopService(asyncio.get_running_loop())
+            on_loop, alarms = service.request(), service._works._alarms
+            limited = [on_loop.promise().or_timeout(1000 - k) for k in range(5)]
+            await asyncio.sleep(0.01)
+            self.assertEqual(len(alarms), 1)
+            self.assertEqual(await on_loop.promise().complete_on_timeout(1, 0.02), 1)
+            self.assertEqual(await on_loop.promise().complete_on_timeout(2, 0.02), 2)
+            await asyncio.sleep(0)
+            self.assertEqual(len(alarms), 1)
+            for loop_stage in limited:
+                loop_stage.complete(1)
+            await asyncio.sleep(0.01)
+            self.assertEqual(len(alarms), 0)
+        asyncio.run(main())
+
     def test_functions_have_the_context_of_where_they_were_attached(self):
         tenant, seen = contextvars.ContextVar("tenant", default="-"), []
 

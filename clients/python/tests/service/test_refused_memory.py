@@ -39,7 +39,7 @@ class RefusedMemory(unittest.TestCase):
                          lambda: planned._stage(1).result(0), lambda: first.add_done_callback(id),
                          lambda: first._waiters, lambda: r._change(1, -1, first, -5),
                          lambda: r._change(2, -1, 2, error), lambda: first.exception(0),
-                         lambda: first.add_done_callback(id), lambda: r._facts(), lambda: r._run(3),
+                         lambda: first.add_done_callback(id), lambda: r._times, lambda: r._run(3),
                          lambda: seen.result(0), lambda: _core.PlanCore(rows), lambda: _core.RequestCore(works, "s", 3),
                          lambda: _core.RequestCore(works, "s", 3, None, flow._plan)]
                 refused = 0
@@ -56,7 +56,7 @@ class RefusedMemory(unittest.TestCase):
                 first.complete(-6)
                 assert first.result(0) in (-5, -6), first.result(0)
                 words, times, names, values, errors = r._facts()
-                ledger = cf.Ledger.of_words(cf.Plan(), list(memoryview(words).cast("Q")), len(names))
+                ledger = cf.Ledger.of_words(cf.Plan(), list(words), len(names))
                 assert (ledger.stages(), len(words)) == (len(names), len(times))
                 r._run(3)
                 assert seen.result(0) in (5, 6)

@@ -11,10 +11,11 @@ import math
 import threading
 import time
 import unittest
+import unittest.mock
 
 from case import Case, fails, inc, leaves, until
 import cf
-from cf.service import Flow
+from cf.service import _machine, Flow
 from cf.service.words import CLIENT, CLOCK, FAIL_AS
 
 
@@ -54,6 +55,63 @@ class Limits(Case):
         time.sleep(0.05)  # (the clock waits for the first of these)
         self.assertEqual(self.request.promise().complete_on_timeout(1, 0.01).result(20), 1)
         self.assertFalse(any(late_stage.done() for late_stage in late))
+
+    def test_of_several_limits_of_a_stage_the_first_decides(self):
+        for first, second in ((0.01, 1000), (1000, 0.01), (0.01, 0.03)):
+            late = self.request.promise().or_timeout(first).or_timeout(second)
+            self.assertIn(f"took longer than {min(first, second)} s", str(late.exception(20)))
+            given = self.request.promise().complete_on_timeout(1, first).complete_on_timeout(2, second)
+            self.assertEqual(given.result(20), 1 if first < second else 2)
+
+    def test_limits_that_are_over_at_once(self):
+        """They pass in the order in which they were set, also where the clock was held up meanwhile."""
+        held, goes_on, timed = threading.Event(), threading.Event(), self.request
+        timed.promise().or_timeout(0).add_done_callback(lambda _: held.set() or goes_on.wait(20))
+        self.assertTrue(held.wait(20))
+        late = [timed.promise().or_timeout(0.01).or_timeout(0.02), timed.promise().or_timeout(0).complete_on_timeout(1, 0)]
+        given = [timed.promise().complete_on_timeout(2, 0).or_timeout(0), timed.promise().complete_on_timeout(None, 0)]
+        time.sleep(0.05)
+        goes_on.set()
+        self.assertEqual([str(stage.exception(20)) for stage in late],
+                         ["promise took longer than 0.01 s", "promise took longer than 0 s"])
+        self.assertEqual([stage.result(20) for stage in given], [2, None])
+
+    def test_limits_of_one_moment(self):
+        moment = time.monotonic_ns() + 10**7
+        with unittest.mock.patch.object(self.service._works.clock, "now", lambda _=None: moment):
+            limited = [self.request.promise().complete_on_timeout(k, 0) for k in range(5)]
+        self.assertEqual([stage.result(20) for stage in limited], list(range(5)))
+
+    def test_a_limit_that_is_set_while_time_passes(self):
+        """It gets a moment that hasn't passed: what it gives isn't at hand by now."""
+        class Passing(_machine.Limits):
+            def setdefault(it, moment, given):
+                it.passed = max(it.passed, 7)
+                return super().setdefault(moment, given)
+
+        limits, limit = Passing(), _machine.Limit(self.request.promise(), 1, True, 0)
+        limits.add(limit, 5)
+        self.assertEqual((limit.moment, limits), (8, {8: limit}))
+
+    def test_one_alarm_for_all_limits_of_a_request(self):
+        clock = self.service._works.clock
+        limited = [self.request.promise().or_timeout(1000 - k) for k in range(200)]
+        self.assertEqual((len(clock._wanted), len(clock._due) < 100), (1, True))
+        for stage in limited[1:]:
+            stage.complete(1)
+        self.assertEqual(len(clock._wanted), 1)
+        limited[0].complete(1)
+        self.assertEqual(len(clock._wanted), 0)
+        self.assertEqual(self.request.promise().complete_on_timeout(1, 0.01).result(20), 1)
+
+    def test_limits_one_after_another(self):
+        """Also such as a callback sets."""
+        further = []
+        first = self.request.promise().complete_on_timeout(0, 0.01)
+        first.add_done_callback(lambda _: further.append(self.request.promise().complete_on_timeout(1, 0.01)))
+        later = [self.request.promise().complete_on_timeout(k, 0.02 * k) for k in range(2, 5)]
+        self.assertEqual([stage.result(20) for stage in (first, *later)], [0, 2, 3, 4])
+        self.assertEqual(further[0].result(20), 1)
 
     def test_slow_functions_hold_up_no_limit(self):
         """What is behind a limit is called by a thread, and not by the clock."""
@@ -120,6 +178,27 @@ class Causes(Case):
         self.assertEqual((script["cf"], script["steps"]), (3, before["steps"] + [["failAs", 0, "timeout"]] * 2))
         self.assertEqual((before["cf"], json.loads(late_history.account())["plan"]["cf"]), (2, 2))
         self.assertEqual(cf.run_script(late_history.script()), late_history.report())
+
+    def test_a_limit_that_comes_as_its_stage_is_told(self):
+        """It changes nothing of a stage that is settled, also before that has let go of it."""
+        timed = self.request
+        source = timed.promise()
+        behind = source.then(inc)
+        handled = behind.handle(lambda _, error: error)
+        behind.add_done_callback(lambda _: timed._ring(time.monotonic_ns() + 10**15))
+        behind.or_timeout(1000)
+        self.assertTrue(source.cancel())
+        self.assertIsInstance(behind.exception(20), concurrent.futures.CancelledError)
+        self.assertIsInstance(handled.result(20), concurrent.futures.CancelledError)
+        self.assertIsInstance(behind.handle(lambda _, error: error).result(20), concurrent.futures.CancelledError)
+
+    def test_a_value_by_a_limit_is_told_with_what_comes_later(self):
+        timed = self.service.request("r")
+        self.assertEqual(timed.promise("late").complete_on_timeout(5, 0).result(20), 5)
+        self.assertTrue(timed.promise("next").complete(7))
+        told = str(timed.history())
+        for part in ("r: 4 events, 2 stages", "clock completes 0 late with 5\n", "caller completes 1 next with 7\n"):
+            self.assertIn(part, told)
 
     def test_of_two_that_timed_out_the_first_argument_is_told(self):
         """Whichever of them timed out last."""
