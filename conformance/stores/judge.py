@@ -17,7 +17,7 @@ from cf.events import event_of
 from cf.service.words import ATTACH, CLAIM, COMPLETE, FAIL, FINISH, FORMS, PENDING, Told
 from cf.shared import Broken, connect
 
-CALLERS = int(os.environ.get("CF_CALLERS", "64"))
+CALLERS = 64
 
 
 class Judge:

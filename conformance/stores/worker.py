@@ -13,12 +13,13 @@ from plans import plan_of
 from process import Process, sure
 
 from cf.service.words import (ATTACH, CANCEL, CLAIM, COMPLETE, FAIL, FAIL_AS, FINISH, FORMS, GIVES, IS_CLAIMED, LINKS, THROWS, THROWN,
-                              VALUE)
-from cf.shared import RowView, StoreError, Unknown, Watcher, connect, new_session
+                              TICK, VALUE)
+from cf.shared import Put, RowView, StoreError, Unknown, Watcher, connect, new_session
 
 WINDOW = int(os.environ.get("WINDOW", "12"))
 GONE = float(os.environ.get("GONE", "0.7"))
 SLOW = float(os.environ.get("SLOW", "0.004"))
+CROWD = int(os.environ.get("CROWD", "0"))  # sessions that have the first numbers of each request, so that others share the last
 HAS_FUNCTION = [form not in ("source", "allOf", "anyOf") for form in FORMS]
 
 
@@ -48,6 +49,9 @@ class Worker(Process):
             plan, name = plan_of(number), str(number)
             opened = sure(lambda: self.store.open(name, plan))
             assert opened.plan == plan, "another plan"
+            if CROWD:  # (it stands once: the first place is free once)
+                ticks = [(TICK << 56 | who << 48, who + 1 << 23) for who in range(CROWD)]
+                sure(lambda: self.store.append(Put(name, 0, ticks, {}, opened.number)))
             self.desks[number] = RowView(self.store, opened, self.session, note=self.note)
         return self.desks[number]
 

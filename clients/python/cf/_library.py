@@ -6,7 +6,7 @@ from types import SimpleNamespace
 from typing import Any, Callable, Dict, List, Sequence
 
 NO_FUNCTION = 0xFFFFFFFF
-VERSION = (1, 7)  # of the library that this module is written for
+VERSION = (1, 8)  # of the library that this module is written for
 
 # The kinds in the structures: of a value, an answer, an outcome, what a function is called with, and a record; and what
 # a record asked.
@@ -107,6 +107,14 @@ class CEvent(c.Structure):
                 ("sources", c.c_uint32), ("first", c.c_uint16), ("second", c.c_uint16), ("function", c.c_uint32)]
 
 
+class CEntry(c.Structure):
+    _fields_ = [("word", c.c_uint64), ("token", c.c_uint64)]
+
+
+class CRowOpening(c.Structure):
+    _fields_ = [("room", c.c_uint16), ("first", c.c_uint32), ("session", c.c_uint64)]
+
+
 def in_range(number: int, highest: int, lowest: int = 0) -> int:
     """The number, which ctypes would cut to C's width. One out of its range raises OverflowError, and no call is
     made."""
@@ -199,6 +207,13 @@ CALLS: Dict[str, List[Any]] = {
     "cf_ledger_stages": [_H, _U16_OUT],
     "cf_ledger_grow": [_H, _U16],
     "cf_ledger_restart": [_H],
+    "cf_row_new": [_H, c.POINTER(CRowOpening), _H],
+    "cf_row_plan": [_H, c.POINTER(_U64), _SIZE, _U64_OUT],
+    "cf_row_met": [_H, c.POINTER(CEntry), _U8_OUT],
+    "cf_row_give_up": [_H],
+    "cf_row_saw": [_H, c.POINTER(CEntry), _R, c.POINTER(CNews), _SIZE, _SIZE_OUT],
+    "cf_row_grow": [_H, _U16],
+    "cf_row_number": [_H, _U8_OUT],
     "cf_request_new": [_H, c.POINTER(CRequestSizes), _U8_OUT, _SIZE, _H],
     "cf_request_apply": [_H, _U64, _U8, c.POINTER(CApplied), *_TOLD],
     "cf_request_gather": [_H, c.POINTER(CGathering), _OF, _SIZE, *_TOLD],
@@ -240,7 +255,8 @@ STRUCTURES = {"cf_handle": CHandle, "cf_value": CValue, "cf_answer": CAnswer, "c
               "cf_now": CNow, "cf_reply": CReply, "cf_record": CRecord, "cf_desk_sizes": CDeskSizes, "cf_stage": CStage,
               "cf_news": CNews, "cf_event": CEvent, "cf_task": CTask, "cf_step": CStep, "cf_given": CGiven,
               "cf_told": CTold, "cf_request_sizes": CRequestSizes, "cf_applied": CApplied,
-              "cf_request_gathering": CGathering, "cf_request_step": CRequestStep}
+              "cf_request_gathering": CGathering, "cf_request_step": CRequestStep, "cf_entry": CEntry,
+              "cf_row_opening": CRowOpening}
 
 
 def fit(loaded: c.CDLL, path: str) -> None:

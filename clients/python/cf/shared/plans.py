@@ -8,7 +8,7 @@ from ..service.words import COMPOSE_FORMS, FORMS, FORMS_WITHOUT_FUNCTION, Told
 from ..values import Form, Refused
 from .contexts import Carrier, captured
 from .functions import Functions, said_of
-from .ledgers import StoredLedger
+from .replica import Replica
 from .rows import Broken
 
 FORMAT = 3  # of plans in stores, beside those of scripts
@@ -19,7 +19,7 @@ class SharedPlan:
 
     Attributes:
         rows: Form, sources, function or None, and name of each stage.
-        start: How far each has come in a new ledger, and what it came to."""
+        start: How far each has come before any word, and what it came to."""
 
     def __init__(self, text: str, name: str) -> None:
         try:
@@ -36,14 +36,15 @@ class SharedPlan:
             self._plan = Plan()
             for number, (form, of, call, _) in enumerate(self.rows):
                 self._plan.stage(Form(form), *of, function=None if call is None else number)
-            ledger = self.ledger(0)
-            self.start: List[Tuple[int, Told]] = [ledger.stage(number) for number in range(len(self.rows))]
+            fresh = self.replica(0, 0, 0)
+            self.start: List[Tuple[int, Told]] = [fresh.stage(number) for number in range(len(self.rows))]
         except (ValueError, KeyError, TypeError, Refused) as error:
             raise Broken(name, 0, f"its plan can't be read: {error!r}") from None
 
-    def ledger(self, room: int) -> StoredLedger:
-        """A new ledger of it, with room for so many stages more."""
-        return StoredLedger(self._plan, len(self.rows), room)
+    def replica(self, room: int, session: int, first: int) -> Replica:
+        """What a session has seen of a row of it before the first word, with room for so many stages more. Its tokens
+        count from `first` on."""
+        return Replica(self._plan, len(self.rows), room, session, first)
 
 
 def said_in(read: Any, number: int) -> Dict[str, Any]:

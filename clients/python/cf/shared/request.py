@@ -2,16 +2,16 @@
 
 The design of `cf.shared`, which this file leads through:
 
-A request is a row of words in a store. Each process that works on it replays the words on a ledger of its own, so all
-have the same graph. To change something is to put a word at the end of the row that one has seen. Of two that put at
-the same place, the store takes one; the other reads what stands there, and decides again. So the row is the one order
-of all that happened, and the proved ledger says what follows from it. docs/SCALE.md says what that asks of a store.
+A request is a row of words in a store. Each process that works on it replays the words on a graph of its own, so all
+have the same. To change something is to put a word at the end of the row that one has seen. Of two that put at the same
+place, the store takes one; the other reads what stands there, and decides again. So the row is the one order of all
+that happened, and the proved library says what follows from it. docs/SCALE.md says what that asks of a store.
 
 What is kept where
     - A `Store` (rows.py) has rows, payloads, timers and the beats of sessions. A payload is what a word's number stands
       for: a value, an exception, or what an attached stage is. It is put with its word, and named by the word's place.
-    - A `RowView` (view.py) is what one session knows of one row: ledger, words, and what they say of each stage. It
-      reads (`catch_up`) and puts (`act`), and knows nothing of futures.
+    - A `RowView` (view.py) is what one session knows of one row: the library's view (`Replica`), words, and what they
+      say of each stage. It reads (`catch_up`) and puts (`act`), and knows nothing of futures.
     - `DurableRequest` has one view, and the futures that somebody has asked for. A `DurableStage` shows what is read of
       the row. It is a plain `concurrent.futures.Future`, which is settled once.
     - `DurableService` (service.py) has the requests that this process works on, a pool of threads that runs functions,
@@ -27,8 +27,8 @@ What guards what
 What happens at a change (`_act`)
     1. `decide` says by what is seen which words are wanted, or none. It may be asked again, and so only looks.
     2. The view puts them with their payloads, as one step of the store: all of them or none.
-    3. If they stand, the ledger does them. If others' words stand there, it does those, and step 1 comes again. A put
-       of which no answer came is known later by its token.
+    3. If they stand, the graph does them. If others' words stand there, it does those, and step 1 comes again. A put of
+       which no answer came is known later by its token.
     4. Without a lock, `_show` settles the futures of the stages that are settled now: it reads their payloads, the
        codec makes objects of them, and callbacks are called. What a callback raises keeps no other from being called.
        A stage whose payload can't be read yet stays in `_unshown`, and is shown later.
@@ -571,15 +571,20 @@ class DurableRequest:
         """Puts a finish within a transaction, and says whether that stands. `Unknown` where it may. What it settled
         isn't shown yet."""
         with self._lock:
-            put: Put = self._view.put_of([finish.word(self._view)])
-            if self._view.is_settled(finish.stage) or not transaction.append(put):
+            if self._view.is_settled(finish.stage):
                 return False
+            put: Put = self._view.put_of([finish.word(self._view)])
             try:
-                transaction.commit()
+                stands = transaction.append(put)
+                if stands:
+                    transaction.commit()
             except BaseException:
                 self._view.doubt(put)
                 raise
-            self._view.landed(put)
+            if not stands:
+                self._view.give_up()
+                return False
+            self._view.landed(put, put.entries)
             return True
 
     def _read(self) -> None:

@@ -2,26 +2,22 @@
 and where it loses replays and decides again."""
 import contextlib
 import json
-import os
 from array import array
 from typing import (Any, Callable, ContextManager, Dict, Iterable, List, Mapping, NamedTuple, Optional, Sequence, Set,
                     Tuple, TypeVar)
 
 from .. import values
 from .._library import NOT_YOURS, CNews
-from ..events import _known
 from ..service.history import History
 from ..service.words import (ANSWER, ATTACH, CLAIM, COMPLETE, COMPOSE_FORMS, FAIL, FAIL_AS, FAILURES, FINISH, GIVES,
                              IS_CLAIMED, IS_PENDING, IS_READY, IS_SETTLED, LINKS, MOST_STAGES, NOT_YET, NUMBER, THROWS,
-                             TICK, RequestFull, Told)
+                             RequestFull, Told)
 from .codec import Json
 from .host import HOST, Host
-from .ledgers import StoredLedger, told_of
 from .plans import SharedPlan, said_in
+from .replica import Replica, told_of
 from .rows import COUNT_BITS, Broken, Entry, Gone, Opened, Put, Store, Unknown, sure
 
-CALLERS = int(os.environ.get("CF_CALLERS", "64"))  # fewer, for tests of sessions that share a number
-COUNTS = 1 << COUNT_BITS
 SESSION_BITS = 39  # of a token
 ROOM = 8  # stages that may be attached at first
 LONG_GONE = 100  # leases
@@ -84,7 +80,8 @@ class RowView:
 
     A session is a process at work, or a part of one, with a number of its own (`new_session`). Its first word takes a
     caller's number, the lowest that no word of the row has, and it keeps that: only the number that claimed a stage may
-    finish it. Where all 64 are taken, sessions share them; the token of an entry tells whose it is.
+    finish it. Where all 64 are taken, sessions share them; the token of an entry tells whose it is. What it has seen,
+    its number, and which words it may put, the library says (`Replica`).
 
     Args:
         store: Where the row stands.
@@ -103,7 +100,9 @@ class RowView:
         self.opened: Opened = opened
         self.plan: SharedPlan = SharedPlan(opened.plan, opened.name)
         self._room = min(ROOM, MOST_STAGES - len(self.plan.rows))
-        self._ledger = self._made()
+        # by chance: where two have one session, their tokens differ all the same; and half of all are left at least
+        self._first, self._host = host.number(COUNT_BITS - 1), host
+        self._replica = self._made()
         self.forms: List[Tuple[int, Tuple[int, ...]]] = [(form, of) for form, of, _, _ in self.plan.rows]
         self.kinds: List[int] = [kind for kind, _ in self.plan.start]
         self.told: List[Told] = [told for _, told in self.plan.start]
@@ -120,12 +119,8 @@ class RowView:
         self.words: "array[int]" = array("Q")
         self._sessions = array("Q")
         self._times: "Optional[array[int]]" = array("q") if is_timed else None
-        self.who: int = -1
         self.lost = self.unknown = 0
-        self._numbers: Dict[int, int] = {}
-        self._landed, self._patience = False, patience
-        # by chance: where two have one session, their tokens differ all the same
-        self._count, self._host = host.number(COUNT_BITS), host
+        self._patience = patience
         self._note = note or (lambda *_: None)
         self._behind: Dict[int, List[int]] = {}
         self._own: Dict[int, bytes] = {}  # the payloads that this view put
@@ -135,6 +130,11 @@ class RowView:
         self.found: Dict[int, Done] = {}  # claims of this session's that were granted, as it found when it read them
         for number, (_, of) in enumerate(self.forms):
             self._follow(number, of)
+
+    @property
+    def who(self) -> int:
+        """The session's caller's number: that which its words have, or that which its next one takes."""
+        return self._replica.number()
 
     @property
     def seen(self) -> int:
@@ -184,69 +184,63 @@ class RowView:
             ValueError: A wanted word fits no graph here. Nothing is put."""
         others: List[Done] = []
         while True:
-            if not self._landed:
-                self.who = self._free_number()
             wanted = decide(self)
             if not wanted:
                 return None, others
             put = self.put_of(wanted)
-            stands = self._append(put)
-            if stands == []:
-                raise Gone(self.name)
-            # the second: it had landed
-            if stands is None or stands[0][1] == put.entries[0][1] and _has_words_of(stands, put):
-                done = self.landed(put, stands)
-                others += [self._take(*entry) for entry in (stands or [])[len(put.entries):]]
+            stands = self._append(put) or put.entries
+            done = self.landed(put, stands)
+            others += [self._take(*entry) for entry in stands[len(done or []):]]
+            if done is not None:
                 return done, others
             self.lost += 1
-            others += [self._take(*entry) for entry in stands]
 
-    def _append(self, put: Put) -> Optional[List[Entry]]:
+    def _append(self, put: Put) -> Optional[Sequence[Entry]]:
         """None where a put stands now, else what stands from its first place on."""
         try:
-            return self.sure(lambda: self.store.append(put))  # type: ignore[no-any-return]
+            stands: Optional[List[Entry]] = self.sure(lambda: self.store.append(put))
+            if stands == []:
+                raise Gone(self.name)
+            return stands
         except BaseException:
             self.doubt(put)
             raise
 
+    def give_up(self) -> None:
+        """Lets a put go of which nothing stands."""
+        self._replica.give_up()
+
     def doubt(self, put: Put) -> None:
-        """Remembers that a put may stand, until the words at its places are read."""
+        """Gives a put up that may stand, and remembers it until the words at its places are read."""
+        self.give_up()
         self._doubt.update((token, put.at + k) for k, (_, token) in enumerate(put.entries, 1))
 
     def put_of(self, wanted: Wanted) -> Put:
-        """A put of these words behind what is seen, with new tokens. `ValueError` where one of them fits no graph
-        here: it would break the row for everybody."""
-        self._check([word for word, _ in wanted])
-        entries = [(word, self.session << COUNT_BITS | (self._count + k) % COUNTS)
-                   for k, (word, _) in enumerate(wanted)]
-        self._count += len(wanted)
+        """A put of these words behind what is seen, with new tokens. It is under way then: nothing is read before
+        `landed` or `doubt` says what became of it. `ValueError` where one of them fits no graph here: it would break
+        the row for everybody."""
+        words = [word for word, _ in wanted]
+        self.make_room(sum(word >> 56 == ATTACH for word in words))
+        try:
+            first = self._replica.plan(words)
+        except (values.Refused, OverflowError) as error:
+            if isinstance(error, values.Refused) and error.code != values.Code.NO_WORD:
+                raise
+            raise ValueError(f"request {self.name!r}, place {self.place}: one of the words {words} is no event's, or "
+                             "another caller's, or names a stage that isn't there") from None
+        entries = [(word, first + k) for k, word in enumerate(words)]
         payloads = {self.place + k: it for k, (_, it) in enumerate(wanted) if it is not None}
         return Put(self.name, self.seen, entries, payloads, self.opened.number)
 
-    def landed(self, put: Put, stands: Optional[Sequence[Entry]] = None) -> List[Done]:
-        """Does the words of a put that stands, as they stand."""
-        self._landed = True
+    def landed(self, put: Put, stands: Sequence[Entry]) -> Optional[List[Done]]:
+        """Does the words of a put as they stand, or gives None where other words stand at its place."""
+        if not self._replica.met(*stands[0]) or not _has_words_of(stands, put):
+            return None
         self._own.update(put.payloads)
-        done = [self._take(*entry) for entry in (stands or put.entries)[:len(put.entries)]]
+        done = [self._take(*entry) for entry in stands[:len(put.entries)]]
         for it in done:
             self._note("did", self.name, it.place, it.word, it.reply)
         return done
-
-    def _check(self, words: Sequence[int]) -> None:
-        many = len(self.forms)
-        for word in words:
-            try:
-                event = _known(word)
-            except (values.Refused, OverflowError):
-                raise ValueError(f"request {self.name!r}, place {self.place}: the word {word} is no event's") from None
-            kind, stage = word >> 56, word >> 36 & 0xFFF
-            named = (event.first, event.second)[:event.sources] if kind == ATTACH else () if kind == TICK else (stage,)
-            if event.who != self.who or any(it >= many for it in named):
-                raise ValueError(f"request {self.name!r}, place {self.place}: the word {word} is another caller's, "
-                                 "or names a stage that isn't there")
-            many += kind == ATTACH
-        if many > len(self.forms):
-            self.make_room(many - len(self.forms))
 
     def sure(self, call: Callable[[], Any]) -> Any:
         """What a call is answered that may be made again, whatever became of it before."""
@@ -255,28 +249,22 @@ class RowView:
     def _count_unknown(self) -> None:
         self.unknown += 1
 
-    def _free_number(self) -> int:
-        return next((who for who in range(CALLERS) if who not in self._numbers), self.session % CALLERS)
-
     # One word.
 
     def _take(self, word: int, token: int) -> Done:
-        kind, who, stage = word >> 56, word >> 48 & 0xFF, word >> 36 & 0xFFF
+        kind, stage = word >> 56, word >> 36 & 0xFFF
         try:
             if kind == ATTACH:
                 self.make_room(1)
-            news = self._ledger.apply(word)
+            news = self._replica.saw(word, token)
         except (values.Refused, RequestFull) as refused:
             raise Broken(self.name, self.place, f"the word {word} can't be done: {refused}") from None
-        reply, place = tuple(self._ledger.reply), self.place
+        reply, place = tuple(self._replica.reply), self.place
         self.words.append(word)
         if self._times is not None:
             self._times.append(int(self._host.monotonic() * 1e9))
         session = token >> COUNT_BITS
         self._sessions.append(session)
-        self._numbers.setdefault(who, session)
-        if session == self.session and not self._landed:  # by an earlier view of this session's
-            self._landed, self.who = True, who
         if kind == ATTACH and not reply[ANSWER]:
             self._add(reply[NUMBER], word, place)
         elif kind == CLAIM and not reply[ANSWER]:
@@ -289,15 +277,13 @@ class RowView:
         failed = place if kind == FAIL_AS else self.failed.get(word & 0xFFF, 0) if links else 0
         done = Done(place, word, token, reply, self._changed(news, place, failed))
         if token in self._doubt:
-            self._find(done, who)
+            self._find(done)
         if self._doubt:  # what was to stand here and doesn't never will
             self._doubt = {token: its for token, its in self._doubt.items() if its > place}
         return done
 
-    def _find(self, done: Done, who: int) -> None:
-        """A word of this view's stands, of which it wasn't told: its number is this view's, and what it claimed is
-        for this view to run."""
-        self._landed, self.who = True, who
+    def _find(self, done: Done) -> None:
+        """A word of this view's stands, of which it wasn't told: what it claimed is for this view to run."""
         self._note("did", self.name, done.place, done.word, done.reply)
         if done.word >> 56 == CLAIM and not done.reply[ANSWER]:
             self.found[done.word >> 36 & 0xFFF] = done
@@ -352,7 +338,7 @@ class RowView:
         more = min(3 * many + least, MOST_STAGES - len(self.plan.rows) - self._room)
         while more >= least:
             try:
-                self._ledger.grow(more)
+                self._replica.grow(more)
                 self._room += more
                 return
             except values.Refused as refused:
@@ -361,13 +347,13 @@ class RowView:
             more //= 2
         raise RequestFull("a request has at most 4,096 stages")
 
-    def _made(self) -> StoredLedger:
+    def _made(self) -> Replica:
         room = self._room
         while True:
             try:
-                ledger = self.plan.ledger(room)
+                made = self.plan.replica(room, self.session, self._first)
                 self._room = room
-                return ledger
+                return made
             except values.Refused as refused:
                 if refused.code != values.Code.ROOM or not room:
                     raise

@@ -165,8 +165,7 @@ class Outages(Case):
             other.catch_up()
 
             def meanwhile():
-                other.who = 1
-                Memory.append_groups(failing_store, [other.put_of([(COMPLETE << 56 | 1 << 48, None)])])
+                Memory.append_groups(failing_store, [other.put_of([(COMPLETE << 56 | other.who << 48, None)])])
                 if at_fault:
                     failing_store._rows["r"].append((99 << 56, 1))
                 return True

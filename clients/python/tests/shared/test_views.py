@@ -15,6 +15,7 @@ import unittest.mock
 from case import Case, EMPTY
 from cf.service import RequestFull
 from cf.service.words import ATTACH, CLAIM, COMPLETE, FAIL, FINISH
+from cf.shared.host import Host
 from cf.shared import Broken, Json, Memory, new_session, Put, RowView, Unknown, Watcher
 
 
@@ -34,6 +35,13 @@ class Silent(Memory):
         if self.meanwhile:
             self.meanwhile()
         raise Unknown("cut")
+
+
+class OneNumber(Host):
+    """Two have one token by chance."""
+
+    def number(self, bits):
+        return 7
 
 
 class Views(Case):
@@ -167,20 +175,28 @@ class Views(Case):
             self.claim(view)
         del store.append
         store.lands = None
-        lost = view._count - 1
+        lost, = view._doubt
         other.act(lambda view: [(COMPLETE << 56 | view.who << 48, None)])
         view.catch_up()
         self.assertEqual(view._doubt, {})
-        store.append(Put("r", 1, [(CLAIM << 56, view.session << 23 | lost)], {}))
+        store.append(Put("r", 1, [(CLAIM << 56, lost)], {}))
         view.catch_up()
         self.assertEqual(view.found, {})
+
+    def test_tokens_of_views(self):
+        """Two views of one session give different tokens, by chance."""
+        store, session = Memory(), new_session()
+        for view in (self.view(store, session), self.view(store, session)):
+            view.catch_up()
+            view.act(lambda view: [(COMPLETE << 56 | view.who << 48, None)] * 3)
+        tokens = {token for _, token in store.read("r")}
+        self.assertEqual((len(tokens), {token >> 23 for token in tokens}), (6, {session}))
 
     def test_two_that_put_one_token(self):
         """Whose token stands with other words has lost, and replays what stands."""
         store, session = Memory(), new_session()
         plan = {"cf": 3, "flow": "", "stages": [{"form": "source", "name": "p"}, {"form": "source", "name": "q"}]}
-        first, second = (RowView(store, store.open("r", json.dumps(plan)), session) for _ in range(2))
-        second._count = first._count
+        first, second = (RowView(store, store.open("r", json.dumps(plan)), session, host=OneNumber()) for _ in range(2))
         first.act(lambda view: [(COMPLETE << 56 | view.who << 48, None)])
         done, others = second.act(lambda view: [(COMPLETE << 56 | view.who << 48 | 1 << 36, None)])
         first.catch_up()
@@ -196,10 +212,11 @@ class Views(Case):
         for words in ([(99 << 56, None)], [(CLAIM << 56 | 7 << 36, None)], [(COMPLETE << 56 | 5 << 48, None)],
                       [(COMPLETE << 56, None), (FINISH << 56 | 1 << 36, None)],
                       [(ATTACH << 56 | 1 << 32 | 3 << 24 | 1 | 2 << 36, None)],
-                      [attach, attach, (COMPLETE << 56 | 3 << 36, None)], [(-1, None)]):
+                      [attach, attach, (COMPLETE << 56 | 3 << 36, None)], [(-1, None)],
+                      [(1 << 64 | COMPLETE << 56, None)]):
             with self.subTest(words), self.assertRaises(ValueError) as told:
                 view.act(lambda view: words)
-            self.assertIn("'r', place 1: the word", str(told.exception))
+            self.assertIn("'r', place 1: one of the words", str(told.exception))
         self.assertEqual(store.read("r"), [])
         self.assertEqual(len(view.act(lambda view: [attach, attach, (COMPLETE << 56 | 2 << 36, None)])[0]), 3)
         with self.assertRaises(RequestFull):

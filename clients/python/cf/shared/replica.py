@@ -1,0 +1,97 @@
+"""What a session has seen of a row, by a view of the library, whose replies and news are read as numbers."""
+import ctypes as c
+from array import array
+from typing import Any, Callable, Sequence, Tuple
+
+from .._library import CALLS, CEntry, CNews, CReply, CRowOpening, CStage, path
+from ..handle import Handle
+from ..plan import Plan
+from ..service.words import REPLY_NUMBERS, Told
+from ..values import check
+
+_loaded = c.PyDLL(path)  # it keeps the interpreter's lock: to let it go and take it again costs more than a call does
+
+
+def _bound(name: str, address: int = -1) -> Callable[..., int]:
+    """A call, of which the argument at a place may be given as an address."""
+    call: Any = getattr(_loaded, name)
+    call.argtypes = [c.c_void_p if place == address else kind for place, kind in enumerate(CALLS[name])]
+    call.restype = c.c_uint32
+    return call  # type: ignore[no-any-return]
+
+
+_plan, _met, _give_up = _bound("cf_row_plan", 1), _bound("cf_row_met"), _bound("cf_row_give_up")
+_saw, _grow = _bound("cf_row_saw"), _bound("cf_row_grow")
+_number, _stage = _bound("cf_row_number"), _bound("cf_ledger_stage")
+
+
+def told_of(stage: CStage) -> Told:
+    """What a stage came to."""
+    outcome = stage.outcome
+    return Told(outcome.kind, outcome.wrapped, outcome.code, outcome.value.kind, outcome.value.number)
+
+
+class Replica(Handle):
+    """What a session has seen of the row of a plan of so many stages, with room for some that are attached, and the
+    put that it has under way. One thread at a time has it. Each call raises `Refused` as cf.h says.
+
+    Args:
+        plan: The plan that the row begins with.
+        stages: How many stages it has.
+        room: How many may be attached.
+        session: Whose view it is.
+        first: The count of its first token; each further one has the next, up to 2^23.
+
+    Attributes:
+        reply: The numbers of the last word's reply."""
+
+    def __init__(self, plan: Plan, stages: int, room: int, session: int, first: int) -> None:
+        super().__init__()
+        plan.build()._call("cf_row_new", c.byref(CRowOpening(room, first, session)), self._at)
+        # (what calls are given and write is made once: to make it costs more than a call does)
+        reply, self._changed, self._entry = CReply(), c.c_size_t(), CEntry()
+        self._who, self._landed, self._token = c.c_uint8(), c.c_uint8(), c.c_uint64()
+        self._to, self._to_reply, self._to_changed = self._at, c.byref(reply), c.byref(self._changed)
+        self._to_entry, self._to_who = c.byref(self._entry), c.byref(self._who)
+        self._to_landed, self._to_token = c.byref(self._landed), c.byref(self._token)
+        self.reply = (c.c_uint32 * REPLY_NUMBERS).from_buffer(reply)
+        self._news = (CNews * max(stages + room, 1))()
+
+    def number(self) -> int:
+        """The session's caller's number: that which it has, or that which it takes with its next put."""
+        check(_number(self._to, self._to_who))
+        return self._who.value
+
+    def plan(self, words: Sequence[int]) -> int:
+        """Plans a put of these words behind what is seen, and gives the token of the first. The put is under way then,
+        and nothing is seen before it was met or given up. A word above 64 bits raises `OverflowError`."""
+        given = array("Q", words)
+        check(_plan(self._to, given.buffer_info()[0], len(given), self._to_token))
+        return self._token.value
+
+    def met(self, word: int, token: int) -> bool:
+        """At the put's place this entry stands. Whether it is the put's own, which has landed; the put is over then."""
+        self._entry.word, self._entry.token = word, token
+        check(_met(self._to, self._to_entry, self._to_landed))
+        return bool(self._landed.value)
+
+    def give_up(self) -> None:
+        """The put is over, if there is one, and it isn't known whether it stands."""
+        check(_give_up(self._to))
+
+    def saw(self, word: int, token: int) -> Sequence[CNews]:
+        """This entry stands behind all that was seen. The stages that it changed."""
+        self._entry.word, self._entry.token = word, token
+        check(_saw(self._to, self._to_entry, self._to_reply, self._news, len(self._news), self._to_changed))
+        return self._news[:self._changed.value]
+
+    def grow(self, more: int) -> None:
+        """Makes room for so many more stages."""
+        check(_grow(self._to, more))
+        self._news = (CNews * (len(self._news) + more))()
+
+    def stage(self, number: int) -> Tuple[int, Told]:
+        """How far a stage has come, and what it came to."""
+        told = CStage()
+        check(_stage(self._to, number, c.byref(told)))
+        return told.kind, told_of(told)
