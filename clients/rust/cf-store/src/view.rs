@@ -86,7 +86,8 @@ pub(crate) struct View {
 impl View {
     pub(crate) fn new(store: Arc<dyn Store>, opened: Opened, session: u64) -> Result<View, StoreError> {
         let plan::SharedPlan { mut plan, stages } = plan::read(&opened.plan, &opened.name)?;
-        let first = by_chance(COUNT_BITS) as u32;
+        // by chance: where two have one session, their tokens differ all the same; and half of all are left at least
+        let first = by_chance(COUNT_BITS - 1) as u32;
         let mut room = ROOM.min(MOST_STAGES - stages.len());
         let row = loop {
             match Row::new(&mut plan, RowOpening { room: room as u16, first, session }) {

@@ -101,7 +101,8 @@ final class RowView {
     }
 
     private Row made(StoredPlan plan) {
-        int first = CHANCE.nextInt(1 << Row.COUNT_BITS);
+        // By chance: where two have one session, their tokens differ all the same; and half of all are left at least.
+        int first = CHANCE.nextInt(1 << Row.COUNT_BITS - 1);
         while (true) {
             try {
                 return new Row(plan.rows, room, first, session);
