@@ -20,6 +20,7 @@ class Waiting(Case):
         r = self.request
         awaited = r.promise()
         sleeping = [r.supply(time.sleep, 0.01) for _ in range(5)]
+        self.assertEqual(concurrent.futures.wait(sleeping, 20).not_done, set())
         self.assertEqual(concurrent.futures.wait([*sleeping, awaited], 0.1).not_done, {awaited})
         first = concurrent.futures.wait([*sleeping, awaited], return_when="FIRST_COMPLETED")
         self.assertEqual(first.not_done, {awaited})
@@ -38,8 +39,8 @@ class Waiting(Case):
             for waiter in waiters:
                 waiter.start()
             awaited[0].add_done_callback(lambda _: heard.set())
-            for awaited in awaited:
-                awaited.complete(None)
+            for stage in awaited:
+                stage.complete(None)
             for waiter in waiters:
                 waiter.join(20)
             self.assertEqual(len(woken), 4)
