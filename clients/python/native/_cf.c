@@ -869,8 +869,8 @@ static PyObject *Request_change(Request *self, PyObject *const *args, Py_ssize_t
   return PyBool_FromLong(reply.answer);
 }
 
-/* _takes(stage, other, code): if a stage times out from now on, or has a bad answer, it has that by another one or with an
- * exception, whose numbers these are; -1 stands for neither. */
+/* _takes(stage, other, code): if a stage times out from now on, or has a bad answer, it has that by another one or with
+ * an exception, whose numbers these are; -1 stands for neither. */
 static PyObject *Request_takes(Request *self, PyObject *const *args, Py_ssize_t n) {
   uint16_t stage;
   if (n != 3) return PyErr_Format(PyExc_TypeError, "_takes takes 3");

@@ -174,8 +174,8 @@ class Calls:
         self._turns, self._counts = 0, True
 
     def _limit(self, stage: "Stage[Any]", seconds: float, gives: Any, is_value: bool) -> int:
-        """Sets a deadline of a stage, after so many seconds, by which it gets a value or times out. Its moment. Where it
-        raises, nothing has changed."""
+        """Sets a deadline of a stage, after so many seconds, by which it gets a value or times out. Its moment. Where
+        it raises, nothing has changed."""
         clock: Any = self._works.clock
         limits, number = self._limits if hasattr(self, "_limits") else self._first_limits(), -1
         if is_value and gives is not None:

@@ -3,7 +3,7 @@ clock."""
 import asyncio
 import inspect
 import itertools
-from typing import Any, Awaitable, Callable, Dict, Optional, Set, Type, cast
+from typing import Any, Awaitable, Callable, Dict, Optional, Set, Type, TypeVar, cast
 
 from .contexts import ContextRequest, ended, Within
 from .ending import EndingRequest, Ends, Hook
@@ -14,6 +14,8 @@ from .service import ROOM
 from .stage import Stage
 from .watch import Watch, WatchedRequest
 from .words import FIRST_WORKER, THROWS
+
+T = TypeVar("T")
 
 
 class LoopService:
@@ -65,6 +67,12 @@ class LoopService:
                            given)._describing(describe)
 
 
+    def submit(self, fn: Callable[..., T], /, *args: Any, **kwargs: Any) -> "Stage[T]":
+        """As `Service.submit`: has the loop call a function, or run a coroutine, in a request of one stage. Any thread
+        may."""
+        return self._kind(self._works, "", 1, self).supply(fn, *args, **kwargs)
+
+
 class _WatchedRequest(WatchedRequest, ContextRequest):
     """One that tells a watch what is done to it."""
 
@@ -92,8 +100,9 @@ class _LoopWorks:
         return RuntimeError("Event loop is closed")
 
     def put(self, request: Request) -> bool:
+        is_here = asyncio._get_running_loop() is self._loop  # (then the loop needn't be woken)
         try:
-            self._loop.call_soon_threadsafe(self._run, request)
+            (self._loop.call_soon if is_here else self._loop.call_soon_threadsafe)(self._run, request)
         except RuntimeError:
             return False
         return True

@@ -58,10 +58,10 @@ Relays
     (`_follow_within`), and else `link` does (`_follow`).
 
 Time limits
-    Each is a deadline of the machine (`_limit`), by moments of the clock of the works, no two of which are the same. The
-    request asks that clock for one alarm at a time, at the first of its limits. When it is rung (`_ring`), it lets time
-    pass up to then: the machine settles what is due, in the name of CLOCK. A stage's `Limit` says what it gets by that,
-    and is let go of by a callback once the stage is settled; with the last one the alarm goes, too.
+    Each is a deadline of the machine (`_limit`), by moments of the clock of the works, no two of which are the same.
+    The request asks that clock for one alarm at a time, at the first of its limits. When it is rung (`_ring`), it lets
+    time pass up to then: the machine settles what is due, in the name of CLOCK. A stage's `Limit` says what it gets by
+    that, and is let go of by a callback once the stage is settled; with the last one the alarm goes, too.
 
 Room
     A request has at most 4,096 stages, and 16,384 mentions of sources, two of which are set aside for each stage that
@@ -101,8 +101,8 @@ if TYPE_CHECKING:
     from .flow import Step
 
     class Clock(Protocol):
-        """Knows the time, and rings each request (`_ring`) at the first of its limits. Moments are nanoseconds of a clock
-        that never goes back."""
+        """Knows the time, and rings each request (`_ring`) at the first of its limits. Moments are nanoseconds of a
+        clock that never goes back."""
 
         def now(self, request: Request) -> int: ...
 
@@ -257,6 +257,23 @@ class Request(RequestCore):
         return History(self.name, self._plan,
                        self._facts())._described(getattr(self, "_describe", self._works.describe))
 
+    def cancel(self) -> None:
+        """Cancels all stages that aren't settled, from the first on, as `abandon` does: also those whose functions run,
+        and those that the ones before them would have settled. What is attached later isn't cancelled. The history has
+        an event for each stage that was cancelled by itself."""
+        first: Optional[BaseException] = None
+        for stage in map(self._stage, range(self._stages)):
+            try:
+                if not stage.done():
+                    stage.abandon()
+            except BaseException as error:  # a callback's
+                first = first or error
+        if first is not None:
+            raise first
+
+    def __repr__(self) -> str:
+        return f"<{type(self).__name__} {self.name!r} of {self._stages} stages>"
+
     def end(self) -> None:
         """Says that this request is over: once all stages that it has now are settled, the `on_end` of its service is
         told of it. `with service.request(..) as request:` says so at the end of the block. Without a call the request
@@ -299,6 +316,7 @@ class Request(RequestCore):
                    more: int) -> "Tuple[List[Stage[Any]], List[Hold]]":
         """Stages of this request that end as these futures do, and what lets go of the relays among them. There is
         room to gather them and for so many stages more, else nothing is attached."""
+        _check_futures(of)
         others = sum(not isinstance(future, Stage) or future.request is not self for future in of)
         self._check_room(others + max(len(of) - 1, 1) + more)
         holds: List[Hold] = []
@@ -308,6 +326,7 @@ class Request(RequestCore):
         """As `adopt`. What lets the future keep the relay no longer is put with the others."""
         if isinstance(future, Stage) and future.request is self:
             return future
+        _check_futures([future])
         relay: Stage[T] = self.promise(f"relay of {self._title_of(future)}")
         hold = link(relay, future)
         if hold is not None:
@@ -358,6 +377,15 @@ class Request(RequestCore):
         if not isinstance(future, Stage):
             return f"a {type(future).__name__}"
         return future.name if future.request is self else f"{future.name} of {future.request.name}"
+
+
+def _check_futures(of: Sequence[object]) -> None:
+    """Raises where one of these can't be waited for, before anything is attached."""
+    for future in of:
+        if not hasattr(future, "add_done_callback"):
+            raise TypeError(f"futures of concurrent.futures are wanted, and not a {type(future).__name__}: give those "
+                            "of a list one by one, as gather(*futures), and a coroutine function to a LoopService's "
+                            "supply")
 
 
 def _results(stages: "List[Stage[T]]", _: None) -> List[T]:

@@ -165,7 +165,12 @@ class Stage(_Future[T]):
             error: What `result` raises from then on.
 
         Returns:
-            True if this call settled the stage, False if it was settled before."""
+            True if this call settled the stage, False if it was settled before.
+
+        Raises:
+            TypeError: It is no exception. Nothing is changed."""
+        if not isinstance(error, BaseException):
+            raise TypeError(f"an exception is wanted, and not a {type(error).__name__}: fail(ValueError(..))")
         return self.request._change(FAIL, THIS_THREAD, self, error)
 
     def cancel(self) -> bool:
@@ -262,8 +267,11 @@ class Stage(_Future[T]):
 
     def __await__(self) -> Generator[Any, None, T]:
         """Awaits the stage on the running loop. If the awaiting task is cancelled, `cancel` is called on the stage: it
-        cancels this stage alone, and not while its function runs."""
-        return asyncio.wrap_future(self).__await__()
+        cancels this stage alone, and not while its function runs. What has a value or an exception is given at once."""
+        if not self.done() or self.cancelled():  # (asyncio has another CancelledError)
+            value: T = yield from asyncio.wrap_future(self).__await__()
+            return value
+        return self.result()
 
     # For what stands below.
 

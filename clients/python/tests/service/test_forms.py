@@ -50,6 +50,61 @@ class Forms(Case):
         self.assertEqual(failed.recover(lambda e: str(e)).result(), "x")
         self.assertEqual(failed.recover_compose(lambda e: r.supply(str, e)).result(), "x")
 
+    def test_what_is_no_future(self):
+        """It is refused before anything is attached, and the text says what to do."""
+        async def co():
+            pass
+        wrong = co()
+        for given in ([[self.request.promise()]], [concurrent.futures.Future(), wrong], [None]):
+            for call in (self.request.gather, self.request.all_of, self.request.first_of):
+                stages = self.request._stages
+                with self.assertRaisesRegex(TypeError, r"and not a \w+: give those of a list one by one"):
+                    call(*given)
+                self.assertEqual(self.request._stages, stages)
+        for call in (self.request.adopt, lambda it: self.request.promise().combine(it, max)):
+            with self.assertRaisesRegex(TypeError, "and not a coroutine: .* a coroutine function to a LoopService"):
+                call(wrong)
+        wrong.close()
+
+    def test_what_the_page_says_can_be_done(self):
+        """The lines of README's table of what is there, and what isn't."""
+        request, error = self.service.request(), Oops("x")
+        last, left = request.promise(), request.promise()
+        last.or_timeout(0.01).add_done_callback(lambda _: request.cancel())
+        with self.assertRaises(CancelledError):
+            left.result(20)
+
+        request = self.service.request()
+        stages = [request.promise() for _ in range(3)]
+        total = request.gather(*stages)
+        for stage in stages:
+            stage.when_done(lambda _, error: error and total.fail(error))
+        both = request.gather(*[stage.handle(lambda value, error: error or value) for stage in stages])
+        stages[1].fail(error)
+        self.assertIs(total.exception(20), error)
+        won = request.promise()
+        for stage in stages:
+            stage.then(won.complete)
+        for stage in (stages[0], stages[2]):
+            stage.complete(7)
+        self.assertEqual((both.result(20), won.result(20)), ([7, error, 7], 7))
+
+        tries = []
+
+        def call():
+            tries.append(1)
+            return 5 if len(tries) == 3 else fails()
+        stage = request.supply(call)
+        for _ in range(2):
+            stage = stage.recover_compose(
+                lambda _: request.promise().complete_on_timeout(None, 0.01).then(lambda _: call()))
+        self.assertEqual((stage.result(20), len(tries)), (5, 3))
+
+    def test_what_a_request_shows_of_itself(self):
+        shown = self.service.request("order\n17")
+        shown.promise()
+        self.assertEqual(repr(shown), r"<Request 'order\n17' of 1 stages>")
+
     def test_cancelled_sources(self):
         r = self.request
         source = r.promise()

@@ -32,7 +32,7 @@ class Histories(Case):
         self.assertEqual(self.service.submit.__name__, "submit")
 
     def test_who_settles_what_the_machine_does(self):
-        """A relay within the request is settled by the relay, a limit passes by the clock, and so does what nobody runs."""
+        """A relay within the request is settled by the relay, and what is late or run by nobody by the clock."""
         recorded, made = self.service.request("r"), []
         behind = recorded.supply(str).named("x").compose(lambda _: made.append(recorded.promise("late")) or made[-1])
         self.assertTrue(until(lambda: made))

@@ -9,6 +9,7 @@ import contextvars
 import math
 import threading
 import unittest
+import unittest.mock
 
 from case import fails, inc, Oops, Thing, Wild
 from cf.service import Flow, flow as flows, LoopService, Service
@@ -35,6 +36,60 @@ class Loops(unittest.TestCase):
             with self.assertRaises(Oops):
                 await number.then(bad)
             self.assertIn("worker 0 finishes", str(on_loop.history()))
+        asyncio.run(main())
+
+    def test_submits(self):
+        """A request of one stage, of a function or a coroutine function, by any thread."""
+        async def twice(x, by=2):
+            await asyncio.sleep(0)
+            return x * by
+
+        async def main():
+            loop_service, loop = LoopService(asyncio.get_running_loop()), asyncio.get_running_loop()
+            self.assertEqual(await loop_service.submit(inc, 1), 2)
+            self.assertEqual(await loop_service.submit(twice, 3, by=5), 15)
+            with self.assertRaises(Oops):
+                await loop_service.submit(fails)
+            other = await loop.run_in_executor(None, lambda: loop_service.submit(twice, 4))
+            self.assertEqual(await other, 8)
+            return loop_service
+        loop_service = asyncio.run(main())
+        with self.assertRaises(RuntimeError):
+            loop_service.submit(inc, 1)
+
+    def test_a_loop_is_woken_by_others_alone(self):
+        """To wake it costs a call of the system, which its own thread needs not."""
+        async def main():
+            loop, woken = asyncio.get_running_loop(), []
+            service, real = LoopService(loop), loop.call_soon_threadsafe
+
+            def wakes(call, *given, **more):
+                woken.append(call == service._works._run)
+                return real(call, *given, **more)
+            with unittest.mock.patch.object(loop, "call_soon_threadsafe", wakes):
+                on_loop = service.request()
+                self.assertEqual(await on_loop.supply(inc, 1).then(inc), 3)
+                self.assertNotIn(True, woken)
+                self.assertEqual(await (await loop.run_in_executor(None, on_loop.supply, inc, 1)), 2)
+                self.assertIn(True, woken)
+        asyncio.run(main())
+
+    def test_what_is_settled_is_awaited_at_once(self):
+        """As with a task that is done, nothing else comes between; a cancelled one raises asyncio's CancelledError."""
+        async def main():
+            loop, between = asyncio.get_running_loop(), []
+            on_loop = LoopService(loop).request()
+            given, failed, cancelled = (on_loop.promise() for _ in range(3))
+            given.complete(5)
+            failed.fail(Oops())
+            cancelled.cancel()
+            loop.call_soon(between.append, 1)
+            self.assertEqual((await given, between), (5, []))
+            with self.assertRaises(Oops):
+                await failed
+            self.assertEqual(between, [])
+            with self.assertRaises(asyncio.CancelledError):
+                await cancelled
         asyncio.run(main())
 
     def test_timeouts_cancel(self):

@@ -3,12 +3,13 @@
 
     CF_LIBRARY=/path/to/libcf.so python3 clients/python/tests/service/test_settling.py [-v] [TEST ..]
 """
+import concurrent.futures
 import functools
 import threading
 import unittest
 from concurrent.futures import InvalidStateError
 
-from case import Case, CoreCase, Oops
+from case import Case, CoreCase, inc, leaves, Oops
 from cf.service._core import IS_MODULE
 from cf.testing import orders
 
@@ -65,6 +66,34 @@ class Settling(Case):
         self.assertEqual((report.whole, list(map(str, report.failed))), (True, []))
         self.assertEqual(seen, {("cancelled", False), ("cancelled", True), (2, False), (2, True), (None, True),
                                 ("late", False), ("late", True)})
+
+    def test_a_request_is_cancelled(self):
+        """All that is open is, also what runs and what a callback would have kept from it; what is settled stays."""
+        settling, begun, goes_on = self.request, threading.Event(), threading.Event()
+        done = settling.promise()
+        done.complete(1)
+        runs = settling.supply(lambda: begun.set() or goes_on.wait(20))
+        self.assertTrue(begun.wait(20))
+        left = [settling.promise(), runs.then(inc), settling.promise().or_timeout(1000), settling.gather(runs, done)]
+        left[0].add_done_callback(leaves)
+        with self.assertRaises(SystemExit):
+            settling.cancel()
+        goes_on.set()
+        for stage in (runs, *left):
+            with self.assertRaises(concurrent.futures.CancelledError):
+                stage.result(20)
+        self.assertEqual((done.result(), settling.promise().complete(1)), (1, True))
+        words = len(settling.history().words)
+        self.assertIsNone(settling.cancel())
+        self.assertEqual(len(settling.history().words), words)
+
+    def test_only_exceptions_fail_a_stage(self):
+        wrong = self.request.promise()
+        for error in ("x", None, ValueError):
+            with self.assertRaisesRegex(TypeError, r"an exception is wanted, and not a \w+: fail\(ValueError"):
+                wrong.fail(error)
+        self.assertFalse(wrong.done())
+        self.assertTrue(wrong.fail(ValueError("x")))
 
     def test_promise_of_somebody_else(self):
         settling = self.request.promise()

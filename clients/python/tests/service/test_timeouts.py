@@ -68,7 +68,8 @@ class Limits(Case):
         held, goes_on, timed = threading.Event(), threading.Event(), self.request
         timed.promise().or_timeout(0).add_done_callback(lambda _: held.set() or goes_on.wait(20))
         self.assertTrue(held.wait(20))
-        late = [timed.promise().or_timeout(0.01).or_timeout(0.02), timed.promise().or_timeout(0).complete_on_timeout(1, 0)]
+        late = [timed.promise().or_timeout(0.01).or_timeout(0.02),
+                timed.promise().or_timeout(0).complete_on_timeout(1, 0)]
         given = [timed.promise().complete_on_timeout(2, 0).or_timeout(0), timed.promise().complete_on_timeout(None, 0)]
         time.sleep(0.05)
         goes_on.set()

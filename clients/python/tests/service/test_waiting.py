@@ -39,8 +39,8 @@ class Waiting(Case):
             for waiter in waiters:
                 waiter.start()
             awaited[0].add_done_callback(lambda _: heard.set())
-            for awaited in awaited:
-                awaited.complete(None)
+            for stage in awaited:
+                stage.complete(None)
             for waiter in waiters:
                 waiter.join(20)
             self.assertEqual(len(woken), 4)
