@@ -78,7 +78,10 @@ final class GatheringTest {
         Stage<?>[] often = new Stage<?>[4097];
         Arrays.fill(often, one);
         thrown(RequestFullException.class, () -> gathering.anyOf(often));
-        is(gathering.history().stages() + one.getNumberOfDependents(), 1);
+        CompletableFuture<?>[] mixed = Arrays.copyOf(often, 4096, CompletableFuture[].class);
+        mixed[7] = new CompletableFuture<>();
+        thrown(RequestFullException.class, () -> gathering.anyOf(mixed));
+        is(gathering.history().stages() + one.getNumberOfDependents() + mixed[7].getNumberOfDependents(), 1);
         Stage<Object> root = gathering.anyOf(Arrays.copyOf(often, 4096));
         is(gathering.history().stages() + one.getNumberOfDependents(), 2 * 4096);
         Stage<?> behind = SERVICE.request().adopt(root);

@@ -263,8 +263,8 @@ final class WaitsTest {
     }
 
     private static void drain(Led led) throws Exception {
-        while (clock(led)) {
-            is(true, true);
+        for (int ticks = 0; clock(led); ticks++) {
+            is(ticks < 20, true);
         }
     }
 
