@@ -295,10 +295,10 @@ class OneMember(EtcdCase):
 
     def test_a_watch_that_is_silent(self):
         """Looks at keys tell what it doesn't. Once it is seen not to, another takes its place."""
-        with unittest.mock.patch.object(etcd, "BETWEEN_CHECKS", 0.1):
+        with unittest.mock.patch.object(etcd, "BETWEEN_CHECKS", 0.5):
             known = self.followed()
-            for _ in range(5):
-                time.sleep(0.1)
+            for _ in range(3):
+                time.sleep(0.5)
                 known.look()
             self.assertEqual(self.between.watches, 1)  # (it has told all that keys show)
             self.between.is_silent = True
