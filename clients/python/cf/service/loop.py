@@ -3,7 +3,7 @@ clock."""
 import asyncio
 import inspect
 import itertools
-from typing import Any, Awaitable, Callable, Dict, Optional, Set, Type, TypeVar, cast
+from typing import Any, Awaitable, Callable, Dict, List, Optional, Set, Type, TypeVar, cast
 
 from .contexts import ContextRequest, ended, Within
 from .ending import EndingRequest, Ends, Hook
@@ -100,12 +100,16 @@ class _LoopWorks:
         return RuntimeError("Event loop is closed")
 
     def put(self, request: Request) -> bool:
-        is_here = asyncio._get_running_loop() is self._loop  # (then the loop needn't be woken)
         try:
-            (self._loop.call_soon if is_here else self._loop.call_soon_threadsafe)(self._run, request)
+            self._call(self._run, request)
         except RuntimeError:
             return False
         return True
+
+    def _call(self, act: Callable[..., object], *given: object) -> None:
+        """Has the loop call a function. Any thread may."""
+        is_here = asyncio._get_running_loop() is self._loop  # (then the loop needn't be woken)
+        (self._loop.call_soon if is_here else self._loop.call_soon_threadsafe)(act, *given)
 
     def now(self, _request: Optional[Request] = None) -> int:
         """In nanoseconds."""
@@ -113,7 +117,7 @@ class _LoopWorks:
 
     def ask(self, request: Request, moment: int) -> None:
         """Has the loop ring a request that has limits at a moment, if it isn't rung before. Any thread may."""
-        self._loop.call_soon_threadsafe(self._ask, request, moment)
+        self._call(self._ask, request, moment)
 
     def drop(self, request: Request) -> None:
         """Doesn't ring a request that has no limits. Any thread may."""
@@ -140,7 +144,7 @@ class _LoopWorks:
 
     def _soon(self, act: Callable[..., object], *given: object) -> None:
         try:
-            self._loop.call_soon_threadsafe(act, *given)
+            self._call(act, *given)
         except RuntimeError:  # the loop is closed, and calls nothing any more
             pass
 
@@ -173,16 +177,20 @@ class _LoopWorks:
 
     def _await(self, stage: "Stage[Any]", given: Awaitable[Any]) -> None:
         """Lets a coroutine go on, in a copy of this context."""
-        task = self._loop.create_task(self._awaited(stage, given))
+        running: "List[asyncio.Task[None]]" = []  # until it ends by itself
+        task = self._loop.create_task(self._awaited(stage, given, running))
+        running.append(task)
         self._tasks.add(task)
         task.add_done_callback(self._tasks.discard)
-        stage.add_done_callback(lambda _: None if task.done() else self._soon(task.cancel))
+        stage.add_done_callback(lambda _: self._soon(task.cancel) if running else None)
 
-    async def _awaited(self, stage: "Stage[Any]", given: Awaitable[Any]) -> None:
+    async def _awaited(self, stage: "Stage[Any]", given: Awaitable[Any], running: "List[asyncio.Task[None]]") -> None:
         try:
             value = await given
         except BaseException as error:
+            running.clear()
             goes_on = self._raised(stage, error)
         else:
+            running.clear()
             goes_on = ended(stage, FIRST_WORKER, value)
         self._run(stage.request, goes_on)

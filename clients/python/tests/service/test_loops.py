@@ -74,6 +74,23 @@ class Loops(unittest.TestCase):
                 self.assertIn(True, woken)
         asyncio.run(main())
 
+    def test_what_ends_by_itself_is_not_cancelled(self):
+        """A loop isn't asked to cancel a coroutine as that ends."""
+        async def ends(error=None):
+            await asyncio.sleep(0)
+            if error is not None:
+                raise error
+            return 1
+
+        async def main():
+            loop = asyncio.get_running_loop()
+            service, soon = LoopService(loop), []
+            with unittest.mock.patch.object(service._works, "_soon", lambda *given: soon.append(given)):
+                self.assertEqual(await service.submit(ends), 1)
+                self.assertIsInstance(await service.submit(ends, Oops()).handle(lambda _, error: error), Oops)
+            self.assertEqual(soon, [])
+        asyncio.run(main())
+
     def test_what_is_settled_is_awaited_at_once(self):
         """As with a task that is done, nothing else comes between; a cancelled one raises asyncio's CancelledError."""
         async def main():
