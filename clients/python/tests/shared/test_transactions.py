@@ -15,8 +15,8 @@ from case import Case, STORES
 import shared_functions as f
 from cf.service import Flow
 from cf.service.words import CLAIM
-from cf.shared import (connect, DurableService, Functions, Memory, service as shared_service, sqlite as shared_sqlite,
-                       Unknown)
+from cf.shared import (connect, DurableService, Functions, Memory, Put, service as shared_service,
+                       sqlite as shared_sqlite, Unknown)
 
 
 class Effects(Memory):
@@ -240,6 +240,23 @@ class KilledTransactions(Case):
             store_of._Transaction.commit = real
         self.assertEqual(sorted(db.execute("select account from paid").fetchall()), [("lands False",), ("lands True",)])
         db.close()
+
+    def test_who_connects_while_a_transaction_is_open(self):
+        """Nobody waits for that in PostgreSQL, where tables and indexes are there."""
+        for address in [it for it in STORES if it.startswith("postgres")]:
+            store, took = connect(address), []
+            store.open(self.name, "{}"), store.open(self.name + "2", "{}")
+
+            def connects(address=address, took=took):
+                other = connect(address)
+                other.append(Put(self.name + "2", 0, [(1, 11)], {}))
+                other.close()
+                took.append(time.monotonic())
+            with store.transaction() as transaction:
+                self.assertTrue(transaction.append(Put(self.name, 0, [(1, 11)], {})))
+                threading.Thread(target=connects, daemon=True).start()
+                self.until(lambda took=took: took)
+            store.close()
 
 
 if __name__ == "__main__":
