@@ -53,5 +53,5 @@ pub code_named : (number : ℕ) (c : Code) → number ≡ number_of c → code_t
 code_named number c is = ap code_text is ∙ text_of_number c
 
 -- no number above those of the codes has a text, but that of a null pointer
-pub no_text : (number : ℕ) → 40 < number → number ≢ 255 → code_text number ≡ None
+pub no_text : (number : ℕ) → 39 < number → number ≢ 255 → code_text number ≡ None
 no_text n above other = rw (ne_eqb n 0 (λ e. absurd (omega arith)), ne_eqb n 255 other) (ap (option_map name_of) (slice_get_past all_codes (n - 1) (omega arith)))
