@@ -7,7 +7,7 @@ ghost use Rattle.cf_c_handles.specs.RequestGathers.{GathersIn};
 ghost use Rattle.cf_c_handles.specs.RequestRows.{DoesCallsIn};
 ghost use Rattle.cf_c_handles.specs.Requests.{RequestOf};
 
-use crate::handle::{ask, tell};
+use crate::handle::{ask, code_of, tell};
 use cf_c_handles::code::Code;
 use cf_c_handles::handle::{CfHandle, fill};
 use cf_c_handles::plan::kind_of;
@@ -100,9 +100,31 @@ pub extern "C" fn cf_request_link(
 }
 
 /// Finishes what a task holds with the answer in it. Then claims the next ready stage of the lane, gives it to the task, and tells the
-/// stages that are settled.
+/// stages that are settled. Where there is nothing to do it is done in line.
 #[unsafe(no_mangle)]
 pub extern "C" fn cf_request_next(
+    alloc: Global,
+    h: &mut CfHandle,
+    step: &mut CfRequestStep,
+    task: &mut CfTask,
+    told: &mut [CfTold],
+) -> u32
+    ensures { HandleWrites GoesOnIn h.old h.new result (step.old, task.old, told.old) (step.new, task.new, told.new) }
+{
+    if let Some(mut held) = h.take(alloc) {
+        if doing::rests(&held, step, task) {
+            let done = doing::rest(&mut held, step, task, told);
+            h.put(held);
+            return code_of(done);
+        }
+        h.put(held);
+    }
+    next_apart(alloc, h, step, task, told)
+}
+
+/// The same in a call of its own.
+#[inline(never)]
+fn next_apart(
     alloc: Global,
     h: &mut CfHandle,
     step: &mut CfRequestStep,

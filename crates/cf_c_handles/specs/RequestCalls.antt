@@ -1,5 +1,5 @@
 -- What a request behind a handle is asked.
-use Rattle.std.specs.Prelude.{◌≡◌, ◌⊎◌, ℕ, ◌<◌, ◌≤◌, Result, Ok, Err, List, length}
+use Rattle.std.specs.Prelude.{◌≡◌, ◌⊎◌, ℕ, ◌<◌, ◌≤◌, Result, Ok, Err, List, [], length}
 use Rattle.cf_model.specs.declared.events.Reply.{Reply}
 use Rattle.cf_request.specs.Deadlines.{Forgets, IsNextOpen, NoneOpen}
 use Rattle.cf_request.specs.Growing.{Grows, IsNoGrowth}
@@ -146,6 +146,18 @@ GoesOnOrNot m had r new has = HasGoneOn m r new had has ⊎ IsNotGone m r new ha
 abbrev pub GoesOnIn : Object → CfRequestStep × CfTask × List CfTold → Result (Unit {0}) Code → Object → CfRequestStep × CfTask × List CfTold → Type 0
 GoesOnIn (Request m) had r new has = IfLane had.0.lane m r new (has ≡ had) (GoesOnOrNot m had r new has)
 GoesOnIn held had r new has = (r ≡ Err WrongKind) × (new ≡ held) × (has ≡ had)
+
+-- the caller and its lane are there, and there is nothing to finish, to give and to tell
+pub record Rests (m : Machine) (step : CfRequestStep) (task : CfTask) : Type 0 where
+  pub caller : step.who ≤ 63
+  pub lane : step.lane < lanes_in m
+  pub none_held : task.held ≡ 0
+  pub none_ready : ready_below (state_in m) m.teller.lanes.of step.lane (length (state_in m).plan.stages) ≡ 0
+  pub none_told : m.teller.told ≡ []
+
+abbrev pub RestsIn : Object → CfRequestStep → CfTask → Type 0
+RestsIn (Request m) step task = Rests m step task
+RestsIn held step task = ⊥
 
 -- ---- calls that tell no stages
 

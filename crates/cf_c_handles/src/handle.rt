@@ -58,10 +58,8 @@ impl CfHandle {
     pub fn put(&mut self, held: Box<Object>)
         ensures { self.new.inner.held ≡ Some held.value }
     {
-        *self = CfHandle {
-            inner: RawBox::of_parts(BoxParts::of(assert_send(held))),
-            full: true,
-        };
+        self.inner = RawBox::of_parts(BoxParts::of(assert_send(held)));
+        self.full = true;
     }
 }
 

@@ -135,7 +135,8 @@ fn see_entry(
     n: &mut usize,
 ) -> Result<(), Code>
     requires { row.old.put ≡ [] }
-    ensures { SeesOrNot entry row.old (reply.old, news.old, n.old) result (HeldRow row.new) (reply.new, news.new, n.new) }
+    ensures { SeesOrNot entry row.old (reply.old, news.old, n.old) result (HeldRow row.new)
+        (reply.new, news.new, n.new) }
 {
     let place = row.replica().seen().len();
     match row.saw(entry) {

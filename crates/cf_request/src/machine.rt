@@ -293,7 +293,7 @@ impl Machine {
     }
 
     /// The same where something is held, or a stage of the lane is ready.
-    #[inline(never)]
+    #[inline(always)]
     fn go_on(&mut self, who: u8, lane: u8, held: Option<Held>) -> Result<Next, StepFault>
         requires lane { lane < self.old.teller.lanes.count }
         requires busy { ¬ IsIdle lane held self.old.teller }

@@ -1,6 +1,7 @@
 //! What is done to a request behind a handle, and what it tells then.
-ghost use Rattle.cf_c_handles.specs.RequestCalls.{AppliesIn, CancelsIn, FollowsIn, GoesOnIn, GrowsIn, PassesIn, RefusesIn, RestartsIn, SetsDeadlineIn, TellsIn, GoesOnOrNot};
-ghost use Rattle.std.specs.Prelude.{◌<◌};
+ghost use Rattle.cf_c_handles.specs.RequestCalls.{AppliesIn, CancelsIn, FollowsIn, GoesOnIn, GrowsIn, PassesIn, RefusesIn, RestartsIn, Rests, RestsIn, SetsDeadlineIn, TellsIn, GoesOnOrNot, lanes_in};
+ghost use Rattle.std.specs.Prelude.{◌≡◌, ◌↔◌, ◌<◌, IsTrue};
+ghost use Rattle.cf_c_handles.specs.LedgerSteps.{late_number, taken_code, task_with};
 ghost use Rattle.cf_c_handles.specs.declared.handle.object.Object.TheVariants.{Request as HeldRequest};
 
 use crate::code::Code;
@@ -11,7 +12,8 @@ use crate::request::{machine_code, tell_into};
 use crate::values::put_reply;
 use crate::values::request::{CfApplied, CfRequestStep, CfTold};
 use crate::values::task::{CfTask, held_by};
-use cf_request::{Deadline, Machine};
+use cf_event::LAST_CALLER;
+use cf_request::{Deadline, Machine, Next};
 use std::alloc::Global;
 
 /// Does a word; a stage that it attaches is this lane's.
@@ -41,9 +43,9 @@ pub fn apply(
     }
 }
 
-/// Finishes what a task holds, and gives it the next ready stage of the caller's lane. Where there is nothing to finish
-/// and nothing to give, it is done in line.
-#[inline(always)]
+/// Finishes what a task holds, and gives it the next ready stage of the caller's lane. It stands in a call of its own, so
+/// that `rest` saves no registers.
+#[inline(never)]
 pub fn next(
     held: &mut Object,
     step: &mut CfRequestStep,
@@ -58,10 +60,7 @@ pub fn next(
     if step.lane >= machine.lanes() {
         return Err(Code::NoLane);
     }
-    if task.held == 0 && machine.ready(step.lane) == 0 {
-        return go_on(machine, step, task, row);
-    }
-    go_on_apart(machine, step, task, row)
+    go_on(machine, step, task, row)
 }
 
 /// The same in a lane that is there.
@@ -79,27 +78,86 @@ fn go_on(
     match machine.next(step.who, step.lane, held_by(task)) {
         Err(fault) => Err(step_code(fault)),
         Ok(next) => {
-            task.finished = late_number(next.finish);
-            let told = take(task, next.taken);
+            let given = give(task, next);
             step.told = tell_into(machine, row);
-            told
+            given
         }
     }
 }
 
-/// The same in a call of its own.
-#[inline(never)]
-fn go_on_apart(
+/// Gives a task how what it held is finished, and what is claimed.
+#[inline(always)]
+fn give(task: &mut CfTask, next: Next) -> Result<(), Code>
+    ensures task { task.new ≡ task_with (record task.old { finished = late_number next.finish }) next.taken }
+    ensures told { result ≡ taken_code next.taken }
+{
+    task.finished = late_number(next.finish);
+    take(task, next.taken)
+}
+
+/// Whether `next` has nothing to finish, to give and to tell. It looks at no stage.
+#[inline(always)]
+pub fn rests(held: &Object, step: &CfRequestStep, task: &CfTask) -> bool
+    ensures { IsTrue result ↔ RestsIn held.now step.now task.now }
+{
+    match held {
+        Object::Request(machine) => rests_in(machine, step, task),
+        _ => false,
+    }
+}
+
+/// The same of a request.
+#[inline(always)]
+fn rests_in(machine: &Machine, step: &CfRequestStep, task: &CfTask) -> bool
+    ensures { IsTrue result ↔ Rests machine.now step.now task.now }
+{
+    step.who <= LAST_CALLER
+        && step.lane < machine.lanes()
+        && task.held == 0
+        && machine.ready(step.lane) == 0
+        && machine.told().is_empty()
+}
+
+/// What `next` does where it has nothing to finish, to give and to tell. It writes to the task last, so that nothing of
+/// the request has to be read again.
+#[inline(always)]
+pub fn rest(
+    held: &mut Object,
+    step: &mut CfRequestStep,
+    task: &mut CfTask,
+    row: &mut [CfTold],
+) -> Result<(), Code>
+    requires { RestsIn held.old step.old task.old }
+    ensures { GoesOnIn held.old (step.old, task.old, row.old) result held.new (step.new, task.new, row.new) }
+{
+    let Object::Request(machine) = held else {
+        return Err(Code::WrongKind);
+    };
+    rest_in(machine, step, task, row)
+}
+
+/// The same of a request.
+#[inline(always)]
+fn rest_in(
     machine: &mut Machine,
     step: &mut CfRequestStep,
     task: &mut CfTask,
     row: &mut [CfTold],
 ) -> Result<(), Code>
-    requires { step.old.lane < machine.old.teller.lanes.count }
-    ensures { GoesOnOrNot machine.old (step.old, task.old, row.old) result (HeldRequest machine.new)
+    requires { Rests machine.old step.old task.old }
+    ensures there { step.old.lane < lanes_in machine.old }
+    ensures does { GoesOnOrNot machine.old (step.old, task.old, row.old) result (HeldRequest machine.new)
         (step.new, task.new, row.new) }
 {
-    go_on(machine, step, task, row)
+    let held = held_by(task);
+    match machine.next(step.who, step.lane, held) {
+        Err(fault) => Err(step_code(fault)),
+        Ok(next) => {
+            let told = tell_into(machine, row);
+            step.told = told;
+            give(task, next)
+        }
+    }
 }
 
 /// From now on a stage ends as another does.
