@@ -2,7 +2,8 @@
 use crate::error::StoreError;
 use crate::store::{in_a_row, Mark, Opened, Put, Store, Timer};
 use cf_graph::Entry;
-use std::collections::BTreeMap;
+use std::collections::{BTreeMap, HashMap};
+use std::fmt;
 use std::future::poll_fn;
 use std::sync::atomic::{AtomicBool, Ordering};
 use std::sync::{mpsc, Arc, Mutex, MutexGuard, PoisonError};
@@ -12,7 +13,7 @@ use tokio::runtime::{Builder, Runtime};
 use tokio::sync::mpsc as messages;
 use tokio_postgres::error::SqlState;
 use tokio_postgres::types::ToSql;
-use tokio_postgres::{AsyncMessage, Client, Config, NoTls, Row};
+use tokio_postgres::{AsyncMessage, Client, Config, NoTls, Row, Statement};
 
 const SCHEMA: &str = "
     create table if not exists cf_request (id bigserial primary key, name text not null unique, plan text not null,
@@ -58,11 +59,12 @@ pub struct Postgres {
 }
 
 /// A connection, which does its work while it is asked.
-#[derive(Debug)]
 struct Connection {
     runtime: Runtime,
     client: Client,
     told: messages::UnboundedReceiver<()>,
+    /// Statements that the server has read, so that it is asked once for each answer.
+    prepared: HashMap<String, Statement>,
 }
 
 /// A thread that sends notices, once there is one to send.
@@ -87,7 +89,7 @@ impl Connection {
                 }
             }
         });
-        let made = Connection { runtime, client, told: gets };
+        let mut made = Connection { runtime, client, told: gets, prepared: HashMap::new() };
         for (name, wanted) in SAFE {
             let found = made.shown(name)?;
             if found != wanted {
@@ -100,8 +102,8 @@ impl Connection {
         Ok(made)
     }
 
-    fn shown(&self, name: &str) -> Result<String, StoreError> {
-        let rows = self.rows(&format!("select current_setting('{name}')"), &[])?;
+    fn shown(&mut self, name: &str) -> Result<String, StoreError> {
+        let rows = self.rows("select current_setting($1)", &[&name])?;
         Ok(rows.first().map(|row| row.get(0)).unwrap_or_default())
     }
 
@@ -110,8 +112,19 @@ impl Connection {
         self.within(self.client.batch_execute(statements))
     }
 
-    fn rows(&self, statement: &str, values: Values<'_>) -> Result<Vec<Row>, StoreError> {
-        self.within(self.client.query(statement, values))
+    fn rows(&mut self, statement: &str, values: Values<'_>) -> Result<Vec<Row>, StoreError> {
+        let statement = self.prepared(statement)?;
+        self.within(self.client.query(&statement, values))
+    }
+
+    /// A statement as the server has read it.
+    fn prepared(&mut self, statement: &str) -> Result<Statement, StoreError> {
+        if let Some(known) = self.prepared.get(statement) {
+            return Ok(known.clone());
+        }
+        let made = self.within(self.client.prepare(statement))?;
+        self.prepared.insert(statement.to_owned(), made.clone());
+        Ok(made)
     }
 
     /// What comes of a question, where it comes in time.
@@ -249,7 +262,8 @@ impl Store for Postgres {
                          unnest($2::int[], $3::bigint[], $4::bigint[], $5::bytea[]) as v where id = $1";
         let landed = self.using(|connection| {
             let values: Values<'_> = &[&put.number, &places, &words, &tokens, &payloads];
-            let asked = connection.client.execute(statement, values);
+            let statement = connection.prepared(statement)?;
+            let asked = connection.client.execute(&statement, values);
             let answered = connection.runtime.block_on(async { tokio::time::timeout(SILENCE, asked).await });
             match answered.map_err(|_| StoreError::Unknown(format!("no answer for {SILENCE:?}")))? {
                 Ok(many) => Ok(many == put.entries.len() as u64),
@@ -369,6 +383,12 @@ impl Store for Postgres {
 
     fn drop_timer(&self, timer: &Timer) -> Result<(), StoreError> {
         self.ask("delete from cf_timer where request = $1 and stage = $2", &[&timer.number, &i32::from(timer.stage)]).map(|_| ())
+    }
+}
+
+impl fmt::Debug for Connection {
+    fn fmt(&self, f: &mut fmt::Formatter<'_>) -> fmt::Result {
+        f.debug_struct("Connection").field("client", &self.client).finish_non_exhaustive()
     }
 }
 
