@@ -100,10 +100,19 @@ class Judge:
             self.word(name, place, word, token, reply, payloads, granted)
         self.count["requests"] += 1
         self.count["words"] += len(entries)
-        self.count["stages left"] += states[-1].count("pending")
+        self.left(entries, states, len(stages))
         callers = self.callers(name, entries, replies, states, granted)
         return json.dumps({"plan": plan, "events": [str(word) for word, _ in entries], "callers": callers, "functions": 4096,
                            "outcomes": states[-1]})
+
+    def left(self, entries, states, planned):
+        """Counts the stages that aren't settled. Who sees that all are says that nothing is left; a stage that was attached behind that by a process
+        which was killed is nobody's then."""
+        attached = [token >> 23 for word, token in entries if word >> 56 == ATTACH]
+        end = next((len(state) for state in states if "pending" not in state), len(states[-1]))
+        for stage, outcome in enumerate(states[-1]):
+            is_nobodys = stage >= end and attached[stage - planned] not in self.ended
+            self.count["stages attached behind the end, left" if is_nobodys else "stages left"] += outcome == "pending"
 
     def word(self, name, place, word, token, reply, payloads, granted):
         kind, tag, low = word >> 56, word >> 32 & 0xF, word & 0xFFFFFFFF
