@@ -13,13 +13,14 @@ from ..view import RowView, Watcher
 from .reading import Readings
 
 LOGGER = logging.getLogger("cf.requests")
-LEAST_BETWEEN = 0.1  # seconds between two looks at the store, or so many times what the last one took:
-SHARE = 2
+LEAST_BETWEEN = 0.05  # seconds between two looks at the store, or so many times what the last one took of a processor:
+SHARE = 3  # (and not by the clock: where others take the processors, a look takes ten times as long and costs no more)
 BEATS = 1.0  # seconds between two looks at sessions
 READING = 0.25  # seconds of a round in which rows are read whose glances are old
 TOGETHER = 60  # rows that are read together
 WANTED = 5.0  # seconds for which a request counts as looked at
 RESTED = 0.5  # seconds without a new word, before a request is read that nobody looks at
+BETWEEN_RESTED = 1.0  # seconds between two reads of such, where they are few
 KEPT = 200  # glances that one put keeps
 LEAST_AHEAD = 0.2  # seconds by which the store's clock has to move against this one's
 RATED = 10.0  # seconds over which words a second are counted
@@ -84,7 +85,7 @@ class Board:
         self._rates: List[Tuple[float, int]] = []
         self._watcher, self._lease = Watcher(store, lease), lease
         self._mark: Any = None
-        self._next_list = self._next_beats = self._next_put = 0.0
+        self._next_list = self._next_beats = self._next_put = self._next_rested = 0.0
         self._change, self._stops = threading.Condition(), threading.Event()
         self._thread = threading.Thread(target=self._run, name="cf-board", daemon=True)
 
@@ -110,6 +111,11 @@ class Board:
         with self._change:
             self._change.wait_for(lambda: self.version != version or self._stops.is_set(), seconds)
             return self.version
+
+    def wait_for_first(self, seconds: float) -> None:
+        """Waits until the first requests are known, or so many seconds."""
+        with self._change:
+            self._change.wait_for(lambda: self.is_known or self.many or self.away or self._stops.is_set(), seconds)
 
     def soon(self) -> None:
         """Has all looked at anew: something was closed or dropped here."""
@@ -201,11 +207,11 @@ class Board:
     def _round(self) -> None:
         now = time.monotonic()
         if now >= self._next_list:
-            self._next_list = now
+            self._next_list, began = now, time.thread_time()
             changes, mark = self.store.changes(self._mark)
             self._say(self._take(changes))
             self._mark = mark
-            self._next_list += SHARE * (time.monotonic() - now) if self.is_known else 0.0
+            self._next_list += SHARE * (time.thread_time() - began) if self.is_known else 0.0
         self._read_some()
         began = time.monotonic()
         if began >= self._next_beats:
@@ -305,6 +311,9 @@ class Board:
             wanted = [name for name in self._behind if now - self._wanted.get(name, -WANTED) < WANTED]
             rested = [] if len(wanted) >= 100 else [
                 name for name in self._behind if name not in self._wanted and self._rests(name, now)]
+        if len(rested) < TOGETHER and now < self._next_rested:
+            rested = []
+        self._next_rested = now + BETWEEN_RESTED if rested else self._next_rested
         for names in (wanted, rested):
             for k in range(0, len(names), TOGETHER):
                 if time.monotonic() > now + READING or self._stops.is_set():
