@@ -6,7 +6,7 @@ from typing import Any, Dict, Iterable, List, Mapping, NamedTuple, Optional, Seq
 
 from .rows import FIRST, HEAD, Changes, Glance, Gone, Listed, Open, Opened, Put, Store, flow_of
 
-ANEW = 200  # requests that are told anew with each look at all that are open
+ANEW = 100  # requests that are told anew with each look at all that are open
 BETWEEN_ALL = 0.5  # seconds between two such looks: what is closed is told by them alone
 MOST_VALUES = 500  # in a statement
 COLUMNS = ("r.id, r.name, r.opened, (select max(at) + 1 from cf_word where request = r.id), "

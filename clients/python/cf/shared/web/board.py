@@ -5,7 +5,8 @@ import logging
 import operator
 import threading
 import time
-from typing import Any, Dict, List, NamedTuple, Optional, Sequence, Tuple
+from collections import deque
+from typing import Any, Deque, Dict, List, NamedTuple, Optional, Sequence, Tuple
 
 from ..glances import Queue, Seen, glance_of, read
 from ..rows import Broken, Changes, Glance, Gone, Open, Store, StoreError, Unknown
@@ -78,6 +79,7 @@ class Board:
         self._order: List[Line] = []  # by name
         self._behind: Dict[str, None] = {}  # requests with more words than their glances have seen
         self._made: Dict[str, Glance] = {}  # glances that the store hasn't got
+        self._looked: Deque[Tuple[float, Sequence[str]]] = deque()  # who was looked at, and isn't in `_wanted` yet
         self._wanted: Dict[str, float] = {}
         self._sessions: Dict[int, Session] = {}
         self._first: Dict[int, int] = {}  # the beats that sessions had when they were first looked at
@@ -114,8 +116,11 @@ class Board:
 
     def wait_for_first(self, seconds: float) -> None:
         """Waits until the first requests are known, or so many seconds."""
-        with self._change:
-            self._change.wait_for(lambda: self.is_known or self.many or self.away or self._stops.is_set(), seconds)
+        def is_there() -> bool:
+            return self.is_known or self.many > 0 or self.away != "" or self._stops.is_set()
+        if not is_there():  # (else nobody waits here while the others are taken over)
+            with self._change:
+                self._change.wait_for(is_there, seconds)
 
     def soon(self) -> None:
         """Has all looked at anew: something was closed or dropped here."""
@@ -133,9 +138,7 @@ class Board:
 
     def want(self, names: Sequence[str]) -> None:
         """Says that somebody looks at these requests, so that they are read first."""
-        now = time.monotonic()
-        with self._change:
-            self._wanted.update((name, now) for name in names)
+        self._looked.append((time.monotonic(), names))  # (without the lock: a list that is asked for is answered at once)
 
     def _state(self, line: Line) -> str:
         if line.why:
@@ -168,10 +171,10 @@ class Board:
 
     def rate(self) -> Optional[float]:
         """Words a second."""
-        with self._change:
-            if len(self._rates) < 2:
-                return None
-            (began, first), (ended, last) = self._rates[0], self._rates[-1]
+        rates = self._rates
+        if len(rates) < 2:
+            return None
+        (began, first), (ended, last) = rates[0], rates[-1]
         return max(0.0, (last - first) / (ended - began)) if ended > began else None
 
     # The thread.
@@ -307,6 +310,9 @@ class Board:
     def _read_some(self) -> None:
         """Reads rows whose glances are old, for a while: first those that somebody looks at."""
         now = time.monotonic()
+        while self._looked:
+            at, names = self._looked.popleft()
+            self._wanted.update(dict.fromkeys(names, at))
         with self._change:
             wanted = [name for name in self._behind if now - self._wanted.get(name, -WANTED) < WANTED]
             rested = [] if len(wanted) >= 100 else [
