@@ -486,18 +486,25 @@ class Etcd(Store):
 
     def keep_glances(self, glances: Sequence[Glance]) -> None:
         for k in range(0, len(glances), MOST_GLANCES):
-            some = glances[k:k + MOST_GLANCES]
-            if not self._keep(some) and len(some) > 1:  # one of the requests isn't open any more
-                for it in some:
-                    self._keep([it])
+            some, before = list(glances[k:k + MOST_GLANCES]), MOST_GLANCES + 1
+            while some and len(some) < before:  # (where all are open by now that weren't, it is for the next time)
+                before, some = len(some), self._keep(some)
 
-    def _keep(self, glances: Sequence[Glance]) -> bool:
+    def _keep(self, glances: Sequence[Glance]) -> List[Glance]:
+        """Keeps them, and gives none; or keeps none, since not all of the requests are open, and gives those that are.
+        (To keep each by itself would wait for a majority's disks as often.)"""
         are_so: List[Any] = []
         for it in glances:
             is_open = {"key": _b64(_key("o", it.request)), "target": "VERSION", "result": "GREATER", "version": 0}
             are_so += [self._is_there(it.request, str(it.number)), is_open]
         puts = [_put(_key("g", it.request), json.dumps([it.number, it.words, it.said]).encode()) for it in glances]
-        return bool(self._txn(are_so, puts).get("succeeded"))
+        told = self._txn(are_so, puts, [{"request_range": _range(_key(kind, it.request), keys_only=True)}
+                                        for it in glances for kind in "ro"])
+        if told.get("succeeded"):
+            return []
+        found = [it["response_range"].get("kvs", []) for it in told["responses"]]
+        return [it for it, opened, is_open in zip(glances, found[::2], found[1::2])
+                if is_open and opened and int(opened[0]["create_revision"]) == it.number]
 
     def words_put(self) -> Optional[int]:
         return self._count(b"cf/w/", b"cf/w0")

@@ -18,7 +18,7 @@ import unittest.mock
 
 from case import Case
 from cf.shared import Put, Unknown, connect, etcd
-from cf.shared.rows import Wanted
+from cf.shared.rows import Glance, Wanted
 
 HOST = "127.0.0.1"
 
@@ -339,6 +339,16 @@ class OneMember(EtcdCase):
             known.look()
         self.between.refuses = False
         self.told_once(known, 0)
+
+    def test_glances_of_which_some_are_of_closed_requests(self):
+        """The others are kept together, and not each by itself."""
+        opened = [self.direct.open(f"r{k:02}", "{}") for k in range(50)]
+        self.direct.end("r03", 0), self.direct.drop("r07"), self.direct.drop("r08"), self.direct.open("r08", "{}")
+        with unittest.mock.patch.object(self.direct, "_txn", side_effect=self.direct._txn) as txn:
+            self.direct.keep_glances([Glance(it.name, it.number, 0, "x") for it in opened])
+        self.assertEqual(txn.call_count, 2)
+        kept = {it.name for it in self.direct.overview() if it.glance is not None}
+        self.assertEqual(kept, {it.name for it in opened} - {"r03", "r07", "r08"})
 
     def test_a_member_that_lags_behind(self):
         """It doesn't know the plan of a request that the watch has told of: a majority is asked."""

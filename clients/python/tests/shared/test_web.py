@@ -430,6 +430,22 @@ class Lists(WebCase):
         time.sleep(2)
         self.assertGreater(store.looks, 4)
 
+    def test_a_put_of_glances_holds_nobody_up(self):
+        """It may wait for a disk for long."""
+        waits, goes_on = threading.Event(), threading.Event()
+
+        class Slow(Memory):
+            def keep_glances(self, glances):
+                waits.set()
+                goes_on.wait(30)
+        store = Slow()
+        store.open("a", text_of(self.flow(), f.functions))
+        self.page_over(store)
+        self.assertTrue(waits.wait(20))
+        store.open("b", text_of(self.flow(), f.functions))
+        self.until(lambda: "b" in self.rows(), 5)
+        goes_on.set()
+
     def test_rows_that_nobody_looks_at_are_read_now_and_then(self):
         class Counting(Memory):
             reads = 0

@@ -23,6 +23,7 @@ WANTED = 5.0  # seconds for which a request counts as looked at
 RESTED = 0.5  # seconds without a new word, before a request is read that nobody looks at
 BETWEEN_RESTED = 1.0  # seconds between two reads of such, where they are few
 KEPT = 200  # glances that one put keeps
+BETWEEN_PUTS = 0.2  # seconds between two looks for glances that are to be kept, and between two puts where they are many
 LEAST_AHEAD = 0.2  # seconds by which the store's clock has to move against this one's
 RATED = 10.0  # seconds over which words a second are counted
 STATES = ("running", "gone", "ready", "waiting", "done", "broken", "unread")
@@ -89,19 +90,23 @@ class Board:
         self._mark: Any = None
         self._next_list = self._next_beats = self._next_put = self._next_rested = 0.0
         self._change, self._stops = threading.Condition(), threading.Event()
-        self._thread = threading.Thread(target=self._run, name="cf-board", daemon=True)
+        # (a put waits for the disk, and for a majority in etcd: what is looked at doesn't wait for that)
+        self._threads = [threading.Thread(target=self._run, name="cf-board", daemon=True)] + (
+            [] if is_read_only else [threading.Thread(target=self._run_keeper, name="cf-keeper", daemon=True)])
 
     def start(self) -> None:
         """Begins to look."""
-        self._thread.start()
+        for it in self._threads:
+            it.start()
 
     def stop(self) -> None:
         """Looks no more."""
         self._stops.set()
         with self._change:
             self._change.notify_all()
-        if self._thread.ident is not None:
-            self._thread.join(10)
+        for it in self._threads:
+            if it.ident is not None:
+                it.join(10)
 
     @property
     def is_stopped(self) -> bool:
@@ -220,8 +225,7 @@ class Board:
         if began >= self._next_beats:
             self._next_beats = began + BEATS  # (first: where a store is slow, rows are read all the same)
             self._say(self._look_at_sessions())
-            self._next_beats += SHARE * (time.monotonic() - began)
-        self._keep()
+            self._next_beats += 2 * (time.monotonic() - began)
 
     def _say(self, is_other: bool) -> None:
         if is_other:
@@ -360,15 +364,21 @@ class Board:
                 self._made[name] = made
             line.state = self._state(line)
 
+    def _run_keeper(self) -> None:
+        while not self._stops.wait(BETWEEN_PUTS):
+            try:
+                self._keep()
+            except Exception:  # whatever a store raises, the next ones are kept
+                LOGGER.debug("glances aren't kept", exc_info=True)
+
     def _keep(self) -> None:
         """Keeps glances that were made here in the store, where the requests rest."""
         now = time.monotonic()
-        if self.is_read_only or now < self._next_put or not self._made:
+        if now < self._next_put or not self._made:
             return
         with self._change:
             rests = [name for name in self._made if name in self._lines and now - self._lines[name].changed > 2][:KEPT]
             some = [self._made.pop(name) for name in rests]
-        self._next_put = now + (0.2 if len(some) == KEPT else 2)
+        self._next_put = now + (BETWEEN_PUTS if len(some) == KEPT else 2)
         if some:
-            with contextlib.suppress(StoreError):
-                self.store.keep_glances(some)
+            self.store.keep_glances(some)
