@@ -14,9 +14,10 @@ from ..view import RowView, Watcher
 from .reading import Readings
 
 LOGGER = logging.getLogger("cf.requests")
-LEAST_BETWEEN = 0.05  # seconds between two looks at the store, or so many times what the last one took of a processor:
+LEAST_BETWEEN = 0.05  # seconds between two looks at the store, or so many times what the last took of a processor:
 SHARE = 3  # (and not by the clock: where others take the processors, a look takes ten times as long and costs no more)
-BEATS = 1.0  # seconds between two looks at sessions
+BEATS = 1.0  # seconds between two looks at sessions, besides so many times what the last one took by the clock:
+BEATS_SHARE = 2
 READING = 0.25  # seconds of a round in which rows are read whose glances are old
 TOGETHER = 60  # rows that are read together
 WANTED = 5.0  # seconds for which a request counts as looked at
@@ -143,7 +144,7 @@ class Board:
 
     def want(self, names: Sequence[str]) -> None:
         """Says that somebody looks at these requests, so that they are read first."""
-        self._looked.append((time.monotonic(), names))  # (without the lock: a list that is asked for is answered at once)
+        self._looked.append((time.monotonic(), names))  # (without the lock, so that who asks for a list doesn't wait)
 
     def _state(self, line: Line) -> str:
         if line.why:
@@ -225,7 +226,7 @@ class Board:
         if began >= self._next_beats:
             self._next_beats = began + BEATS  # (first: where a store is slow, rows are read all the same)
             self._say(self._look_at_sessions())
-            self._next_beats += 2 * (time.monotonic() - began)
+            self._next_beats += BEATS_SHARE * (time.monotonic() - began)
 
     def _say(self, is_other: bool) -> None:
         if is_other:
