@@ -15,7 +15,7 @@ from .reading import Readings
 
 LOGGER = logging.getLogger("cf.requests")
 LEAST_BETWEEN = 0.05  # seconds between two looks at the store, or so many times what the last took of a processor:
-SHARE = 3  # (and not by the clock: where others take the processors, a look takes ten times as long and costs no more)
+SHARE = 3  # (not by the clock: where others take the processors, a look takes ten times as long and costs the same)
 BEATS = 1.0  # seconds between two looks at sessions, besides so many times what the last one took by the clock:
 BEATS_SHARE = 2
 READING = 0.25  # seconds of a round in which rows are read whose glances are old
