@@ -21,7 +21,7 @@ MOST_PLANS = 250  # the same of requests, whose plans may be long
 MOST_WORDS = 64  # of a row that is read together with others
 MOST_GLANCES = 60  # in a transaction: each is two comparisons
 SECONDS = 3  # for an answer
-BETWEEN_CHECKS = 30.0  # seconds between two looks at the keys of open requests that a watch tells of
+BETWEEN_CHECKS = 15.0  # seconds between two looks at the keys of open requests that a watch tells of
 OUT_OF_RANGE = 11  # the code of gRPC: a revision was compacted meanwhile, or the member doesn't know it yet
 # Has a member that lost its leader end a watch, as `WithRequireLeader` of etcd's own clients does.
 WITH_LEADER = {"Grpc-Metadata-hasleader": "true"}
@@ -364,6 +364,8 @@ class Etcd(Store):
             before: Dict[str, str] = {} if mark is None else mark.born
             return (Changes(opened, {}, [it for it in before if it not in born]),
                     _Mark(revision, born, self._watching_from(revision), time.monotonic()))
+        if mark.watch.is_compacted:
+            return self._anew(mark)
         if not mark.watch.is_lost and time.monotonic() < mark.checked + BETWEEN_CHECKS:
             return self._watched(mark, mark.watch)
         try:
@@ -396,9 +398,9 @@ class Etcd(Store):
         revision, events = mark.revision, watch.events()
         for it in events:
             key = it["kv"]
-            if int(key["mod_revision"]) <= mark.revision:  # it is known by a check
-                continue
             name, revision = _name(base64.b64decode(key["key"])), int(key["mod_revision"])
+            if revision <= int(mark.born.get(name, 0)):  # it is known by a check
+                continue
             ends.pop(name, None)
             gone.add(name)
             if it.get("type") != "DELETE":
@@ -409,18 +411,30 @@ class Etcd(Store):
         return changes, mark._replace(revision=revision, born=born)
 
     def _checked(self, mark: "_Mark", watch: "_Watch") -> "Tuple[Changes, _Mark]":
-        """The same by all keys. The watch may be cut off, also in silence: then another takes its place."""
+        """The same by the keys that were put since, and by how many there are, which is one short answer: what is
+        closed is left to the watch. Where that is cut off, another takes its place, and tells what it hasn't. It may be
+        cut off in silence: then all keys are read."""
+        if watch.told < watch.owed:
+            watch.end()
+            self._turn += 1  # (the next member)
+            return self._anew(mark)
+        told = self._post("/v3/kv/range", _range(b"cf/o/", b"cf/o0", limit=MOST_KEYS,
+                                                 min_mod_revision=str(mark.revision + 1)))
+        later = _ends(told.get("kvs", []))
+        changes, born = self._changed(later, set(), mark.born)
+        watch.owed = mark.revision + 1 if later or int(told.get("count", 0)) != len(born) else 0
+        if watch.is_lost:
+            self._turn += 1
+            watch = self._watching_from(mark.revision)
+        return changes, _Mark(mark.revision, born, watch, time.monotonic())
+
+    def _anew(self, mark: "_Mark") -> "Tuple[Changes, _Mark]":
+        """The same by all keys, where nobody tells any more what came behind the mark."""
         kvs, revision = self._keys(b"cf/o/", b"cf/o0")
         names = {name for name, _ in _ends(kvs)}
         later = _ends([it for it in kvs if int(it["mod_revision"]) > mark.revision])
         changes, born = self._changed(later, mark.born.keys() - names, mark.born)
-        is_silent = watch.told < watch.owed
-        watch.owed = mark.revision + 1 if later or changes.gone else 0
-        if watch.is_lost or is_silent:
-            watch.end()
-            self._turn += 1  # (the next member)
-            watch = self._watching_from(revision)
-        return changes, _Mark(revision, born, watch, time.monotonic())
+        return changes, _Mark(revision, born, self._watching_from(revision), time.monotonic())
 
     def _changed(self, ends: Dict[Tuple[str, str], int], gone: Set[str],
                  before: Dict[str, str]) -> Tuple[Changes, Dict[str, str]]:
@@ -448,33 +462,49 @@ class Etcd(Store):
                 for name, words, number, at, flow in opened]
 
     def _read_heads(self, keys: List[Tuple[str, str]]) -> None:
-        # (by a majority: the member of the watch may know a request that others don't know yet)
         if len(keys) > MOST_KEYS and self._count(b"cf/r/", b"cf/r0") <= 2 * len(keys):
             plans = self._keys(b"cf/r/", b"cf/r0", MOST_PLANS)[0]  # (it costs a third of one range for each)
             known: Dict[str, List[Any]] = {_name(base64.b64decode(it["key"])): [it] for it in plans}
             found = [known.get(name, []) for name, _ in keys]
         else:
-            found = self._ranges([_range(_key("r", name)) for name, _ in keys])
+            found = [kvs for k in range(0, len(keys), MOST_READS) for kvs in self._plans(keys[k:k + MOST_READS])]
         for key, kvs in zip(keys, found):
             for it in kvs:
                 said = json.loads(base64.b64decode(it["value"]))
                 self._heads[key] = (int(it["create_revision"]), float(said["opened"]),
                                     flow_of(str(said["plan"])[:HEAD]))
 
+    def _plans(self, keys: List[Tuple[str, str]]) -> List[List[Any]]:
+        """The keys with the plans of these requests, as one member has them that knows that they are open. A majority
+        is asked where it doesn't: the member of the watch may know a request that others don't know yet."""
+        told: Any = {}
+        for is_one in (True, False):
+            told = self._txn([], [{"request_range": _range(_key("r", name), serializable=is_one)} for name, _ in keys])
+            if int(told["header"]["revision"]) >= max(int(born) for _, born in keys):
+                break
+        return [it["response_range"].get("kvs", []) for it in told["responses"]]
+
     def keep_glances(self, glances: Sequence[Glance]) -> None:
         for k in range(0, len(glances), MOST_GLANCES):
-            some = glances[k:k + MOST_GLANCES]
-            if not self._keep(some) and len(some) > 1:  # one of the requests isn't open any more
-                for it in some:
-                    self._keep([it])
+            some, before = list(glances[k:k + MOST_GLANCES]), MOST_GLANCES + 1
+            while some and len(some) < before:  # (where all are open by now that weren't, it is for the next time)
+                before, some = len(some), self._keep(some)
 
-    def _keep(self, glances: Sequence[Glance]) -> bool:
+    def _keep(self, glances: Sequence[Glance]) -> List[Glance]:
+        """Keeps them, and gives none; or keeps none, since not all of the requests are open, and gives those that are.
+        (To keep each by itself would wait for a majority's disks as often.)"""
         are_so: List[Any] = []
         for it in glances:
             is_open = {"key": _b64(_key("o", it.request)), "target": "VERSION", "result": "GREATER", "version": 0}
             are_so += [self._is_there(it.request, str(it.number)), is_open]
         puts = [_put(_key("g", it.request), json.dumps([it.number, it.words, it.said]).encode()) for it in glances]
-        return bool(self._txn(are_so, puts).get("succeeded"))
+        told = self._txn(are_so, puts, [{"request_range": _range(_key(kind, it.request), keys_only=True)}
+                                        for it in glances for kind in "ro"])
+        if told.get("succeeded"):
+            return []
+        found = [it["response_range"].get("kvs", []) for it in told["responses"]]
+        return [it for it, opened, is_open in zip(glances, found[::2], found[1::2])
+                if is_open and opened and int(opened[0]["create_revision"]) == it.number]
 
     def words_put(self) -> Optional[int]:
         return self._count(b"cf/w/", b"cf/w0")
@@ -513,12 +543,13 @@ class _Watch:
     Attributes:
         is_lost: Whether it tells nothing any more: the connection was cut, the member has no leader, or the revision
             is compacted.
+        is_compacted: Whether it is that, so that no other watch from there on tells anything, either.
         told: The revision up to which it has told.
         owed: The revision that it has to tell until keys are looked at again, since by now they show a later one. A
             connection that is cut off in silence doesn't."""
 
     def __init__(self, host: str, port: int, revision: int) -> None:
-        self.is_lost, self.told, self.owed = False, revision, 0
+        self.is_lost, self.is_compacted, self.told, self.owed = False, False, revision, 0
         self._events: List[Any] = []
         self._lock = threading.Lock()
         self._asked = {**_range(b"cf/o/", b"cf/o0"), "start_revision": str(revision + 1)}
@@ -539,8 +570,9 @@ class _Watch:
             self._connection.request("POST", "/v3/watch", json.dumps({"create_request": self._asked}), WITH_LEADER)
             with contextlib.closing(self._connection.getresponse()) as answer:
                 result: Any = {}
-                while not result.get("canceled"):  # (it is, where the revision is compacted)
+                while not result.get("canceled"):
                     result = json.loads(answer.readline())["result"]
+                    self.is_compacted = int(result.get("compact_revision", 0)) > 0
                     events = result.get("events", [])
                     with self._lock:
                         self._events += events

@@ -5,7 +5,7 @@ import re
 import select
 import threading
 import time
-from typing import Any, Dict, Generator, Iterator, List, Mapping, NoReturn, Optional, Sequence, Tuple
+from typing import Any, Dict, Generator, Iterator, List, Mapping, NoReturn, Optional, Sequence, Set, Tuple
 
 from .rows import (FIRST, Broken, Entry, Glance, Opened, Pulse, Put, Row, StoreError, Timer, Transaction, Unknown,
                    Wanted, in_a_row)
@@ -56,15 +56,16 @@ ROWS = ("select r.id, null::int, null::bigint, null::bigint, null::bytea, name, 
         "join cf_request r on r.id = v.id union all "
         f"select request, w.at, word, token, case when octet_length(payload) <= {SMALL} then payload end, null, null, "
         "null from unnest(%s::bigint[], %s::int[]) as v(id, at) join cf_word w on request = v.id and w.at >= v.at")
-# What is other in a list since a mark of words and the last number that was told anew.
-OTHER = ("with mark as (select %s::xid8 as at), unclosed as materialized (select id, made_by from cf_request "
-         "where closed is null), anew as (select id from unclosed where made_by >= (select at from mark) union "
-         f"(select id from unclosed where id > %s order by id limit {ANEW})) "
-         f"select ({MARK}), null, null::double precision, null::int, null, null::int, string_agg(id::text, ','), "
-         "'open' from unclosed union all "
-         "select request, null, null, max(at) + 1, null, null, null, 'longer' from cf_word "
-         "where made_by >= (select at from mark) group by request union all "
-         f"select {COLUMNS}, 'told' from anew, {GLANCED} where r.id = anew.id")
+# What is other in a list since a mark, by what was put since then; and by all that are open. (The mark stands in each
+# place as a number: else whole tables are read, since as many rows are reckoned with as stand there.)
+SOME_OTHER = (f"select ({MARK}), null, null::double precision, null::int, null, null::int, null, 'mark' union all "
+              "select request, null, null, max(at) + 1, null, null, null, 'longer' from cf_word "
+              "where made_by >= %s::xid8 group by request union all "
+              f"select {COLUMNS}, 'told' from {GLANCED} where r.closed is null and r.made_by >= %s::xid8")
+ALL_OTHER = (f"{SOME_OTHER} union all select null, null, null, null, null, null, string_agg(id::text, ','), 'open' "
+             f"from cf_request where closed is null union all select {COLUMNS}, 'told' from (select id "
+             f"from cf_request where closed is null and id > %s order by id limit {ANEW}) as anew, {GLANCED} "
+             "where r.id = anew.id")
 SAFE = {"fsync": ("on",), "full_page_writes": ("on",), "transaction_read_only": ("off",)}
 # A network that lets nothing through is told after 20 s: else a call would wait for many minutes.
 NOTICES_SILENCE = {"tcp_user_timeout": 20_000, "keepalives_idle": 10, "keepalives_interval": 5, "keepalives_count": 2}
@@ -196,16 +197,23 @@ class Postgres(TableStore):
     def _mark(self) -> int:
         return int(self._ask(MARK)[0][0])
 
-    def _other(self, mark: _Mark) -> _Other:
-        longer, numbers, told, at = {}, set(), [], 0
-        for number, name, opened, many, head, words, said, kind in self._ask(OTHER, str(mark.words), mark.turn):
-            if kind == "open":
-                at, numbers = int(number), {int(it) for it in (said or "").split(",") if it}
+    def _other(self, mark: _Mark, is_all: bool) -> _Other:
+        longer, told, at = {}, [], 0
+        numbers: Optional[Set[int]] = None
+        since = str(mark.words)
+        for number, name, opened, many, head, words, said, kind in self._ask(
+                ALL_OTHER if is_all else SOME_OTHER, since, since, *([mark.turn] if is_all else [])):
+            if kind == "mark":
+                at = int(number)
+            elif kind == "open":
+                numbers = {int(it) for it in (said or "").split(",") if it}
             elif kind == "longer":
                 longer[int(number)] = int(many)
             else:
                 told.append((number, name, opened, many, head, words, said))
         opened = _opens(told)
+        if numbers is None:
+            return _Other(longer, at, None, opened, mark.turn)
         missed = numbers - mark.names.keys() - {it.number for it in opened}
         return _Other(longer, at, numbers, opened + self._opened(list(missed)), self._anew(numbers, mark.turn)[1])
 

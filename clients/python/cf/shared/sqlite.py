@@ -8,7 +8,7 @@ import time
 from typing import Any, Callable, Dict, Generator, List, Optional, Sequence, Tuple, TypeVar
 
 from .rows import FIRST, Broken, Entry, Glance, Opened, Put, StoreError, Timer, Transaction, Unknown, in_a_row
-from .tables import TableStore, _Mark, _Other
+from .tables import OVERVIEW, TableStore, _Mark, _opens, _Other
 
 T = TypeVar("T")
 SCHEMA = """
@@ -150,16 +150,20 @@ class SQLite(TableStore):
     def _mark(self) -> int:
         return int(self._ask("select coalesce(max(n), 0) from cf_word")[0][0])
 
-    def _other(self, mark: _Mark) -> Optional[_Other]:
+    def _other(self, mark: _Mark, is_all: bool) -> Optional[_Other]:
         # The words first: what comes between is told once more.
         at, words = self._mark(), mark.words
         if at < words:
             return None
         longer = self._ask("select request, max(at) + 1 from cf_word where n > ? group by request", words)
+        many = {int(number): int(many) for number, many in longer}
+        if not is_all:
+            new = self._ask(f"{OVERVIEW} and r.id > ?", max(mark.names, default=0))
+            return _Other(many, at, None, _opens(new), mark.turn)
         numbers = {int(number) for number, in self._ask("select id from cf_request where closed is null")}
         again, turn = self._anew(numbers, mark.turn)
         opened = self._opened([*(numbers - mark.names.keys()), *again])
-        return _Other({int(number): int(many) for number, many in longer}, at, numbers, opened, turn)
+        return _Other(many, at, numbers, opened, turn)
 
     def end(self, name: str, at: int, number: int = 0) -> bool:
         number = number or self._id(name)

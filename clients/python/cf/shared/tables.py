@@ -1,11 +1,13 @@
 """What stores whose rows are in SQL tables have in common: requests and their numbers, and what lists ask for."""
 import abc
 import heapq
+import time
 from typing import Any, Dict, Iterable, List, Mapping, NamedTuple, Optional, Sequence, Set, Tuple
 
 from .rows import FIRST, HEAD, Changes, Glance, Gone, Listed, Open, Opened, Put, Store, flow_of
 
-ANEW = 200  # requests that are told anew each time
+ANEW = 100  # requests that are told anew with each look at all that are open
+BETWEEN_ALL = 0.5  # seconds between two such looks: what is closed is told by them alone
 MOST_VALUES = 500  # in a statement
 COLUMNS = ("r.id, r.name, r.opened, (select max(at) + 1 from cf_word where request = r.id), "
            f"substr(r.plan, 1, {HEAD}), g.words, g.said")
@@ -16,21 +18,22 @@ FIRST_OPENED = f"select {COLUMNS}, f.many from ({{}}) f, {GLANCED} where r.id = 
 
 class _Mark(NamedTuple):
     """What a list of open requests was of: the words until then, or None where it had the first requests alone; its
-    names by numbers; and the last number that was told anew."""
+    names by numbers; the last number that was told anew; and when all that are open are looked at again."""
 
     words: Any
     names: Mapping[int, str]
     turn: int
+    due: float
 
 
 class _Other(NamedTuple):
     """What is other in a list: how many words those requests have, by number, to which some were put; the mark of the
-    words until now; the numbers of all that are open; those that are new, and some that are told anew; and the last of
-    these."""
+    words until now; the numbers of all that are open, or None where they weren't looked at; those that are new, and
+    some that are told anew; and the last of these."""
 
     longer: Mapping[int, int]
     words: Any
-    numbers: Set[int]
+    numbers: Optional[Set[int]]
     opened: List[Open]
     turn: int
 
@@ -101,19 +104,23 @@ class TableStore(Store):
             if first and int(first[0][-1]) > 2 * FIRST:
                 opened = _opens(row[:-1] for row in first)
                 return (Changes(opened, {}, [], int(first[0][-1])),
-                        _Mark(None, {it.number: it.name for it in opened}, 0))
+                        _Mark(None, {it.number: it.name for it in opened}, 0, 0.0))
         before: Mapping[int, str] = {} if mark is None else mark.names
-        other = None if mark is None or mark.words is None else self._other(mark)
+        is_all = mark is not None and time.monotonic() >= mark.due
+        other = None if mark is None or mark.words is None else self._other(mark, is_all)
         if mark is None or other is None:
             words = self._mark()  # (first: what comes between is told once more)
             opened = self.overview()
-            names = {it.number: it.name for it in opened}
-            return Changes(opened, {}, _gone(before, before.keys() - names, names)), _Mark(words, names, 0)
-        names = {number: name for number, name in before.items() if number in other.numbers}
-        names.update((it.number, it.name) for it in other.opened)
+            now = {it.number: it.name for it in opened}
+            return (Changes(opened, {}, _gone(before, before.keys() - now, now)),
+                    _Mark(words, now, 0, time.monotonic() + BETWEEN_ALL))
+        new = {it.number: it.name for it in other.opened if before.get(it.number) != it.name}
+        names = _with(before, new) if other.numbers is None else {
+            **{number: name for number, name in before.items() if number in other.numbers}, **new}
+        gone = [] if other.numbers is None else _gone(before, before.keys() - other.numbers, names)
         many = {names[number]: words for number, words in other.longer.items() if number in names}
-        return (Changes(other.opened, many, _gone(before, before.keys() - other.numbers, names)),
-                _Mark(other.words, names, other.turn))
+        return (Changes(other.opened, many, gone),
+                _Mark(other.words, names, other.turn, time.monotonic() + BETWEEN_ALL if is_all else mark.due))
 
     @staticmethod
     def _anew(numbers: Iterable[int], turn: int) -> Tuple[List[int], int]:
@@ -127,8 +134,9 @@ class TableStore(Store):
         """Which words stand now, for `_Mark.words`."""
 
     @abc.abstractmethod
-    def _other(self, mark: _Mark) -> Optional[_Other]:
-        """What is other since a mark, or None where that isn't known."""
+    def _other(self, mark: _Mark, is_all: bool) -> Optional[_Other]:
+        """What is other since a mark, or None where that isn't known. Without `is_all` it costs by what is other alone,
+        and not by how many are open: then what is closed isn't told, and what is opened again may not be."""
 
     def _opened(self, numbers: Sequence[int]) -> List[Open]:
         """Those of these requests that are open."""
@@ -157,6 +165,14 @@ def _opens(rows: Iterable[Tuple[Any, ...]]) -> List[Open]:
         glance = None if words is None else Glance(str(name), int(number), int(words), str(said))
         told.append(Open(str(name), int(number), float(opened), int(many or 0), flow_of(str(head)), glance))
     return told
+
+
+def _with(before: Mapping[int, str], new: Mapping[int, str]) -> Mapping[int, str]:
+    """The names of before and these. One that another request had has the new number alone."""
+    if not new:
+        return before
+    taken = set(new.values())
+    return {**{number: name for number, name in before.items() if name not in taken}, **new}
 
 
 def _gone(before: Mapping[int, str], numbers: Iterable[int], names: Mapping[int, str]) -> List[str]:

@@ -18,7 +18,7 @@ import unittest.mock
 
 from case import Case
 from cf.shared import Put, Unknown, connect, etcd
-from cf.shared.rows import Wanted
+from cf.shared.rows import Glance, Wanted
 
 HOST = "127.0.0.1"
 
@@ -290,16 +290,29 @@ class OneMember(EtcdCase):
         self.direct.drop("a"), self.direct.drop("b")
         self.direct.open("b", "{}"), self.direct.open("c", "{}")
         self.between.is_open.set()
-        self.until(lambda: known.is_so({"b": 0, "c": 0}))
+        # (the next watch begins before that, and may tell it in parts)
+        with unittest.mock.patch.object(etcd._Watch, "events", lambda watch: watch._events[:1]):
+            self.until(lambda: known.is_so({"b": 0, "c": 0}))
+            self.until(lambda: known.look() or not known.mark.watch.events())
         self.assertEqual((known.opened, known.gone), (["a", "b", "b", "c"], ["a"]))
+
+    def test_a_watch_that_is_cut_costs_little(self):
+        """The next one tells what it hasn't, so that nobody reads all keys."""
+        known = self.followed()
+        with unittest.mock.patch.object(self.store, "_keys", side_effect=AssertionError("all keys are read")):
+            self.between.cut()
+            self.until(lambda: known.mark.watch.is_lost)
+            self.change()
+            self.told_once(known)
 
     def test_a_watch_that_is_silent(self):
         """Looks at keys tell what it doesn't. Once it is seen not to, another takes its place."""
         with unittest.mock.patch.object(etcd, "BETWEEN_CHECKS", 0.5):
             known = self.followed()
-            for _ in range(3):
-                time.sleep(0.5)
-                known.look()
+            with unittest.mock.patch.object(self.store, "_keys", side_effect=AssertionError("all keys are read")):
+                for _ in range(3):
+                    time.sleep(0.5)
+                    known.look()
             self.assertEqual(self.between.watches, 1)  # (it has told all that keys show)
             self.between.is_silent = True
             self.change()
@@ -307,6 +320,14 @@ class OneMember(EtcdCase):
             self.between.is_silent = False
             self.until(lambda: known.look() or self.between.watches == 2)
         self.told_once(known)
+
+    def test_what_is_closed_in_silence(self):
+        """No key tells of that, but how many there are does."""
+        with unittest.mock.patch.object(etcd, "BETWEEN_CHECKS", 0.3):
+            known = self.followed()
+            self.between.is_silent = True
+            self.direct.end("a", 1)
+            self.until(lambda: known.is_so({"b": 0}))
 
     def test_a_store_that_is_away_while_it_is_told_of_a_request(self):
         """What the watch has told isn't lost."""
@@ -318,6 +339,32 @@ class OneMember(EtcdCase):
             known.look()
         self.between.refuses = False
         self.told_once(known, 0)
+
+    def test_glances_of_which_some_are_of_closed_requests(self):
+        """The others are kept together, and not each by itself."""
+        opened = [self.direct.open(f"r{k:02}", "{}") for k in range(50)]
+        self.direct.end("r03", 0), self.direct.drop("r07"), self.direct.drop("r08"), self.direct.open("r08", "{}")
+        with unittest.mock.patch.object(self.direct, "_txn", side_effect=self.direct._txn) as txn:
+            self.direct.keep_glances([Glance(it.name, it.number, 0, "x") for it in opened])
+        self.assertEqual(txn.call_count, 2)
+        kept = {it.name for it in self.direct.overview() if it.glance is not None}
+        self.assertEqual(kept, {it.name for it in opened} - {"r03", "r07", "r08"})
+
+    def test_a_member_that_lags_behind(self):
+        """It doesn't know the plan of a request that the watch has told of: a majority is asked."""
+        txn, many = self.store._txn, []
+
+        def lagging(compares, success, failure=()):
+            told = txn(compares, success, failure)
+            if success[0].get("request_range", {}).get("serializable"):
+                many.append(len(success))
+                return {"header": {"revision": "1"}, "responses": [{"response_range": {}} for _ in success]}
+            return told
+        known = self.followed()
+        with unittest.mock.patch.object(self.store, "_txn", lagging):
+            self.direct.open("c", "{}")
+            self.until(lambda: known.is_so({"a": 1, "b": 0, "c": 0}))
+        self.assertEqual((known.opened, many), (["a", "b", "c"], [1]))
 
     def test_many_keys(self):
         """They are read some at a time, as they were at one moment."""

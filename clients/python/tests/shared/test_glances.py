@@ -6,15 +6,17 @@ glances there.
 """
 import time
 import unittest
+import unittest.mock
 
 from case import Case, STORES
 import shared_functions as f
 from cf.service import Flow
 from cf.shared import (Abandoned, Broken, connect, DurableService, Grouped, Memory, new_session, Put, RowView, Store,
-                       StoreError, Unknown)
+                       StoreError, tables, Unknown)
 from cf.shared.glances import glance_of, read
 from cf.shared.plans import text_of
 from cf.shared.rows import FIRST, flow_of, Glance, Gone, Wanted
+from cf.shared.tables import TableStore
 
 
 class Lists(Case):
@@ -103,6 +105,53 @@ class Lists(Case):
             time.sleep(0.1)
             opened, _, gone = changed()
             self.assertEqual(("c" in opened, gone), (False, set()))
+
+    def test_a_look_that_tells_only_what_is_put(self):
+        """.. tells neither what is closed nor what hasn't changed, and takes a name for the request that has it now."""
+        for address in [self.address, *STORES]:
+            store = connect(address)
+            if isinstance(store, TableStore):
+                with self.subTest(address):
+                    self.looks_at_what_is_put(store)
+            store.close()
+
+    def looks_at_what_is_put(self, store):
+        names, mark = [f"{self.name} {k}" for k in range(5)], None
+        opened = {name: store.open(name, "{}") for name in names}
+
+        def told(is_told=lambda _: True):
+            """What the first look tells that tells this."""
+            found = []
+
+            def asked():
+                nonlocal mark
+                changes, mark = store.changes(mark)
+                found[:] = [changes]
+                return is_told(changes)
+            self.until(asked)
+            return found[0]
+        told(lambda it: it.many is None)
+        with unittest.mock.patch.object(tables, "BETWEEN_ALL", 3600.0):
+            told(lambda _: mark.due > time.monotonic() + 3000)
+            told(lambda it: not it.opened)  # (PostgreSQL tells it once more while a transaction is open)
+            store.end(names[0], 0), store.append(Put(names[1], 0, [(1, 11)], {}))
+            changes = told(lambda it: it.longer)
+            self.assertEqual((changes.opened, changes.longer, changes.gone), ([], {names[1]: 1}, []))
+            store.drop(names[2])
+            again = store.open(names[2], "{}")
+            changes = told(lambda it: it.opened)
+            self.assertEqual(([it.number for it in changes.opened], changes.gone), ([again.number], []))
+            before = opened[names[2]].number  # (in PostgreSQL a put that was under way lands after the drop)
+            store._ask(f"insert into cf_word (request, at, word, token) values ({before}, 6, 1, 11)")
+            store.append(Put(names[1], 1, [(1, 12)], {}))
+            changes = told(lambda it: it.longer.get(names[1]) == 2)
+            self.assertEqual((changes.longer, changes.gone), ({names[1]: 2}, []))
+            mark = mark._replace(due=0.0)
+            self.assertEqual(told().gone, [names[0]])
+            mark = mark._replace(due=0.0)
+            self.assertGreaterEqual(len(told().opened), 4)  # (what is missed comes anew)
+        for name in names:
+            store.drop(name)
 
     def test_the_first_of_many(self):
         """.. are told alone at first, by name, and with how many there are."""

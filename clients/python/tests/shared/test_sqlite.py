@@ -37,7 +37,7 @@ class SQLite(Case):
         store = connect(self.address)
         for k in range(3):
             store.open(f"r{k}", "{}")
-        with unittest.mock.patch.object(tables, "ANEW", 1):
+        with unittest.mock.patch.object(tables, "ANEW", 1), unittest.mock.patch.object(tables, "BETWEEN_ALL", 0.0):
             _, mark = store.changes(None)
             for many in (1, 2):
                 for k in range(3):
@@ -61,11 +61,11 @@ class SQLite(Case):
         _, mark = store.changes(None)
         store.end("a", 3), store.drop("a")
         store.append(Put("b", 0, [(1, 7)], {})), store.append(Put("c", 0, [(1, k) for k in range(3)], {}))
-        changes, mark = store.changes(mark)
+        changes, mark = store.changes(mark._replace(due=0.0))
         self.assertEqual({**{it.name: it.words for it in changes.opened}, **changes.longer}, {"b": 1, "c": 3})
         store.drop("c")
         store.open("d", "{}")
-        changes, mark = store.changes(mark)
+        changes, mark = store.changes(mark._replace(due=0.0))
         self.assertEqual((changes.gone, {it.name: it.words for it in changes.opened}), (["c"], {"b": 1, "d": 0}))
         store.close()
 

@@ -57,7 +57,8 @@ class WebCase(Case):
         threading.Thread(target=page.serve_forever, kwargs={"poll_interval": 0.02}, daemon=True).start()
         self.pages.append(page)
         self.page, self.port = page, page.server_address[1]
-        self.cookie = self.ask("GET", f"/?token={page.door.token}", cookie=None)[1]["Set-Cookie"].split(";")[0]
+        _, headers, self.entered = self.ask("GET", f"/?token={page.door.token}", cookie=None)
+        self.cookie = headers["Set-Cookie"].split(";")[0]
         return page
 
     def ask(self, method, path, body=None, cookie="", **headers):
@@ -113,7 +114,8 @@ class Door(WebCase):
         self.assertEqual((status, headers["Set-Cookie"].split("; ")[1:]), (200, ["Path=/", "HttpOnly",
                                                                                "SameSite=Strict"]))
         self.assertNotIn(door.token, headers["Set-Cookie"] + body.decode())
-        self.assertEqual(self.ask("GET", "/")[0], 200)
+        again, is_page = self.ask("GET", "/"), headers["Content-Security-Policy"] == self.page.page.policy
+        self.assertEqual((again[0], is_page, again[2][:99]), (200, True, body[:99]))
         for path in ("/", "/data", "/live", "/metrics", "/payload", "/picture", "/?token=", "/?token=x"):
             with self.subTest(path):
                 status, headers, body = self.ask("GET", path, cookie=None)
@@ -371,6 +373,93 @@ class Lists(WebCase):
         asks = DurableService(store if address == "memory://" else connect(address), 0, functions=unknown)
         self.services.append(asks)
         asks.request(name).supply(function)
+
+    @staticmethod
+    def handed(body):
+        """The list that a page was handed."""
+        return json.loads(body.decode().split('id="said">')[1].split("</script>")[0])["first"]
+
+    def test_a_page_comes_with_its_list(self):
+        """It waits for a store that tells its first requests a moment later."""
+        class Late(Memory):
+            def overview(self):
+                time.sleep(0.2)
+                return super().overview()
+        store = Late()
+        store.open(HOSTILE, text_of(self.flow(), f.functions))
+        self.page_over(store)
+        self.assertEqual([it["name"] for it in self.handed(self.entered)["rows"]], [HOSTILE])
+        self.until(lambda: self.rows()[HOSTILE]["state"] == "ready")
+        told, first = self.data(view="requests"), self.handed(self.ask("GET", "/")[2])
+        self.assertEqual(first, {**told, "now": first["now"], "rate": first["rate"]})
+
+    def test_a_list_is_answered_while_others_are_taken_over(self):
+        store = Memory()
+        store.open("r", text_of(self.flow(), f.functions))
+        page = self.page_over(store)
+        self.until(lambda: "r" in self.rows())
+        with page.board._change:  # (for 10,000 requests it is taken for a second, where processors are)
+            self.assertIn("r", self.rows())
+            self.assertEqual(len(self.handed(self.ask("GET", "/")[2])["rows"]), 1)
+
+    def test_a_page_of_a_store_that_says_nothing_yet(self):
+        """.. comes all the same."""
+        answers = threading.Event()
+
+        class Silent(Memory):
+            def overview(self):
+                answers.wait(30)
+                return super().overview()
+        began = time.monotonic()
+        self.page_over(Silent())
+        self.assertLess(time.monotonic() - began, 5)
+        self.assertEqual((self.handed(self.entered)["known"], self.handed(self.entered)["rows"]), (False, []))
+        answers.set()
+
+    def test_looks_take_turns_by_what_they_cost(self):
+        """A store that is slow since others take the processors is looked at as often as it answers."""
+        class Slow(Memory):
+            looks = 0
+
+            def overview(self):
+                self.looks += 1
+                time.sleep(0.2)
+                return super().overview()
+        store = Slow()
+        self.page_over(store)
+        time.sleep(2)
+        self.assertGreater(store.looks, 4)
+
+    def test_a_put_of_glances_holds_nobody_up(self):
+        """It may wait for a disk for long."""
+        waits, goes_on = threading.Event(), threading.Event()
+
+        class Slow(Memory):
+            def keep_glances(self, glances):
+                waits.set()
+                goes_on.wait(30)
+        store = Slow()
+        store.open("a", text_of(self.flow(), f.functions))
+        self.page_over(store)
+        self.assertTrue(waits.wait(20))
+        store.open("b", text_of(self.flow(), f.functions))
+        self.until(lambda: "b" in self.rows(), 5)
+        goes_on.set()
+
+    def test_rows_that_nobody_looks_at_are_read_now_and_then(self):
+        class Counting(Memory):
+            reads = 0
+
+            def read_rows(self, wanted):
+                self.reads += 1
+                return super().read_rows(wanted)
+        store = Counting()
+        page = self.page_over(store)
+        for k in range(20):
+            store.open(f"r{k}", text_of(self.flow(), f.functions))
+            time.sleep(0.1)
+        self.until(lambda: all((line := page.board.line(f"r{k}")) and line.seen for k in range(20)))
+        self.assertLess(store.reads, 8)
 
     def test_a_session_that_is_gone(self):
         store = Memory()

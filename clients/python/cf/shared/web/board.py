@@ -5,7 +5,8 @@ import logging
 import operator
 import threading
 import time
-from typing import Any, Dict, List, NamedTuple, Optional, Sequence, Tuple
+from collections import deque
+from typing import Any, Deque, Dict, List, NamedTuple, Optional, Sequence, Tuple
 
 from ..glances import Queue, Seen, glance_of, read
 from ..rows import Broken, Changes, Glance, Gone, Open, Store, StoreError, Unknown
@@ -13,14 +14,17 @@ from ..view import RowView, Watcher
 from .reading import Readings
 
 LOGGER = logging.getLogger("cf.requests")
-LEAST_BETWEEN = 0.1  # seconds between two looks at the store, or so many times what the last one took:
-SHARE = 2
-BEATS = 1.0  # seconds between two looks at sessions
+LEAST_BETWEEN = 0.05  # seconds between two looks at the store, or so many times what the last took of a processor:
+SHARE = 3  # (not by the clock: where others take the processors, a look takes ten times as long and costs the same)
+BEATS = 1.0  # seconds between two looks at sessions, besides so many times what the last one took by the clock:
+BEATS_SHARE = 2
 READING = 0.25  # seconds of a round in which rows are read whose glances are old
 TOGETHER = 60  # rows that are read together
 WANTED = 5.0  # seconds for which a request counts as looked at
 RESTED = 0.5  # seconds without a new word, before a request is read that nobody looks at
+BETWEEN_RESTED = 1.0  # seconds between two reads of such, where they are few
 KEPT = 200  # glances that one put keeps
+BETWEEN_PUTS = 0.2  # seconds between two looks for glances that are to be kept, and two puts where they are many
 LEAST_AHEAD = 0.2  # seconds by which the store's clock has to move against this one's
 RATED = 10.0  # seconds over which words a second are counted
 STATES = ("running", "gone", "ready", "waiting", "done", "broken", "unread")
@@ -77,6 +81,7 @@ class Board:
         self._order: List[Line] = []  # by name
         self._behind: Dict[str, None] = {}  # requests with more words than their glances have seen
         self._made: Dict[str, Glance] = {}  # glances that the store hasn't got
+        self._looked: Deque[Tuple[float, Sequence[str]]] = deque()  # who was looked at, and isn't in `_wanted` yet
         self._wanted: Dict[str, float] = {}
         self._sessions: Dict[int, Session] = {}
         self._first: Dict[int, int] = {}  # the beats that sessions had when they were first looked at
@@ -84,21 +89,25 @@ class Board:
         self._rates: List[Tuple[float, int]] = []
         self._watcher, self._lease = Watcher(store, lease), lease
         self._mark: Any = None
-        self._next_list = self._next_beats = self._next_put = 0.0
+        self._next_list = self._next_beats = self._next_put = self._next_rested = 0.0
         self._change, self._stops = threading.Condition(), threading.Event()
-        self._thread = threading.Thread(target=self._run, name="cf-board", daemon=True)
+        # (a put waits for the disk, and for a majority in etcd: what is looked at doesn't wait for that)
+        self._threads = [threading.Thread(target=self._run, name="cf-board", daemon=True)] + (
+            [] if is_read_only else [threading.Thread(target=self._run_keeper, name="cf-keeper", daemon=True)])
 
     def start(self) -> None:
         """Begins to look."""
-        self._thread.start()
+        for it in self._threads:
+            it.start()
 
     def stop(self) -> None:
         """Looks no more."""
         self._stops.set()
         with self._change:
             self._change.notify_all()
-        if self._thread.ident is not None:
-            self._thread.join(10)
+        for it in self._threads:
+            if it.ident is not None:
+                it.join(10)
 
     @property
     def is_stopped(self) -> bool:
@@ -110,6 +119,14 @@ class Board:
         with self._change:
             self._change.wait_for(lambda: self.version != version or self._stops.is_set(), seconds)
             return self.version
+
+    def wait_for_first(self, seconds: float) -> None:
+        """Waits until the first requests are known, or so many seconds."""
+        def is_there() -> bool:
+            return self.is_known or self.many > 0 or self.away != "" or self._stops.is_set()
+        if not is_there():  # (else nobody waits here while the others are taken over)
+            with self._change:
+                self._change.wait_for(is_there, seconds)
 
     def soon(self) -> None:
         """Has all looked at anew: something was closed or dropped here."""
@@ -127,9 +144,7 @@ class Board:
 
     def want(self, names: Sequence[str]) -> None:
         """Says that somebody looks at these requests, so that they are read first."""
-        now = time.monotonic()
-        with self._change:
-            self._wanted.update((name, now) for name in names)
+        self._looked.append((time.monotonic(), names))  # (without the lock, so that who asks for a list doesn't wait)
 
     def _state(self, line: Line) -> str:
         if line.why:
@@ -162,10 +177,10 @@ class Board:
 
     def rate(self) -> Optional[float]:
         """Words a second."""
-        with self._change:
-            if len(self._rates) < 2:
-                return None
-            (began, first), (ended, last) = self._rates[0], self._rates[-1]
+        rates = self._rates
+        if len(rates) < 2:
+            return None
+        (began, first), (ended, last) = rates[0], rates[-1]
         return max(0.0, (last - first) / (ended - began)) if ended > began else None
 
     # The thread.
@@ -201,18 +216,17 @@ class Board:
     def _round(self) -> None:
         now = time.monotonic()
         if now >= self._next_list:
-            self._next_list = now
+            self._next_list, began = now, time.thread_time()
             changes, mark = self.store.changes(self._mark)
             self._say(self._take(changes))
             self._mark = mark
-            self._next_list += SHARE * (time.monotonic() - now) if self.is_known else 0.0
+            self._next_list += SHARE * (time.thread_time() - began) if self.is_known else 0.0
         self._read_some()
         began = time.monotonic()
         if began >= self._next_beats:
             self._next_beats = began + BEATS  # (first: where a store is slow, rows are read all the same)
             self._say(self._look_at_sessions())
-            self._next_beats += SHARE * (time.monotonic() - began)
-        self._keep()
+            self._next_beats += BEATS_SHARE * (time.monotonic() - began)
 
     def _say(self, is_other: bool) -> None:
         if is_other:
@@ -301,10 +315,16 @@ class Board:
     def _read_some(self) -> None:
         """Reads rows whose glances are old, for a while: first those that somebody looks at."""
         now = time.monotonic()
+        while self._looked:
+            at, names = self._looked.popleft()
+            self._wanted.update(dict.fromkeys(names, at))
         with self._change:
             wanted = [name for name in self._behind if now - self._wanted.get(name, -WANTED) < WANTED]
             rested = [] if len(wanted) >= 100 else [
                 name for name in self._behind if name not in self._wanted and self._rests(name, now)]
+        if len(rested) < TOGETHER and now < self._next_rested:
+            rested = []
+        self._next_rested = now + BETWEEN_RESTED if rested else self._next_rested
         for names in (wanted, rested):
             for k in range(0, len(names), TOGETHER):
                 if time.monotonic() > now + READING or self._stops.is_set():
@@ -345,15 +365,21 @@ class Board:
                 self._made[name] = made
             line.state = self._state(line)
 
+    def _run_keeper(self) -> None:
+        while not self._stops.wait(BETWEEN_PUTS):
+            try:
+                self._keep()
+            except Exception:  # whatever a store raises, the next ones are kept
+                LOGGER.debug("glances aren't kept", exc_info=True)
+
     def _keep(self) -> None:
         """Keeps glances that were made here in the store, where the requests rest."""
         now = time.monotonic()
-        if self.is_read_only or now < self._next_put or not self._made:
+        if now < self._next_put or not self._made:
             return
         with self._change:
             rests = [name for name in self._made if name in self._lines and now - self._lines[name].changed > 2][:KEPT]
             some = [self._made.pop(name) for name in rests]
-        self._next_put = now + (0.2 if len(some) == KEPT else 2)
+        self._next_put = now + (BETWEEN_PUTS if len(some) == KEPT else 2)
         if some:
-            with contextlib.suppress(StoreError):
-                self.store.keep_glances(some)
+            self.store.keep_glances(some)

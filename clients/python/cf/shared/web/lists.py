@@ -1,5 +1,6 @@
 """What the lists show: requests by filters, sessions, queues. All of it is known, so no row is read."""
 import itertools
+import operator
 import time
 from collections import Counter
 from typing import Any, Dict, List, NamedTuple, Optional
@@ -11,6 +12,7 @@ from .board import STATES, Board, Line
 PAGE = 100  # requests
 MOST_FLOWS = 200  # that a filter names
 MOST_RUNS = 50  # stages that a session's line names
+FLOW, STATE = operator.attrgetter("flow"), operator.attrgetter("state")
 
 
 class Filter(NamedTuple):
@@ -40,8 +42,8 @@ def requests(board: Board, wanted: Filter) -> Dict[str, Any]:
     if wanted.state == "closed":
         return closed(board, wanted)
     lines = board.lines()
-    flows, found = {line.flow for line in lines}, _fitting(lines, wanted)
-    counts = Counter([line.state for line in found])
+    flows, found = set(map(FLOW, lines)), _fitting(lines, wanted)
+    counts = Counter(map(STATE, found))
     if wanted.state:
         found = [line for line in found if line.state == wanted.state]
     page = list(itertools.islice((line for line in found if line.name > wanted.behind), PAGE + 1))

@@ -28,7 +28,10 @@ from .wording import PAGE, TEXTS
 LOGGER = logging.getLogger("cf.requests")
 LARGEST = 1_000_000  # bytes of an action
 MOST_LIVE = 64  # pages that are sent what changes
-BETWEEN = 0.25  # seconds between two sends to a page
+BETWEEN = 0.1  # seconds between two sends of a list to a page, or so many times what the last took of a processor:
+SHARE = 4
+BETWEEN_ASKED = 0.25  # the same of what the store is asked for, or twice what the last one took by the clock
+FIRST_WITHIN = 0.5  # seconds for which a page waits for the first requests, so that it has them
 AT_FIRST = 0.02  # the same while nothing is known
 ALIVE = 10.0  # seconds after which a page is told that the server is there
 STILL = 1.0  # seconds after which a page is asked for anew even where nothing is known to have changed
@@ -158,17 +161,25 @@ class Handler(BaseHTTPRequestHandler):
             self._act(self.rfile.read(int(length)))
 
     def _enter(self, token: str) -> None:
-        """Changes the token for a cookie. The next request is the page's own, so that it has the cookie."""
-        if not self.server.door.is_token(token):
+        """Changes the token for a cookie, together with the page. What the page asks for is its own, so that it has the
+        cookie."""
+        if self.server.door.is_token(token):
+            self._page({"Set-Cookie": self.server.door.set_cookie()})
+        else:
             self._say(401, TEXTS["no_token"])
-            return
-        text = f"<!doctype html><meta http-equiv=refresh content='0;url=/'><title>cf</title>{TEXTS['opening']}"
-        self._send(200, "text/html", text.encode(), NOTHING, {"Set-Cookie": self.server.door.set_cookie()})
+
+    def _page(self, more: Optional[Mapping[str, str]] = None) -> None:
+        """The page, with the list of all requests as it is known. So a browser can show it without another request."""
+        server = self.server
+        server.board.wait_for_first(FIRST_WITHIN)
+        said = {"texts": PAGE, "token": server.door.post_token, "readOnly": server.is_read_only, "who": server.who,
+                "title": server.title, "first": server.asked({})}
+        self._send(200, "text/html", server.page.text(said), server.page.policy, more)
 
     def _get(self, path: str, given: Asked) -> None:
         server = self.server
         pages: Dict[str, Callable[[], None]] = {
-            "/": lambda: self._send(200, "text/html", server.page.text(self._said()), server.page.policy),
+            "/": self._page,
             "/data": lambda: self._json(200, server.asked(given)),
             "/live": lambda: self._live(given),
             "/payload": lambda: self._json(200, server.details.payload(given.get("name", ""), _number(given, "number"),
@@ -183,12 +194,6 @@ class Handler(BaseHTTPRequestHandler):
         status, why = self._tried(answer)
         if why:
             self._say(status, why)
-
-    def _said(self) -> Dict[str, Any]:
-        """What the page is handed."""
-        server = self.server
-        return {"texts": PAGE, "token": server.door.post_token, "readOnly": server.is_read_only, "who": server.who,
-                "title": server.title}
 
     @staticmethod
     def _tried(call: Callable[[], None], away: str = "silent") -> Tuple[int, str]:
@@ -261,22 +266,27 @@ class Handler(BaseHTTPRequestHandler):
 
     def _send_changes(self, given: Asked) -> None:
         board, version, sent, sent_at = self.server.board, -1, "", 0.0
+        is_asked = given.get("view") == "request" or given.get("state") == "closed"
         while not board.is_stopped:
             version = board.wait(version, STILL)
-            began = time.monotonic()
+            now, began = time.monotonic(), time.thread_time()
             told: List[Answer] = []
             status, why = self._tried(lambda: told.append(self.server.asked(given)))
-            now = {"view": "failed", "status": status, "said": why, "now": time.time()} if why else told[0]
-            data = json.dumps({key: it for key, it in now.items() if key not in MOMENT})
+            its = {"view": "failed", "status": status, "said": why, "now": time.time()} if why else told[0]
+            data = json.dumps({key: it for key, it in its.items() if key not in MOMENT})
             if data != sent:
-                moment = json.dumps({key: now[key] for key in MOMENT if key in now})
+                moment = json.dumps({key: its[key] for key in MOMENT if key in its})
                 self.wfile.write(f"data: {data[:-1]}, {moment[1:]}\n\n".encode())
-                sent, sent_at = data, began
-            elif began - sent_at > ALIVE:
+                sent, sent_at = data, now
+            elif now - sent_at > ALIVE:
                 self.wfile.write(b": here\n\n")
-                sent_at = began
+                sent_at = now
             # (what takes long is asked for less often, and the first requests are sent as soon as they are known)
-            time.sleep(max(BETWEEN if board.is_known or board.many else AT_FIRST, 2 * (time.monotonic() - began)))
+            if is_asked:
+                time.sleep(max(BETWEEN_ASKED, 2 * (time.monotonic() - now)))
+            else:
+                is_known = board.is_known or board.many
+                time.sleep(max(BETWEEN if is_known else AT_FIRST, SHARE * (time.thread_time() - began)))
 
     # Answers.
 

@@ -35,7 +35,6 @@ TEXTS = {
     "no_token": "Open the address that the command has printed, with its token.",
     "no_post_token": "The request doesn't have the token of the page.",
     "too_large": "The request is too large.",
-    "opening": "Opening the page ..",
     # the command
     "address": "Requests of {}: {}",
     "all_may": "Warning: it listens on {}, so others reach it over the network, without encryption.",
