@@ -1,5 +1,6 @@
 pub mod Own
 pub mod Memory
+pub mod Granted
 pub mod Fitting
 pub mod Landing
 pub mod Tokens

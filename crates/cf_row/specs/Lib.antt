@@ -1,4 +1,5 @@
 pub mod Rows
+pub mod Grants
 pub mod Numbers
 pub mod Puts
 pub mod Engines
