@@ -4,22 +4,26 @@ use Rattle.std.proofs.Common.{Result, Ok, Err}
 use Rattle.std.specs.Result.{OnErr, OnOk}
 use Rattle.std.specs.Prelude.{◌≢◌, ◌==◌}
 use Rattle.std.specs.Option.{option_map_or}
+use Rattle.std.proofs.lemmas.Bool.{eq-eqb}
 use Rattle.std.proofs.lemmas.List.{append_assoc}
-use Rattle.std.proofs.lemmas.List.Elements.{All-contains, Contains-append_right}
+use Rattle.std.proofs.lemmas.List.Elements.{All-contains, Contains-append_cases, Contains-append_right}
 use Rattle.cf_forms.specs.Plans.{Planned, PlannedStage, attached_stage}
 use Rattle.cf_model.specs.declared.stage.Stage.{Stage}
 use Rattle.cf_model.specs.declared.stage.Stage.TheVariants.{Pending, Ready, Claimed as IsClaimed, Linked, Settled}
+use Rattle.cf_model.specs.declared.replies.Claimed.TheVariants.{Granted, Settled as IsSettled, Taken, NotReady}
 use Rattle.cf_model.specs.declared.replies.Finished.{Finished}
 use Rattle.cf_model.specs.declared.replies.Finished.TheVariants.{NotYours}
 use Rattle.cf_model.specs.declared.events.Event.{Event}
 use Rattle.cf_model.specs.declared.events.Event.TheVariants.{Complete as Completes, Fail as Fails, FailAs as FailsAs, Cancel as Cancels, Claim as Claims, Finish as Finishes, Tick as Ticks, Attach as Attaches}
 use Rattle.cf_model.specs.declared.events.Reply.{Reply}
-use Rattle.cf_model.specs.declared.events.Reply.TheVariants.{Claim as ToldClaim}
+use Rattle.cf_model.specs.declared.events.Reply.TheVariants.{Flag as ToldFlag, Claim as ToldClaim, Finish as ToldFinish, Tick as ToldTick, Attach as ToldAttach}
 use Rattle.cf_outcome.specs.declared.outcome.Outcome.TheVariants.{Value as Gives, Fault}
 use Rattle.cf_outcome.specs.declared.outcome.Cause.TheVariants.{Thrown}
 use Rattle.cf_model.specs.States.{State, claim_at, outcome_at, stage_at, start}
 use Rattle.cf_model.specs.Events.{answered, attached_by, cause_of, claimed_by, finished_by, state_after}
 use Rattle.cf_model.proofs.OpenClaims.{cancelled_claims, claim_before_close, claim_before_push, claim_before_set, claim_in, finished_claims, none_open, same_claim, settled_claims, ticked_claims}
+use Rattle.cf_model.specs.Laws.{grants_of, is_grant}
+use Rattle.cf_model.proofs.Moves.{grants_once}
 use Rattle.cf_event.specs.Words.{word_of}
 use Rattle.cf_event.specs.Decoding.{event_of}
 use Rattle.cf_ledger.specs.Ledgers.{AreTaken, Does, Ledger, roomier, with_more}
@@ -27,9 +31,12 @@ use Rattle.cf_ledger.proofs.Growth.{answered_more}
 use Rattle.cf_row.specs.declared.entry.Entry.{Entry}
 use Rattle.cf_row.specs.declared.grants.Claim.{Claim}
 use Rattle.cf_row.specs.Rows.{IsKept, history_of, session_of, words_in}
-use Rattle.cf_row.specs.Grants.{claim_of, granted_by, granted_from, granted_in}
-use Rattle.cf_row.proofs.Elements.{contains_first, contains_later}
+use Rattle.cf_row.specs.Grants.{ClaimsAreOnes, claim_of, granted_by, granted_from, granted_in}
+use Rattle.cf_row.proofs.Elements.{contains_cases, contains_first, contains_later, contains_none}
 use Rattle.cf_row.proofs.Own.{history_count, history_push}
+
+abbrev claim : ℕ → ℕ → Claim
+claim i t = record { stage = i; session = t }
 
 -- ---- one entry more
 
@@ -168,3 +175,80 @@ open_is_kept plan row claims i are named some none =
     let g = open_is_granted plan row i who.0 named who.1 in
     let c : Claim = record { stage = i; session = g.0 } in
     All-contains (λ (c : Claim). c.stage ≢ i) claims c none (subst (λ (l : List Claim). Contains l c) (sym are) g.1) refl
+
+-- ---- no stage's claim was granted to two sessions
+
+grant_is : (e : Event) (reply : Reply) (i : ℕ) → granted_by e reply ≡ Some i → is_grant i e reply ≡ true
+grant_is (Claims who j) (ToldClaim (Granted args)) i is =
+    let same : j ≡ i = cc in
+    eq-eqb i j (sym same)
+grant_is (Claims who j) (ToldClaim IsSettled) i is = (let no : ⊥ = cc in absurd no)
+grant_is (Claims who j) (ToldClaim Taken) i is = (let no : ⊥ = cc in absurd no)
+grant_is (Claims who j) (ToldClaim NotReady) i is = (let no : ⊥ = cc in absurd no)
+grant_is (Claims who j) (ToldFlag b) i is = (let no : ⊥ = cc in absurd no)
+grant_is (Claims who j) (ToldFinish f) i is = (let no : ⊥ = cc in absurd no)
+grant_is (Claims who j) (ToldTick t) i is = (let no : ⊥ = cc in absurd no)
+grant_is (Claims who j) (ToldAttach a) i is = (let no : ⊥ = cc in absurd no)
+grant_is (Completes who j v) reply i is = (let no : ⊥ = cc in absurd no)
+grant_is (Fails who j code) reply i is = (let no : ⊥ = cc in absurd no)
+grant_is (FailsAs who j failure) reply i is = (let no : ⊥ = cc in absurd no)
+grant_is (Cancels who j) reply i is = (let no : ⊥ = cc in absurd no)
+grant_is (Finishes who j answer) reply i is = (let no : ⊥ = cc in absurd no)
+grant_is (Ticks who now) reply i is = (let no : ⊥ = cc in absurd no)
+grant_is (Attaches who form of function) reply i is = (let no : ⊥ = cc in absurd no)
+
+-- the one claim that an entry was granted
+the_one : (o : Option ℕ) (i u t : ℕ) → Contains (claim_of o u) (record { stage = i; session = t }) → (o ≡ Some i) × (u ≡ t)
+the_one None i u t h = absurd (contains_none (claim i t) h)
+the_one (Some j) i u t h = is_first (contains_cases (claim j u) (claim i t) [] h)
+  where
+    is_first : ((claim j u) ≡ (claim i t)) ⊎ Contains [] (claim i t) → (Some j ≡ Some i) × (u ≡ t)
+    is_first (inl e) = (ap (λ (c : Claim). Some c.stage) e, ap (λ (c : Claim). c.session) e)
+    is_first (inr n) = absurd (contains_none (claim i t) n)
+
+counted : (i : ℕ) (b : Bool) (e : Event) (s : State) (es : List Event) → is_grant i e ((answered s e).0) ≡ b → grants_of i ((answered s e).1) es ≤ grants_of i s (e ∷ es)
+counted i true e s es is = rw is (omega arith)
+counted i false e s es is = rw is (omega arith)
+
+granted_more_than : (i : ℕ) (e : Event) (s : State) (es : List Event) → is_grant i e ((answered s e).0) ≡ true → grants_of i s (e ∷ es) ≡ 1 + grants_of i ((answered s e).1) es
+granted_more_than i e s es is = rw is refl
+
+granted_count : (s : State) (row : List Entry) (es : List Event) (i t : ℕ) → Contains (granted_from s row es) (record { stage = i; session = t }) → 1 ≤ grants_of i s es
+granted_count s [] es i t h = absurd (contains_none (claim i t) h)
+granted_count s (x ∷ row) [] i t h = absurd (contains_none (claim i t) h)
+granted_count s (x ∷ row) (e ∷ es) i t h =
+    by_place (granted_count ((answered s e).1) row es i t) (Contains-append_cases (claim_of (granted_by e ((answered s e).0)) (session_of x.token)) (granted_from ((answered s e).1) row es) (claim i t) h)
+  where
+    by_place : (Contains (granted_from ((answered s e).1) row es) (claim i t) → 1 ≤ grants_of i ((answered s e).1) es) → Contains (claim_of (granted_by e ((answered s e).0)) (session_of x.token)) (claim i t) ⊎ Contains (granted_from ((answered s e).1) row es) (claim i t) → 1 ≤ grants_of i s (e ∷ es)
+    by_place further (inl g) =
+        let one = granted_more_than i e s es (grant_is e ((answered s e).0) i (the_one (granted_by e ((answered s e).0)) i (session_of x.token) t g).0) in
+        omega (arith, one)
+    by_place further (inr g) =
+        let rest = further g in
+        let le = counted i (is_grant i e ((answered s e).0)) e s es refl in
+        omega (arith, rest, le)
+
+one_session : (s : State) (row : List Entry) (es : List Event) (i t u : ℕ) → Contains (granted_from s row es) (record { stage = i; session = t }) → Contains (granted_from s row es) (record { stage = i; session = u }) → t ≡ u
+one_session s [] es i t u g h = absurd (contains_none (claim i t) g)
+one_session s (x ∷ row) [] i t u g h = absurd (contains_none (claim i t) g)
+one_session s (x ∷ row) (e ∷ es) i t u g h =
+    by_places (one_session ((answered s e).1) row es i t u) (Contains-append_cases own (granted_from ((answered s e).1) row es) (claim i t) g) (Contains-append_cases own (granted_from ((answered s e).1) row es) (claim i u) h)
+  where
+    own : List Claim
+    own = claim_of (granted_by e ((answered s e).0)) (session_of x.token)
+
+    only : (v w : ℕ) → Contains own (claim i v) → Contains (granted_from ((answered s e).1) row es) (claim i w) → ⊥
+    only v w a b =
+        let one = granted_more_than i e s es (grant_is e ((answered s e).0) i (the_one (granted_by e ((answered s e).0)) i (session_of x.token) v a).0) in
+        let rest = granted_count ((answered s e).1) row es i w b in
+        let most = grants_once s (e ∷ es) i in
+        omega (arith, one, rest, most)
+
+    by_places : (Contains (granted_from ((answered s e).1) row es) (claim i t) → Contains (granted_from ((answered s e).1) row es) (claim i u) → t ≡ u) → Contains own (claim i t) ⊎ Contains (granted_from ((answered s e).1) row es) (claim i t) → Contains own (claim i u) ⊎ Contains (granted_from ((answered s e).1) row es) (claim i u) → t ≡ u
+    by_places further (inl a) (inl b) = sym (the_one (granted_by e ((answered s e).0)) i (session_of x.token) t a).1 ∙ (the_one (granted_by e ((answered s e).0)) i (session_of x.token) u b).1
+    by_places further (inl a) (inr b) = absurd (only t u a b)
+    by_places further (inr a) (inl b) = absurd (only u t b a)
+    by_places further (inr a) (inr b) = further a b
+
+pub claims_are_ones : ClaimsAreOnes
+claims_are_ones plan row i t u g h = one_session (start plan) row (history_of row) i t u g h

@@ -38,6 +38,12 @@ granted_in plan row = granted_from (start plan) row (history_of row)
 abbrev pub IsGrantedTo : Replica → ℕ → ℕ → Type 0
 IsGrantedTo r session i = Contains (granted_in r.plan r.seen) (record { stage = i; session = session })
 
+-- of a stage's claims one at most is granted, so it is one session's
+abbrev pub ClaimsAreOnes : Type 0
+ClaimsAreOnes =
+    (plan : Planned) (row : List Entry) (i s t : ℕ) → Contains (granted_in plan row) (record { stage = i; session = s }) →
+    Contains (granted_in plan row) (record { stage = i; session = t }) → s ≡ t
+
 -- of a list of claims that were granted, a stage's is this session's and open, and the stage isn't settled
 pub record IsHeldIn (claims : List Claim) (s : State) (session i : ℕ) : Type 0 where
   pub granted : Contains claims (record { stage = i; session = session })
