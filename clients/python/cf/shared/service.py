@@ -511,13 +511,13 @@ class DurableService(concurrent.futures.Executor):
 
     def _abandon(self, request: DurableRequest) -> None:
         """Fails the stages whose session is gone. If it isn't, the row says who was first."""
-        for stage, session in list(request._view.open_claims().items()):
+        for stage, session in request._view.open_claims().items():
             if self._is_gone(session):
                 said = f"the worker that ran {request._view.said(stage)['name']} is gone, and it may have run"
                 payload = self._error(Abandoned(said))
 
                 def decide(view: RowView, stage: int = stage, session: int = session, payload: bytes = payload) -> Any:
-                    if view.open_claims().get(stage) != session:
+                    if stage not in view.held(session):
                         return None
                     return [(FAIL << 56 | view.who << 48 | stage << 36 | view.place, payload)]
                 request._act(decide)

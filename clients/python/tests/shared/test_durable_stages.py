@@ -156,7 +156,7 @@ class DurableStages(Case):
                 promise.complete(1)
             self.until(lambda: len(heard) == 8 and logs.output)
         self.assertEqual(stages[3].result(20), 3)
-        self.assertFalse(durable._view.claims)
+        self.assertFalse(durable._view.claims())
         waits = [durable.promise() for _ in range(3)]
         waits[0].add_done_callback(ends)
         with self.assertRaises(SystemExit):
