@@ -139,8 +139,9 @@ class Worker(Process):
         for stage, session in desk.open_claims().items():
             if session != self.session and self.watcher.is_gone(session):
                 def decide(desk, stage=stage, session=session):
-                    if stage in desk.held(session):
-                        return [(word(FAIL, desk, stage, desk.place), json.dumps({"at": desk.place, "abandoned": session}).encode())]
+                    fails = desk.abandoned(session, stage)
+                    if fails is not None:
+                        return [(fails, json.dumps({"at": desk.place, "abandoned": session}).encode())]
                     return None
                 if desk.act(decide)[0]:
                     self.note("abandoned", desk.name, stage, session)

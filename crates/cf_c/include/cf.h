@@ -1224,8 +1224,8 @@ uint32_t cf_request_do(cf_handle *request, cf_request_call *calls, size_t n, cf_
  * entry tells whose it is, and not its word.
  *
  * A view keeps to which session each claim was granted. cf_row_open_claim tells that of each claim that is open, and
- * cf_row_held the stages that a session has. If the session is gone, any other one may fail these. If it isn't gone, its
- * finish is late.
+ * cf_row_held the stages that a session has. If the session is gone, any other one may fail these, by the words that
+ * cf_row_abandon tells. If it isn't gone, its finish is late.
  *
  * The words, the news and the stages of a view are asked by cf_ledger_words, cf_ledger_news, cf_ledger_ready,
  * cf_ledger_stage, cf_ledger_function and cf_ledger_stages. */
@@ -1324,6 +1324,15 @@ uint32_t cf_row_open_claim(cf_handle *view, uint16_t from, cf_row_claim *claim);
  *
  * Code: CF_NOTHING if the session has none there. */
 uint32_t cf_row_held(cf_handle *view, uint64_t session, uint16_t from, uint16_t *stage);
+
+/* Tells the word that fails the lowest stage from the number `from` on that a session has, as cf_row_held tells it: what
+ * you put if this session is gone. The word has the caller's number of the view's own session. It may be put behind all
+ * that was seen, and fails the stage there.
+ *   - code: the number of the exception that the stage fails with.
+ *   - word: gets the word.
+ *
+ * Code: CF_NOTHING if the session has none there. */
+uint32_t cf_row_abandon(cf_handle *view, uint64_t session, uint16_t from, uint32_t code, uint64_t *word);
 
 /* ---- Histories: what happened, told as texts ---- */
 

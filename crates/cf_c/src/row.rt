@@ -1,6 +1,6 @@
 //! One session's view of a row in a store.
 ghost use Rattle.cf_c_handles.specs.Handles.{HandleDoes, HandleOpens, HandleTells, HandleWrites};
-ghost use Rattle.cf_c_handles.specs.Rows.{GivesUpIn, MeetsIn, OfRow, PlansIn, RoomsIn, RowOf, SeesIn, TellsClaimed, TellsHeld, TellsNumber, TellsNumberOf, TellsOpenClaim, entry_of};
+ghost use Rattle.cf_c_handles.specs.Rows.{GivesUpIn, MeetsIn, OfRow, PlansIn, RoomsIn, RowOf, SeesIn, TellsAbandon, TellsClaimed, TellsHeld, TellsNumber, TellsNumberOf, TellsOpenClaim, entry_of};
 
 use crate::handle::{ask, tell};
 use cf_c_handles::code::Code;
@@ -151,4 +151,19 @@ pub extern "C" fn cf_row_held(
     ensures { HandleTells (OfRow (TellsHeld session from)) h.old h.new result stage.old stage.new }
 {
     tell!(alloc, h, stage, held => row::held(&mut held, session, from))
+}
+
+/// The word that fails the lowest stage from a number on that a session has.
+#[unsafe(no_mangle)]
+pub extern "C" fn cf_row_abandon(
+    alloc: Global,
+    h: &mut CfHandle,
+    session: u64,
+    from: u16,
+    code: u32,
+    word: &mut u64,
+) -> u32
+    ensures { HandleTells (OfRow (TellsAbandon session from code)) h.old h.new result word.old word.new }
+{
+    tell!(alloc, h, word, held => row::abandon(&mut held, session, from, code))
 }

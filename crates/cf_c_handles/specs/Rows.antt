@@ -8,6 +8,7 @@ use Rattle.cf_row.specs.declared.faults.PutFault.{PutFault}
 use Rattle.cf_row.specs.declared.faults.PutFault.TheVariants as faults
 use Rattle.cf_row.specs.declared.grants.Claim.{Claim}
 use Rattle.cf_row.specs.Grants.{IsGrantedTo, IsHeldBy, NoneHeldBy, NoneOpen}
+use Rattle.cf_row.specs.Abandoning.{Abandons}
 use Rattle.cf_row.specs.Numbers.{FollowsRule}
 use Rattle.cf_row.specs.Puts.{IsNoPut, OnlyFinds, Plans, Row as Row', TellsOf, pairs_of}
 use Rattle.cf_row.specs.Rows.{IsNoEntry, NoneClaimed, NoneClaimedFrom, Replica, Takes, ledger_of, session_of, state_of, with_more}
@@ -195,3 +196,8 @@ pub record IsFirstHeld (session from : ℕ) (seen : Replica) (i : ℕ) : Type 0 
 abbrev pub TellsHeld : ℕ → ℕ → Replica → Result ℕ Code → Type 0
 TellsHeld session from seen (Ok i) = IsFirstHeld session from seen i
 TellsHeld session from seen (Err code) = (code ≡ Nothing) × NoneHeldBy seen session from (length (state_of seen).plan.stages)
+
+-- the word that fails the lowest stage from a number on that a session has
+abbrev pub TellsAbandon : ℕ → ℕ → ℕ → Replica → Result ℕ Code → Type 0
+TellsAbandon session from number seen (Ok word) = Abandons seen session from number word
+TellsAbandon session from number seen (Err code) = (code ≡ Nothing) × NoneHeldBy seen session from (length (state_of seen).plan.stages)

@@ -1,7 +1,7 @@
 //! One session's view of a row in a store: what it plans, is told and is asked.
 ghost use Rattle.std.specs.Prelude.{◌≡◌, ◌<◌, ◌≤◌, [], length};
 ghost use Rattle.std.specs.Bool.{OnFalse, OnTrue};
-ghost use Rattle.cf_c_handles.specs.Rows.{GivesUpIn, IsSession, MeetsIn, OfRow, PlansIn, RoomsIn, RowOf, SeesIn, SeesOrNot, TellsClaimed, TellsHeld, TellsNumber, TellsNumberOf, TellsOpenClaim, put_code};
+ghost use Rattle.cf_c_handles.specs.Rows.{GivesUpIn, IsSession, MeetsIn, OfRow, PlansIn, RoomsIn, RowOf, SeesIn, SeesOrNot, TellsAbandon, TellsClaimed, TellsHeld, TellsNumber, TellsNumberOf, TellsOpenClaim, put_code};
 ghost use Rattle.cf_c_handles.specs.declared.handle.object.Object.TheVariants.{Row as HeldRow};
 
 use crate::code::Code;
@@ -219,4 +219,16 @@ pub fn held(held: &mut Object, session: u64, from: u16) -> Result<u16, Code>
         return Err(Code::WrongKind);
     };
     row.replica().held(session, from).ok_or(Code::Nothing)
+}
+
+/// The word that fails the lowest stage from a number on that a session has.
+pub fn abandon(held: &mut Object, session: u64, from: u16, code: u32) -> Result<u64, Code>
+    ensures { OfRow (TellsAbandon session from code) held.old result held.new }
+{
+    let Object::Row(row) = held else {
+        return Err(Code::WrongKind);
+    };
+    row.replica()
+        .abandon(session, from, code)
+        .ok_or(Code::Nothing)
 }

@@ -7,6 +7,7 @@ ghost use Rattle.cf_ledger.specs.Ledgers.{AreTaken, LedgerRefuses};
 ghost use Rattle.cf_row.specs.Grants.{IsGrantedTo, IsHeldBy, NoneHeldBy, NoneOpen};
 ghost use Rattle.cf_row.specs.Numbers.{FollowsRule};
 ghost use Rattle.cf_row.specs.Puts.{IsPutOrNone, pairs_of};
+ghost use Rattle.cf_row.specs.Abandoning.{Abandons};
 ghost use Rattle.cf_row.specs.Rows.{FitsEachRow, IsMisfit, NoneClaimed, NoneClaimedFrom, Replays, Takes, history_of, ledger_of, session_of, state_of, with_memory, with_more, with_outcome, words_in};
 
 use crate::claims::claimed_in;
@@ -14,9 +15,9 @@ use crate::entry::Entry;
 use crate::grants::{Claim, held_in, note_claim, open_in, whose};
 use crate::numbers::{number_in, number_of};
 use crate::places::make_room;
-use cf_event::{Record, decode};
+use cf_event::{Record, decode, encode};
 use cf_ledger::{Ledger, LedgerFault, Misfit, Reply};
-use cf_model::{Ask, Told};
+use cf_model::{Ask, Event, Told};
 use cf_outcome::Outcome;
 use cf_plan::Plan;
 use std::alloc::{AllocError, Global};
@@ -173,6 +174,19 @@ impl Replica {
         ensures none { IfNone result (NoneHeldBy self.now session from (length (state_of self.now).plan.stages)) }
     {
         held_in(&self.ledger, &self.claims, session, from)
+    }
+
+    /// The word that fails the lowest stage from a number on that a session has: what is put where that session is gone.
+    /// The graph takes it behind all that was seen, and it fails the stage there with this code.
+    pub fn abandon(&self, session: u64, from: u16, code: u32) -> Option<u64>
+        ensures fails { IfSome result (λ w. Abandons self.now session from code w) }
+        ensures none { IfNone result (NoneHeldBy self.now session from (length (state_of self.now).plan.stages)) }
+    {
+        let stage = self.held(session, from)?;
+        // A graph has so few stages.
+        let _known = self.ledger().stages();
+        let who = self.number();
+        Some(encode(&Event::Fail { who, stage, code }))
     }
 
     /// Finds memory for so many entries more. It fails only where there is no memory, and then changes nothing.

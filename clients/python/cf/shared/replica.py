@@ -1,7 +1,7 @@
 """What a session has seen of a row, by a view of the library, whose replies and news are read as numbers."""
 import ctypes as c
 from array import array
-from typing import Any, Callable, Iterator, Sequence, Tuple
+from typing import Any, Callable, Iterator, Optional, Sequence, Tuple
 
 from .._library import CALLS, CEntry, CNews, CReply, CRowClaim, CRowOpening, CStage, path
 from ..handle import Handle
@@ -23,7 +23,7 @@ def _bound(name: str, address: int = -1) -> Callable[..., int]:
 _plan, _met, _give_up = _bound("cf_row_plan", 1), _bound("cf_row_met"), _bound("cf_row_give_up")
 _saw, _grow = _bound("cf_row_saw"), _bound("cf_row_grow")
 _number, _stage = _bound("cf_row_number"), _bound("cf_ledger_stage")
-_open_claim, _held = _bound("cf_row_open_claim"), _bound("cf_row_held")
+_open_claim, _held, _abandon = _bound("cf_row_open_claim"), _bound("cf_row_held"), _bound("cf_row_abandon")
 
 
 def told_of(stage: CStage) -> Told:
@@ -112,6 +112,12 @@ class Replica(Handle):
         while _is_there(_held(self._to, session, first, c.byref(told))):
             yield told.value
             first = told.value + 1
+
+    def abandon(self, session: int, first: int, code: int) -> Optional[int]:
+        """The word that fails the lowest stage from a number on that a session has, with this code, or None where it
+        has none."""
+        word = c.c_uint64()
+        return word.value if _is_there(_abandon(self._to, session, first, code, c.byref(word))) else None
 
 
 def _is_there(code: int) -> bool:

@@ -517,9 +517,8 @@ class DurableService(concurrent.futures.Executor):
                 payload = self._error(Abandoned(said))
 
                 def decide(view: RowView, stage: int = stage, session: int = session, payload: bytes = payload) -> Any:
-                    if stage not in view.held(session):
-                        return None
-                    return [(FAIL << 56 | view.who << 48 | stage << 36 | view.place, payload)]
+                    word = view.abandoned(session, stage)
+                    return None if word is None else [(word, payload)]
                 request._act(decide)
 
     def _next(self, request: DurableRequest, finish: Optional[Finish]) -> Optional[Claimed]:

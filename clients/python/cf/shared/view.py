@@ -168,6 +168,12 @@ class RowView:
         """The stages that a session has: its function is to run there, or runs."""
         return list(self._replica.held(session))
 
+    def abandoned(self, session: int, stage: int) -> Optional[int]:
+        """The word that fails this stage for a session that is gone, with the exception at its place, or None where the
+        session doesn't have it."""
+        word = self._replica.abandon(session, stage, self.place)
+        return word if word is not None and word >> 36 & 0xFFF == stage else None
+
     def behind(self, stage: int) -> List[int]:
         """The stages that have it as a source."""
         return self._behind.get(stage, [])

@@ -57,7 +57,7 @@ pub struct RowOpening {
 /// assert!(row.met(entry)?);
 /// row.saw(entry)?;
 /// assert_eq!((row.count()?, entry.session()), (1, 700));
-/// assert_eq!((row.open_claim(0)?, row.held(700, 0)?), (None, None)); // nobody has claimed anything
+/// assert_eq!((row.open_claim(0)?, row.held(700, 0)?, row.abandon(700, 0, 1)?), (None, None, None)); // nobody has claimed anything
 /// # Ok(())
 /// # }
 /// ```
@@ -167,6 +167,12 @@ impl Row {
     pub fn held(&mut self, session: u64, from: u16) -> Result<Option<u16>, Refused> {
         // SAFETY: alone, pointers: `h` and what is told to are this call's.
         if_there(self.handle.tell(|h, told| unsafe { sys::cf_row_held(h, session, from, told) }))
+    }
+
+    /// The word that fails the lowest stage from this number on that a session has, with this code: what to put if that session is gone.
+    pub fn abandon(&mut self, session: u64, from: u16, code: u32) -> Result<Option<u64>, Refused> {
+        // SAFETY: alone, pointers: `h` and what is told to are this call's.
+        if_there(self.handle.tell(|h, told| unsafe { sys::cf_row_abandon(h, session, from, code, told) }))
     }
 
     /// How many entries were seen.

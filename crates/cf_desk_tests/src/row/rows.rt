@@ -33,6 +33,9 @@ const CLAIM_BY_7: u64 = 0x0407001000000000;
 
 const FIVE: Args = Args::One(Value::Int(5));
 
+/// Caller 7 fails the apply with code 9.
+const FAIL_BY_7: u64 = 0x0207001000000009;
+
 /// Bits that no event has.
 const NO_WORD: u64 = 0xff00000000000000;
 
@@ -162,7 +165,7 @@ const CROWDED: [(u8, Step); 14] = [
 ];
 
 /// The second session has the apply until the first fails it, and its claim is open until it finishes.
-const HELD: [(u8, Step); 14] = [
+const HELD: [(u8, Step); 16] = [
     (0, Step::Lands(Engine::Sound, &[COMPLETE_BY_0])),
     (1, Step::Sees),
     (1, Step::OpenClaim(0, None)),
@@ -172,7 +175,9 @@ const HELD: [(u8, Step); 14] = [
     (0, Step::Held(9, 2, None)),
     (0, Step::Held(7, 0, None)),
     (0, Step::OpenClaim(1, Some(BY_9))),
+    (0, Step::Abandon(9, Some(FAIL_BY_0))),
     (0, Step::Lands(Engine::Sound, &[FAIL_BY_0])),
+    (0, Step::Abandon(9, None)),
     (0, Step::Held(9, 0, None)),
     (0, Step::OpenClaim(0, Some(BY_9))),
     (1, Step::Sees),
@@ -180,7 +185,7 @@ const HELD: [(u8, Step); 14] = [
 ];
 
 /// Caller 7 is several sessions. Of their claims of the apply one is granted, to session 27, and stays its.
-const WHOSE: [(u8, Step); 10] = [
+const WHOSE: [(u8, Step); 11] = [
     (0, Step::Crowd),
     (0, Step::Sees),
     (0, Step::Others(CLAIM_BY_7)),
@@ -191,6 +196,7 @@ const WHOSE: [(u8, Step); 10] = [
     (0, Step::Held(27, 0, Some(1))),
     (0, Step::Held(7, 0, None)),
     (0, Step::OpenClaim(0, Some(BY_27))),
+    (0, Step::Abandon(27, Some(FAIL_BY_7))),
 ];
 
 /// An engine overwrites: the second session doesn't know that the first has finished the apply, and is told that it has

@@ -56,6 +56,8 @@ pub(crate) enum Step {
     OpenClaim(u16, Option<Claim>),
     /// The lowest stage from a number on that a session has.
     Held(u64, u16, Option<u16>),
+    /// The word that fails the lowest stage that a session has, by code 9.
+    Abandon(u64, Option<u64>),
     Outcome(u16, Option<Outcome>),
 }
 
@@ -174,6 +176,7 @@ fn is_known(row: &Row, step: Step) -> bool {
         Step::Claimed(who, answer) => replica.claimed(who, 0) == answer,
         Step::OpenClaim(from, answer) => replica.open_claim(from) == answer,
         Step::Held(session, from, answer) => replica.held(session, from) == answer,
+        Step::Abandon(session, answer) => replica.abandon(session, 0, 9) == answer,
         _ => false,
     }
 }
