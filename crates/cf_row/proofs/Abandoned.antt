@@ -1,5 +1,5 @@
 -- The word that fails a stage of a session that is gone.
-use Rattle.std.proofs.Common.{◌≡◌, ℕ, ◌+◌, ◌<◌, ◌≤◌, ◌⊎◌, inl, inr, true, false, List, [], ◌∷◌, Contains, length, ap, sym, ◌∙◌, subst, refl, arith}
+use Rattle.std.proofs.Common.{◌≡◌, ℕ, ◌+◌, ◌<◌, ◌≤◌, ◌⊎◌, inl, inr, true, false, List, [], ◌∷◌, Contains, length, ap, sym, subst, refl, arith}
 use Rattle.std.specs.Prelude.{Option, Some, None}
 use Rattle.std.proofs.lemmas.Nat.{mod_below}
 use Rattle.cf_model.specs.declared.events.Event.{Event}
@@ -16,7 +16,7 @@ use Rattle.cf_event.specs.Decoding.{event_of}
 use Rattle.cf_event.proofs.WordLemmas.{event_of_is}
 use Rattle.cf_ledger.specs.Ledgers.{Ledger, state_of as ledger_state}
 use Rattle.cf_row.specs.declared.entry.Entry.{Entry}
-use Rattle.cf_row.specs.Numbers.{FollowsRule, IsLatecomer, IsNewcomer}
+use Rattle.cf_row.specs.Numbers.{FollowsRule}
 use Rattle.cf_row.specs.Rows.{Replica, ledger_of, state_of}
 use Rattle.cf_row.specs.Grants.{IsHeldBy, NoneHeldBy}
 use Rattle.cf_row.specs.Abandoning.{Abandons}

@@ -1,5 +1,5 @@
 -- To which session each claim was granted.
-use Rattle.std.proofs.Common.{◌≡◌, ℕ, zero, suc, ◌+◌, ◌-◌, ◌<◌, ◌≤◌, ◌⊎◌, inl, inr, Bool, true, false, cond, Option, Some, None, List, [], ◌∷◌, ◌++◌, length, map, set, All, Contains, refl, ap, sym, ◌∙◌, subst, append-nil, length-append, arith}
+use Rattle.std.proofs.Common.{◌≡◌, ℕ, zero, suc, ◌+◌, ◌≤◌, ◌⊎◌, inl, inr, Bool, true, false, cond, Option, Some, None, List, [], ◌∷◌, ◌++◌, length, map, set, All, Contains, refl, ap, sym, ◌∙◌, subst, append-nil, length-append, arith}
 use Rattle.std.proofs.Common.{Result, Ok, Err}
 use Rattle.std.specs.Result.{OnErr, OnOk}
 use Rattle.std.specs.Prelude.{◌≢◌, ◌==◌}
@@ -30,9 +30,9 @@ use Rattle.cf_ledger.specs.Ledgers.{AreTaken, Does, Ledger, roomier, with_more}
 use Rattle.cf_ledger.proofs.Growth.{answered_more}
 use Rattle.cf_row.specs.declared.entry.Entry.{Entry}
 use Rattle.cf_row.specs.declared.grants.Claim.{Claim}
-use Rattle.cf_row.specs.Rows.{IsKept, history_of, session_of, words_in}
+use Rattle.cf_row.specs.Rows.{history_of, session_of, words_in}
 use Rattle.cf_row.specs.Grants.{ClaimsAreOnes, claim_of, granted_by, granted_from, granted_in}
-use Rattle.cf_row.proofs.Elements.{contains_cases, contains_first, contains_later, contains_none}
+use Rattle.cf_row.proofs.Elements.{contains_cases, contains_first, contains_none}
 use Rattle.cf_row.proofs.Own.{history_count, history_push}
 
 abbrev claim : ℕ → ℕ → Claim

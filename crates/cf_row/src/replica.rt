@@ -183,8 +183,9 @@ impl Replica {
         ensures none { IfNone result (NoneHeldBy self.now session from (length (state_of self.now).plan.stages)) }
     {
         let stage = self.held(session, from)?;
+        let ledger = self.ledger();
         // A graph has so few stages.
-        let _known = self.ledger().stages();
+        let _known = ledger.stages();
         let who = self.number();
         Some(encode(&Event::Fail { who, stage, code }))
     }
