@@ -581,9 +581,9 @@ class DurableService(concurrent.futures.Executor):
             return []
         ready = sorted(view.ready)
         if finish is not None and not view.is_settled(finish.stage):
-            kind = THROWS if finish.kind == THROWS else GIVES
+            goes_on = GOES_ON.get(finish.kind, ())  # (behind a link nothing is ready yet)
             ready += [it for it in view.behind(finish.stage)
-                      if not view.is_settled(it) and view.forms[it][0] in GOES_ON[kind] and len(view.forms[it][1]) == 1]
+                      if not view.is_settled(it) and view.forms[it][0] in goes_on and len(view.forms[it][1]) == 1]
         return list(itertools.islice((stage for stage in ready if self._known(request, stage) is not None), 2))
 
     def _known(self, request: DurableRequest, stage: int) -> Optional[Known]:
