@@ -129,7 +129,7 @@ int main(void) {
   takes("its words again", fill(&ledger), 0);
   takes("more room for it", cf_ledger_grow(&ledger, ROOM), 19304);
   takes("a view", cf_row_new(&plan, &opening, &view), 10092);
-  takes("its entries", see(&view), 20356);
+  takes("its entries", see(&view), 21380);
   takes("a put of it", plan_put(&view), 0);
   takes("more room for it", cf_row_grow(&view, ROOM), 19304);
   takes("a script", cf_run_script((const uint8_t *)SCRIPT, sizeof SCRIPT - 1, report, sizeof report, &length), 3845);

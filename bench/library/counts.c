@@ -20,6 +20,11 @@
  *   request_grow                  cf_request_grow behind them, which does them again in twice the room; a word
  *   request_attach, request_run   over one source: a chain of 16 that is attached, by cf_request_apply, and run, by cf_request_next; a stage
  *   request_gather                cf_request_gather of 17 of these stages, before they are run; a stage that it attaches
+ *   row_claim, row_finish         a put of one of the words by a view: cf_row_plan, cf_row_met and cf_row_saw
+ *   row_pair                      a finish with the claim of the next stage, or of one that is ready, as one put; a put
+ *   row_saw                       the same words by cf_row_saw, as another session put them; a word
+ *   row_number                    cf_row_number, where the first entry of the row is the session's own
+ *   row_whose, row_held           of the last of the stages, once it is claimed: cf_row_open_claim, and cf_row_held
  *   graph_claim, graph_finish     cf_claim and cf_finish_with
  *   apply_claim, apply_finish       the same as words by cf_apply
  *   graph_ready, graph_get        the lowest ready stage asked for before each claim; the outcome of each stage
@@ -125,6 +130,70 @@ static void count_ledger(cf_handle *plan) {
   cf_free(&ledger);
   say("ledger_claim", APPLIES), say("ledger_finish", APPLIES), say("ledger_words", WORDS - 1), say("ledger_row", WORDS);
   say("ledger_step", APPLIES);
+}
+
+/* ---- Views ---- */
+
+static cf_entry entries[WORDS]; /* the row, as the session put it whose words went one by one */
+
+static void put_by(cf_handle *view, size_t first, size_t count) {
+  cf_entry stands = {.word = words[first]};
+  uint8_t landed;
+  MUST(cf_row_plan(view, words + first, count, &stands.token));
+  MUST(cf_row_met(view, &stands, &landed));
+  must_be(landed, "a put of a view");
+  for (size_t i = first; i < first + count; i++, stands.token++) {
+    stands.word = words[i];
+    MUST(cf_row_saw(view, &stands, &reply, news, 4, &n));
+    entries[i] = stands;
+  }
+}
+
+COUNTED row_claim(cf_handle *view, size_t at) { put_by(view, at, 1); }
+
+COUNTED row_finish(cf_handle *view, size_t at) { put_by(view, at, 1); }
+
+COUNTED row_pair(cf_handle *view, size_t at) { put_by(view, at, 2); }
+
+COUNTED row_saw(cf_handle *view, size_t at) { MUST(cf_row_saw(view, &entries[at], &reply, news, 4, &n)); }
+
+COUNTED row_number(cf_handle *view) {
+  uint8_t who;
+  MUST(cf_row_number(view, &who));
+}
+
+COUNTED row_whose(cf_handle *view, uint64_t session) {
+  cf_row_claim claim;
+  MUST(cf_row_open_claim(view, STAGES - 1, &claim));
+  must_be(claim.stage == STAGES - 1 && claim.session == session, "whose a claim is");
+}
+
+COUNTED row_held(cf_handle *view, uint64_t session) {
+  uint16_t stage;
+  MUST(cf_row_held(view, session, STAGES - 1, &stage));
+}
+
+static cf_handle view_of(cf_handle *plan, uint64_t session) {
+  cf_handle view = {0};
+  MUST(cf_row_new(plan, &(cf_row_opening){.session = session}, &view));
+  return view;
+}
+
+static void count_views(cf_handle *plan) {
+  cf_handle one = view_of(plan, 1), two = view_of(plan, 2), other = view_of(plan, 3);
+  put_by(&one, 0, 1);
+  put_by(&two, 0, 2);
+  for (size_t i = 1; i < WORDS - 1; i += 2) {
+    row_claim(&one, i);
+    if (i == WORDS - 2) row_whose(&one, 1), row_held(&one, 1);
+    row_finish(&one, i + 1);
+    if (i < WORDS - 2) row_pair(&two, i + 1);
+  }
+  for (size_t i = 0; i < WORDS; i++) row_saw(&other, i);
+  row_number(&one);
+  cf_free(&one), cf_free(&two), cf_free(&other);
+  say("row_claim", APPLIES), say("row_finish", APPLIES), say("row_pair", APPLIES - 1), say("row_saw", WORDS);
+  say("row_number", 1), say("row_whose", 1), say("row_held", 1);
 }
 
 /* ---- Requests ---- */
@@ -436,6 +505,7 @@ int main(int count, char **given_words) {
       count_completions(&plan);
     } else {
       count_ledger(&plan);
+      count_views(&plan);
       count_request(&plan);
       count_graph(&plan);
       count_desk(&plan);

@@ -16,7 +16,7 @@ static struct {
   cf_applied applied; cf_request_gathering gathering; cf_request_composing composing; cf_request_linking linking;
   cf_request_step turn; cf_told told[2]; cf_deadline deadline; cf_request_done done; cf_request_call call;
   cf_news news[2]; uint64_t words[2]; uint16_t stages[2]; uint8_t text[TEXT]; uint16_t number; uint8_t small; uint32_t calls; uint64_t word;
-  size_t n;
+  cf_row_claim claim; size_t n;
 } out;
 
 static void fill(void) { memset(&out, 0xa5, sizeof out); }
@@ -137,6 +137,9 @@ static void view_calls(cf_handle *h, uint32_t wanted) {
   ROW(cf_row_number(h, &out.small), wanted);
   ROW(cf_row_number_of(h, 1, &out.small), wanted);
   ROW(cf_row_claimed(h, 0, 0, &out.number), wanted);
+  ROW(cf_row_open_claim(h, 0, &out.claim), wanted);
+  ROW(cf_row_held(h, 1, 0, &out.number), wanted);
+  ROW(cf_row_abandon(h, 1, 0, 1, &out.word), wanted);
 }
 
 static void history_calls(cf_handle *h, uint32_t wanted) {
@@ -375,6 +378,9 @@ static void by_pointers(void) {
   ROW(cf_row_number(seen, NULL), CF_NULL);
   ROW(cf_row_number_of(seen, 1, NULL), CF_NULL);
   ROW(cf_row_claimed(seen, 0, 0, NULL), CF_NULL);
+  ROW(cf_row_open_claim(seen, 0, NULL), CF_NULL);
+  ROW(cf_row_held(seen, 1, 0, NULL), CF_NULL);
+  ROW(cf_row_abandon(seen, 1, 0, 1, NULL), CF_NULL);
   ROW(cf_history_new(plan, 0, NULL, 1, &empty), CF_NULL);
   ROW(cf_history_new(plan, 0, NULL, 0, NULL), CF_NULL);
   ROW(cf_history_times(&held[HISTORY], NULL, 1), CF_NULL);
@@ -460,6 +466,9 @@ static void by_numbers(uint16_t stage) {
   ROW(cf_ledger_stage(asked, stage, &out.stage), CF_NO_STAGE);
   ROW(cf_ledger_stage(&held[VIEW], stage, &out.stage), CF_NO_STAGE);
   ROW(cf_row_claimed(&held[VIEW], 0, stage, &out.number), CF_NOTHING);
+  ROW(cf_row_open_claim(&held[VIEW], stage, &out.claim), CF_NOTHING);
+  ROW(cf_row_held(&held[VIEW], opening.session, stage, &out.number), CF_NOTHING);
+  ROW(cf_row_abandon(&held[VIEW], opening.session, stage, 1, &out.word), CF_NOTHING);
   ROW(cf_desk_complete(caller, stage, value, &out.reply), CF_NO_STAGE);
   ROW(cf_desk_fail(caller, stage, 1, &out.reply), CF_NO_STAGE);
   ROW(cf_desk_fail_as(caller, stage, CF_TIMED_OUT, &out.reply), CF_NO_STAGE);
@@ -654,9 +663,13 @@ static void by_views(void) {
   HOLDS(is_filled() && !empty.full);
 }
 
-/* The caller's number after all others: 64 sessions put one word each, and the next one shares its own modulo 64. */
+/* The caller's number after all others: 64 sessions put one word each, and the next one shares its own modulo 64. Of two
+ * sessions of a number, which claim one stage, the first has it, until another caller fails it. */
 static void by_sessions(void) {
   cf_handle crowd = {0};
+  cf_row_claim claim;
+  uint16_t number;
+  uint64_t word;
   cf_event event = settles;
   cf_entry one = {0};
   cf_reply reply;
@@ -674,6 +687,23 @@ static void by_sessions(void) {
   HOLDS(cf_word_of(event, &one.word) == CF_OK);
   ROW(cf_row_plan(&crowd, &one.word, 1, &out.word), CF_NO_WORD);
   HOLDS(cf_row_number_of(&crowd, 64, &small) == CF_OK && small == 63);
+  ROW(cf_row_open_claim(&crowd, 0, &out.claim), CF_NOTHING);
+  ROW(cf_row_held(&crowd, 900, 0, &out.number), CF_NOTHING);
+  event = (cf_event){.call = CF_CALL_CLAIM, .who = 3, .stage = TWICE};
+  HOLDS(cf_word_of(event, &one.word) == CF_OK);
+  for (uint64_t session = 900; session < 902; session++) {
+    one.token = session << 23;
+    HOLDS(cf_row_saw(&crowd, &one, &reply, NULL, 0, &n) == CF_OK && reply.answer == (session == 900 ? 0 : 2));
+  }
+  HOLDS(cf_row_held(&crowd, 900, 0, &number) == CF_OK && number == TWICE);
+  ROW(cf_row_held(&crowd, 900, TWICE + 1, &out.number), CF_NOTHING);
+  ROW(cf_row_held(&crowd, 901, 0, &out.number), CF_NOTHING);
+  event = (cf_event){.call = CF_CALL_FAIL, .who = (uint8_t)(opening.session % 64), .stage = TWICE, .code = 1};
+  HOLDS(cf_word_of(event, &one.word) == CF_OK && cf_row_abandon(&crowd, 900, 0, 1, &word) == CF_OK && word == one.word);
+  HOLDS(cf_row_saw(&crowd, &one, &reply, NULL, 0, &n) == CF_OK);
+  ROW(cf_row_held(&crowd, 900, 0, &out.number), CF_NOTHING);
+  ROW(cf_row_abandon(&crowd, 900, 0, 1, &out.word), CF_NOTHING);
+  HOLDS(cf_row_open_claim(&crowd, 0, &claim) == CF_OK && claim.stage == TWICE && claim.session == 900);
   HOLDS(is_filled());
   cf_free(&crowd);
 }

@@ -102,7 +102,7 @@ int main(void) {
   act_unanswered(&bob, claim);
   if (!act(&ann, claim)) printf("ann was too late\n");
   DO(cf_row_number_of(&ann.view, bob.number, &who));
-  DO(cf_row_claimed(&ann.view, who, 0, &stage));
+  DO(cf_row_held(&ann.view, bob.number, 0, &stage));
   printf("bob is caller %u, and has claimed stage %u\n", (unsigned)who, (unsigned)stage);
 
   catch_up(&bob);

@@ -12,7 +12,7 @@ import time
 from plans import plan_of
 from process import Process, sure
 
-from cf.service.words import (ATTACH, CANCEL, CLAIM, COMPLETE, FAIL, FAIL_AS, FINISH, FORMS, GIVES, IS_CLAIMED, LINKS, THROWS, THROWN,
+from cf.service.words import (ATTACH, CANCEL, CLAIM, COMPLETE, FAIL, FAIL_AS, FINISH, FORMS, GIVES, LINKS, THROWS, THROWN,
                               TICK, VALUE)
 from cf.shared import Put, RowView, StoreError, Unknown, Watcher, connect, new_session
 
@@ -136,11 +136,12 @@ class Worker(Process):
             return
         self.any_call(desk)
         self.work(desk)
-        for stage, session in list(desk.claims.items()):
-            if session != self.session and desk.kinds[stage] == IS_CLAIMED and self.watcher.is_gone(session):
+        for stage, session in desk.open_claims().items():
+            if session != self.session and self.watcher.is_gone(session):
                 def decide(desk, stage=stage, session=session):
-                    if desk.open_claims().get(stage) == session:
-                        return [(word(FAIL, desk, stage, desk.place), json.dumps({"at": desk.place, "abandoned": session}).encode())]
+                    fails = desk.abandoned(session, stage)
+                    if fails is not None:
+                        return [(fails, json.dumps({"at": desk.place, "abandoned": session}).encode())]
                     return None
                 if desk.act(decide)[0]:
                     self.note("abandoned", desk.name, stage, session)

@@ -115,6 +115,10 @@ class CRowOpening(c.Structure):
     _fields_ = [("room", c.c_uint16), ("first", c.c_uint32), ("session", c.c_uint64)]
 
 
+class CRowClaim(c.Structure):
+    _fields_ = [("session", c.c_uint64), ("stage", c.c_uint16)]
+
+
 def in_range(number: int, highest: int, lowest: int = 0) -> int:
     """The number, which ctypes would cut to C's width. One out of its range raises OverflowError, and no call is
     made."""
@@ -214,6 +218,9 @@ CALLS: Dict[str, List[Any]] = {
     "cf_row_saw": [_H, c.POINTER(CEntry), _R, c.POINTER(CNews), _SIZE, _SIZE_OUT],
     "cf_row_grow": [_H, _U16],
     "cf_row_number": [_H, _U8_OUT],
+    "cf_row_open_claim": [_H, _U16, c.POINTER(CRowClaim)],
+    "cf_row_held": [_H, _U64, _U16, _U16_OUT],
+    "cf_row_abandon": [_H, _U64, _U16, _U32, _U64_OUT],
     "cf_request_new": [_H, c.POINTER(CRequestSizes), _U8_OUT, _SIZE, _H],
     "cf_request_apply": [_H, _U64, _U8, c.POINTER(CApplied), *_TOLD],
     "cf_request_gather": [_H, c.POINTER(CGathering), _OF, _SIZE, *_TOLD],
@@ -256,7 +263,7 @@ STRUCTURES = {"cf_handle": CHandle, "cf_value": CValue, "cf_answer": CAnswer, "c
               "cf_news": CNews, "cf_event": CEvent, "cf_task": CTask, "cf_step": CStep, "cf_given": CGiven,
               "cf_told": CTold, "cf_request_sizes": CRequestSizes, "cf_applied": CApplied,
               "cf_request_gathering": CGathering, "cf_request_step": CRequestStep, "cf_entry": CEntry,
-              "cf_row_opening": CRowOpening}
+              "cf_row_opening": CRowOpening, "cf_row_claim": CRowClaim}
 
 
 def fit(loaded: c.CDLL, path: str) -> None:

@@ -1223,8 +1223,9 @@ uint32_t cf_request_do(cf_handle *request, cf_request_call *calls, size_t n, cf_
  * have this number. Where all 64 are taken, a session shares that which is its own number modulo 64: then the token of an
  * entry tells whose it is, and not its word.
  *
- * If a session is gone, cf_row_number_of tells its number, and cf_row_claimed the stages that a caller of this number has
- * claimed and not finished; where it is shared, whose token the granted claim has tells whose it is. Any other session may fail those of them that are open. If the session isn't gone, its finish is late.
+ * A view keeps to which session each claim was granted. cf_row_open_claim tells that of each claim that is open, and
+ * cf_row_held the stages that a session has. If the session is gone, any other one may fail these, by the words that
+ * cf_row_abandon tells. If it isn't gone, its finish is late.
  *
  * The words, the news and the stages of a view are asked by cf_ledger_words, cf_ledger_news, cf_ledger_ready,
  * cf_ledger_stage, cf_ledger_function and cf_ledger_stages. */
@@ -1238,6 +1239,9 @@ typedef struct { uint64_t word; uint64_t token; } cf_entry;
  *     differ even if they have one session.
  *   - session: the session's number, below 2^39. Draw it by chance, so that no two sessions have one number. */
 typedef struct { uint16_t room; uint32_t first; uint64_t session; } cf_row_opening;
+
+/* A claim that was granted: the session that put it, and its stage. */
+typedef struct { uint64_t session; uint16_t stage; } cf_row_claim;
 
 /* Opens a view of a row, of which nothing was read yet.
  *   - plan: the plan of the row's request. It stays behind its handle.
@@ -1308,6 +1312,27 @@ uint32_t cf_row_number_of(cf_handle *view, uint64_t session, uint8_t *who);
  *
  * Code: CF_NOTHING if there is none. */
 uint32_t cf_row_claimed(cf_handle *view, uint8_t who, uint16_t from, uint16_t *stage);
+
+/* Tells the lowest stage from the number `from` on whose claim is open, with the session to which it was granted, also
+ * where several sessions have its caller's number. The stage may be settled already, as for cf_row_claimed.
+ *
+ * Code: CF_NOTHING if no claim is open there. */
+uint32_t cf_row_open_claim(cf_handle *view, uint16_t from, cf_row_claim *claim);
+
+/* Tells the lowest stage from the number `from` on that a session has: its claim was granted to this session and is
+ * open, and the stage isn't settled. So its function runs there, or is to run, unless the session is gone.
+ *
+ * Code: CF_NOTHING if the session has none there. */
+uint32_t cf_row_held(cf_handle *view, uint64_t session, uint16_t from, uint16_t *stage);
+
+/* Tells the word that fails the lowest stage from the number `from` on that a session has, as cf_row_held tells it: what
+ * you put if this session is gone. The word has the caller's number of the view's own session. It may be put behind all
+ * that was seen, and fails the stage there.
+ *   - code: the number of the exception that the stage fails with.
+ *   - word: gets the word.
+ *
+ * Code: CF_NOTHING if the session has none there. */
+uint32_t cf_row_abandon(cf_handle *view, uint64_t session, uint16_t from, uint32_t code, uint64_t *word);
 
 /* ---- Histories: what happened, told as texts ---- */
 

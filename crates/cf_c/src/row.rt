@@ -1,13 +1,13 @@
 //! One session's view of a row in a store.
 ghost use Rattle.cf_c_handles.specs.Handles.{HandleDoes, HandleOpens, HandleTells, HandleWrites};
-ghost use Rattle.cf_c_handles.specs.Rows.{GivesUpIn, MeetsIn, OfRow, PlansIn, RoomsIn, RowOf, SeesIn, TellsClaimed, TellsNumber, TellsNumberOf, entry_of};
+ghost use Rattle.cf_c_handles.specs.Rows.{GivesUpIn, MeetsIn, OfRow, PlansIn, RoomsIn, RowOf, SeesIn, TellsAbandon, TellsClaimed, TellsHeld, TellsNumber, TellsNumberOf, TellsOpenClaim, entry_of};
 
 use crate::handle::{ask, tell};
 use cf_c_handles::code::Code;
 use cf_c_handles::handle::{CfHandle, fill};
 use cf_c_handles::row;
 use cf_c_handles::values::CfReply;
-use cf_c_handles::values::row::{CfEntry, CfRowOpening, entry_of};
+use cf_c_handles::values::row::{CfEntry, CfRowClaim, CfRowOpening, entry_of};
 use cf_c_handles::values::stage::CfNews;
 use std::alloc::Global;
 
@@ -124,4 +124,46 @@ pub extern "C" fn cf_row_claimed(
     ensures { HandleTells (OfRow (TellsClaimed who from)) h.old h.new result stage.old stage.new }
 {
     tell!(alloc, h, stage, held => row::claimed(&mut held, who, from))
+}
+
+/// The lowest stage from a number on whose claim is open, with the session to which it was granted.
+#[unsafe(no_mangle)]
+pub extern "C" fn cf_row_open_claim(
+    alloc: Global,
+    h: &mut CfHandle,
+    from: u16,
+    claim: &mut CfRowClaim,
+) -> u32
+    ensures { HandleTells (OfRow (TellsOpenClaim from)) h.old h.new result claim.old claim.new }
+{
+    tell!(alloc, h, claim, held => row::open_claim(&mut held, from))
+}
+
+/// The lowest stage from a number on that a session has claimed, and that isn't settled.
+#[unsafe(no_mangle)]
+pub extern "C" fn cf_row_held(
+    alloc: Global,
+    h: &mut CfHandle,
+    session: u64,
+    from: u16,
+    stage: &mut u16,
+) -> u32
+    ensures { HandleTells (OfRow (TellsHeld session from)) h.old h.new result stage.old stage.new }
+{
+    tell!(alloc, h, stage, held => row::held(&mut held, session, from))
+}
+
+/// The word that fails the lowest stage from a number on that a session has.
+#[unsafe(no_mangle)]
+pub extern "C" fn cf_row_abandon(
+    alloc: Global,
+    h: &mut CfHandle,
+    session: u64,
+    from: u16,
+    code: u32,
+    word: &mut u64,
+) -> u32
+    ensures { HandleTells (OfRow (TellsAbandon session from code)) h.old h.new result word.old word.new }
+{
+    tell!(alloc, h, word, held => row::abandon(&mut held, session, from, code))
 }

@@ -1,11 +1,14 @@
 -- What a session's view of a row behind a handle is asked.
-use Rattle.std.specs.Prelude.{◌≡◌, ◌≢◌, ◌⊎◌, ℕ, ◌+◌, ◌*◌, ◌<◌, ◌≤◌, Bool, true, false, Result, Ok, Err, List, [], All, Contains, length, Some}
+use Rattle.std.specs.Prelude.{◌≡◌, ◌≢◌, ◌⊎◌, ℕ, ◌+◌, ◌*◌, ◌<◌, ◌≤◌, Bool, true, false, Result, Ok, Err, List, [], All, Contains, length, None, Some}
 use Rattle.cf_forms.specs.Plans.{Planned, has_place, with_room}
 use Rattle.cf_model.specs.declared.events.Reply.{Reply}
 use Rattle.cf_model.specs.States.{claim_at}
 use Rattle.cf_row.specs.declared.entry.Entry.{Entry}
 use Rattle.cf_row.specs.declared.faults.PutFault.{PutFault}
 use Rattle.cf_row.specs.declared.faults.PutFault.TheVariants as faults
+use Rattle.cf_row.specs.declared.grants.Claim.{Claim}
+use Rattle.cf_row.specs.Grants.{IsGrantedTo, IsHeldBy, NoneHeldBy, NoneOpen}
+use Rattle.cf_row.specs.Abandoning.{Abandons}
 use Rattle.cf_row.specs.Numbers.{FollowsRule}
 use Rattle.cf_row.specs.Puts.{IsNoPut, OnlyFinds, Plans, Row as Row', TellsOf, pairs_of}
 use Rattle.cf_row.specs.Rows.{IsNoEntry, NoneClaimed, NoneClaimedFrom, Replica, Takes, ledger_of, session_of, state_of, with_more}
@@ -19,6 +22,7 @@ use Rattle.cf_c_handles.specs.declared.handle.object.Object.{Object}
 use Rattle.cf_c_handles.specs.declared.handle.object.Object.TheVariants.{Plan, Row}
 use Rattle.cf_c_handles.specs.declared.values.CfReply.{CfReply}
 use Rattle.cf_c_handles.specs.declared.values.row.CfEntry.{CfEntry}
+use Rattle.cf_c_handles.specs.declared.values.row.CfRowClaim.{CfRowClaim}
 use Rattle.cf_c_handles.specs.declared.values.row.CfRowOpening.{CfRowOpening}
 use Rattle.cf_c_handles.specs.declared.values.stage.CfNews.{CfNews}
 
@@ -166,3 +170,34 @@ pub record IsFirstClaimed (who from : ℕ) (seen : Replica) (i : ℕ) : Type 0 w
 abbrev pub TellsClaimed : ℕ → ℕ → Replica → Result ℕ Code → Type 0
 TellsClaimed who from seen (Ok i) = IsFirstClaimed who from seen i
 TellsClaimed who from seen (Err code) = (code ≡ Nothing) × NoneClaimedFrom who from (state_of seen)
+
+-- the lowest stage from a number on whose claim is open, and the session to which it was granted
+abbrev pub as_claim : Claim → CfRowClaim
+as_claim c = record { session = c.session; stage = c.stage }
+
+pub record IsFirstOpen (from : ℕ) (seen : Replica) (c : CfRowClaim) : Type 0 where
+  pub whose : IsGrantedTo seen c.session c.stage
+  pub claimed : claim_at (state_of seen) c.stage ≢ None
+  pub there : c.stage < length (state_of seen).plan.stages
+  pub above : from ≤ c.stage
+  pub first : NoneOpen from c.stage (state_of seen)
+
+abbrev pub TellsOpenClaim : ℕ → Replica → Result CfRowClaim Code → Type 0
+TellsOpenClaim from seen (Ok c) = IsFirstOpen from seen c
+TellsOpenClaim from seen (Err code) = (code ≡ Nothing) × NoneOpen from (length (state_of seen).plan.stages) (state_of seen)
+
+-- the lowest stage from a number on that a session has claimed, and that isn't settled
+pub record IsFirstHeld (session from : ℕ) (seen : Replica) (i : ℕ) : Type 0 where
+  pub held : IsHeldBy seen session i
+  pub there : i < length (state_of seen).plan.stages
+  pub above : from ≤ i
+  pub first : NoneHeldBy seen session from i
+
+abbrev pub TellsHeld : ℕ → ℕ → Replica → Result ℕ Code → Type 0
+TellsHeld session from seen (Ok i) = IsFirstHeld session from seen i
+TellsHeld session from seen (Err code) = (code ≡ Nothing) × NoneHeldBy seen session from (length (state_of seen).plan.stages)
+
+-- the word that fails the lowest stage from a number on that a session has
+abbrev pub TellsAbandon : ℕ → ℕ → ℕ → Replica → Result ℕ Code → Type 0
+TellsAbandon session from number seen (Ok word) = Abandons seen session from number word
+TellsAbandon session from number seen (Err code) = (code ≡ Nothing) × NoneHeldBy seen session from (length (state_of seen).plan.stages)

@@ -1,14 +1,14 @@
 //! One session's view of a row in a store: what it plans, is told and is asked.
 ghost use Rattle.std.specs.Prelude.{◌≡◌, ◌<◌, ◌≤◌, [], length};
 ghost use Rattle.std.specs.Bool.{OnFalse, OnTrue};
-ghost use Rattle.cf_c_handles.specs.Rows.{GivesUpIn, IsSession, MeetsIn, OfRow, PlansIn, RoomsIn, RowOf, SeesIn, SeesOrNot, TellsClaimed, TellsNumber, TellsNumberOf, put_code};
+ghost use Rattle.cf_c_handles.specs.Rows.{GivesUpIn, IsSession, MeetsIn, OfRow, PlansIn, RoomsIn, RowOf, SeesIn, SeesOrNot, TellsAbandon, TellsClaimed, TellsHeld, TellsNumber, TellsNumberOf, TellsOpenClaim, put_code};
 ghost use Rattle.cf_c_handles.specs.declared.handle.object.Object.TheVariants.{Row as HeldRow};
 
 use crate::code::Code;
 use crate::handle::object::Object;
 use crate::ledger::telling::give_news;
 use crate::ledger::word_code;
-use crate::values::row::CfRowOpening;
+use crate::values::row::{CfRowClaim, CfRowOpening, as_claim};
 use crate::values::stage::CfNews;
 use crate::values::{CfReply, put_reply};
 use cf_row::{Entry, PutFault, Row, SESSIONS, TOKENS};
@@ -196,4 +196,39 @@ pub fn claimed(held: &mut Object, who: u8, from: u16) -> Result<u16, Code>
         return Err(Code::WrongKind);
     };
     row.replica().claimed(who, from).ok_or(Code::Nothing)
+}
+
+/// The lowest stage from a number on whose claim is open, with the session to which it was granted.
+pub fn open_claim(held: &mut Object, from: u16) -> Result<CfRowClaim, Code>
+    ensures { OfRow (TellsOpenClaim from) held.old result held.new }
+{
+    let Object::Row(row) = held else {
+        return Err(Code::WrongKind);
+    };
+    match row.replica().open_claim(from) {
+        None => Err(Code::Nothing),
+        Some(claim) => Ok(as_claim(claim)),
+    }
+}
+
+/// The lowest stage from a number on that a session has claimed, and that isn't settled.
+pub fn held(held: &mut Object, session: u64, from: u16) -> Result<u16, Code>
+    ensures { OfRow (TellsHeld session from) held.old result held.new }
+{
+    let Object::Row(row) = held else {
+        return Err(Code::WrongKind);
+    };
+    row.replica().held(session, from).ok_or(Code::Nothing)
+}
+
+/// The word that fails the lowest stage from a number on that a session has.
+pub fn abandon(held: &mut Object, session: u64, from: u16, code: u32) -> Result<u64, Code>
+    ensures { OfRow (TellsAbandon session from code) held.old result held.new }
+{
+    let Object::Row(row) = held else {
+        return Err(Code::WrongKind);
+    };
+    row.replica()
+        .abandon(session, from, code)
+        .ok_or(Code::Nothing)
 }

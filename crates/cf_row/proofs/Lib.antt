@@ -1,5 +1,7 @@
 pub mod Own
 pub mod Memory
+pub mod Granted
+pub mod Abandoned
 pub mod Fitting
 pub mod Landing
 pub mod Tokens

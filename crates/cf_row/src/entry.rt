@@ -16,10 +16,17 @@ pub struct Entry {
 }
 
 impl Entry {
+    /// The session that put it.
+    pub fn session(&self) -> u64
+        ensures { result ≡ session_of self.now.token }
+    {
+        self.token / TOKENS
+    }
+
     /// Whether a session put it.
     pub fn is_of(&self, session: u64) -> bool
         ensures { result ≡ eqb (session_of self.now.token) session }
     {
-        self.token / TOKENS == session
+        self.session() == session
     }
 }

@@ -1,5 +1,6 @@
 //! Laws of rows: the contract of each function is the statement, and its body is empty. A host uses a law by calling it
 //! before it concludes something.
+ghost use Rattle.cf_row.specs.Grants.{ClaimsAreOnes};
 ghost use Rattle.cf_row.specs.Laws.{LandedPutsStandOnce, NumbersAreRuled, PutsKeepOnceOrNever, PutsStandOnceOrNever, RowsAreOneHistory, RowsOnlyGrow, ToldIsTrue, TokensAreApart};
 
 /// A row of which a session's view is true, and in which more entries stand behind it, has the longer view, too.
@@ -38,6 +39,12 @@ pub fn puts_stand_once_or_never()
 /// taken, and below a number that is taken all are.
 pub fn numbers_are_ruled()
     ensures { NumbersAreRuled }
+{}
+
+/// Whatever a row is, no stage's claim was granted to two sessions in it, also where they share a number. So a view tells
+/// of each open claim the one session to which it was granted.
+pub fn claims_are_one_sessions()
+    ensures { ClaimsAreOnes }
 {}
 
 /// Whatever puts an engine was asked for, how often and how late, and whatever it answered: the accounts of all

@@ -13,6 +13,7 @@
 mod claims;
 mod entry;
 mod faults;
+mod grants;
 pub mod laws;
 mod numbers;
 mod places;
@@ -23,5 +24,6 @@ mod words;
 pub use cf_ledger::{Ledger, LedgerFault, Misfit, Reply};
 pub use entry::{Entry, SESSIONS, TOKENS};
 pub use faults::PutFault;
+pub use grants::Claim;
 pub use replica::Replica;
 pub use row::Row;

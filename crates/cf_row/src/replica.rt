@@ -1,20 +1,23 @@
 //! What a session has replayed of a row, and what it was answered.
-ghost use Rattle.std.specs.Prelude.{◌≡◌, ◌≢◌, ◌+◌, ◌<◌, ◌≤◌, ◌∷◌, ◌++◌, [], ℕ, All, Contains, IfErr, IfNone, IfOk, IfSome, OnErr, OnOk, Some, cond, length, map, max, take, true, vec_capacity};
+ghost use Rattle.std.specs.Prelude.{◌≡◌, ◌≢◌, ◌+◌, ◌<◌, ◌≤◌, ◌∷◌, ◌++◌, [], ℕ, All, Contains, IfErr, IfNone, IfOk, IfSome, None, OnErr, OnOk, Some, cond, length, map, max, take, true, vec_capacity};
 ghost use Rattle.cf_forms.specs.Plans.{has_place, with_room};
 ghost use Rattle.cf_model.specs.States.{claim_at, outcome_at, start};
 ghost use Rattle.cf_event.specs.Words.{word_of};
 ghost use Rattle.cf_ledger.specs.Ledgers.{AreTaken, LedgerRefuses};
+ghost use Rattle.cf_row.specs.Grants.{IsGrantedTo, IsHeldBy, NoneHeldBy, NoneOpen};
 ghost use Rattle.cf_row.specs.Numbers.{FollowsRule};
 ghost use Rattle.cf_row.specs.Puts.{IsPutOrNone, pairs_of};
+ghost use Rattle.cf_row.specs.Abandoning.{Abandons};
 ghost use Rattle.cf_row.specs.Rows.{FitsEachRow, IsMisfit, NoneClaimed, NoneClaimedFrom, Replays, Takes, history_of, ledger_of, session_of, state_of, with_memory, with_more, with_outcome, words_in};
 
 use crate::claims::claimed_in;
 use crate::entry::Entry;
+use crate::grants::{Claim, held_in, note_claim, open_in, whose};
 use crate::numbers::{number_in, number_of};
 use crate::places::make_room;
-use cf_event::{Record, decode};
+use cf_event::{Record, decode, encode};
 use cf_ledger::{Ledger, LedgerFault, Misfit, Reply};
-use cf_model::{Ask, Told};
+use cf_model::{Ask, Event, Told};
 use cf_outcome::Outcome;
 use cf_plan::Plan;
 use std::alloc::{AllocError, Global};
@@ -32,6 +35,7 @@ pub struct Replica {
     ledger: Ledger,
     seen: Vec<Entry>,
     records: Vec<Record>,
+    claims: Vec<Claim>,
     session: u64,
     free: usize,
 }
@@ -41,6 +45,7 @@ impl Model for Replica {
 
     ghost Value = { Replica };
 
+    ghost use Rattle.cf_row.specs.Grants.{HasClaims};
     ghost use Rattle.cf_row.specs.Rows.{HasMemory, IsKept};
 
     ghost view = { λ r. record {
@@ -54,6 +59,7 @@ impl Model for Replica {
     ghost invariant = { λ r. record {
       kept : IsKept r.ledger r.session r.seen.items r.records.items;
       memory : HasMemory r.free r.ledger r.seen r.records;
+      claims : HasClaims r.ledger.plan r.seen.items r.free r.claims;
     } };
 }
 
@@ -74,6 +80,7 @@ impl Replica {
             ledger,
             seen: Vec::new(alloc),
             records: Vec::new(alloc),
+            claims: Vec::new(alloc),
             session,
             free: 0,
         })
@@ -139,6 +146,50 @@ impl Replica {
         claimed_in(self.ledger(), who, from)
     }
 
+    /// The lowest stage from a number on whose claim is open, with the session to which it was granted. It costs a look
+    /// at each stage between, and at each claim that was granted.
+    pub fn open_claim(&self, from: u16) -> Option<Claim>
+        ensures whose { IfSome result (λ c. IsGrantedTo self.now c.session c.stage) }
+        ensures claimed { IfSome result (λ c. claim_at (state_of self.now) c.stage ≢ None) }
+        ensures there { IfSome result (λ c. c.stage < length (state_of self.now).plan.stages) }
+        ensures above { IfSome result (λ c. from ≤ c.stage) }
+        ensures first { IfSome result (λ c. NoneOpen from c.stage (state_of self.now)) }
+        ensures none { IfNone result (NoneOpen from (length (state_of self.now).plan.stages) (state_of self.now)) }
+    {
+        let stage = open_in(&self.ledger, from)?;
+        let Some(session) = whose(&self.claims, stage) else {
+            unreachable!();
+        };
+        Some(Claim { stage, session })
+    }
+
+    /// The lowest stage from a number on that a session has: its claim was granted to the session and is open, and it
+    /// isn't settled. It costs a look at each stage between, and at each claim that was granted for each of them whose
+    /// claim is open.
+    pub fn held(&self, session: u64, from: u16) -> Option<u16>
+        ensures held { IfSome result (λ i. IsHeldBy self.now session i) }
+        ensures there { IfSome result (λ i. i < length (state_of self.now).plan.stages) }
+        ensures above { IfSome result (λ i. from ≤ i) }
+        ensures first { IfSome result (λ i. NoneHeldBy self.now session from i) }
+        ensures none { IfNone result (NoneHeldBy self.now session from (length (state_of self.now).plan.stages)) }
+    {
+        held_in(&self.ledger, &self.claims, session, from)
+    }
+
+    /// The word that fails the lowest stage from a number on that a session has: what is put where that session is gone.
+    /// The graph takes it behind all that was seen, and it fails the stage there with this code.
+    pub fn abandon(&self, session: u64, from: u16, code: u32) -> Option<u64>
+        ensures fails { IfSome result (λ w. Abandons self.now session from code w) }
+        ensures none { IfNone result (NoneHeldBy self.now session from (length (state_of self.now).plan.stages)) }
+    {
+        let stage = self.held(session, from)?;
+        let ledger = self.ledger();
+        // A graph has so few stages.
+        let _known = ledger.stages();
+        let who = self.number();
+        Some(encode(&Event::Fail { who, stage, code }))
+    }
+
     /// Finds memory for so many entries more. It fails only where there is no memory, and then changes nothing.
     pub(crate) fn reserve(&mut self, more: usize) -> Result<(), AllocError>
         ensures found { OnOk result (self.new ≡ with_memory self.old more) }
@@ -154,6 +205,7 @@ impl Replica {
         }
         make_room(&mut self.seen, more)?;
         make_room(&mut self.records, more)?;
+        make_room(&mut self.claims, more)?;
         self.ledger.reserve(more)?;
         self.free = more;
         Ok(())
@@ -174,6 +226,7 @@ impl Replica {
         let reply = self.ledger.apply(entry.word)?;
         self.free -= 1;
         self.seen.push_reserved(entry);
+        note_claim(&mut self.claims, &event, &reply, entry.session());
         let is_own = entry.is_of(self.session);
         note(
             &mut self.records,

@@ -1,13 +1,13 @@
 """What a session has seen of a row, by a view of the library, whose replies and news are read as numbers."""
 import ctypes as c
 from array import array
-from typing import Any, Callable, Sequence, Tuple
+from typing import Any, Callable, Iterator, Optional, Sequence, Tuple
 
-from .._library import CALLS, CEntry, CNews, CReply, CRowOpening, CStage, path
+from .._library import CALLS, CEntry, CNews, CReply, CRowClaim, CRowOpening, CStage, path
 from ..handle import Handle
 from ..plan import Plan
 from ..service.words import REPLY_NUMBERS, Told
-from ..values import check
+from ..values import Code, check
 
 _loaded = c.PyDLL(path)  # it keeps the interpreter's lock: to let it go and take it again costs more than a call does
 
@@ -23,6 +23,7 @@ def _bound(name: str, address: int = -1) -> Callable[..., int]:
 _plan, _met, _give_up = _bound("cf_row_plan", 1), _bound("cf_row_met"), _bound("cf_row_give_up")
 _saw, _grow = _bound("cf_row_saw"), _bound("cf_row_grow")
 _number, _stage = _bound("cf_row_number"), _bound("cf_ledger_stage")
+_open_claim, _held, _abandon = _bound("cf_row_open_claim"), _bound("cf_row_held"), _bound("cf_row_abandon")
 
 
 def told_of(stage: CStage) -> Told:
@@ -95,3 +96,32 @@ class Replica(Handle):
         told = CStage()
         check(_stage(self._to, number, c.byref(told)))
         return told.kind, told_of(told)
+
+    def claims(self, first: int = 0) -> Iterator[Tuple[int, int]]:
+        """The stages from a number on whose claim is open, rising, each with the session to which it was granted. What
+        is asked here and below, any thread may ask."""
+        told = CRowClaim()
+        while _is_there(_open_claim(self._to, first, c.byref(told))):
+            yield told.stage, told.session
+            first = told.stage + 1
+
+    def held(self, session: int, first: int = 0) -> Iterator[int]:
+        """The stages from a number on that a session has, rising: its claim was granted to the session and is open, and
+        it isn't settled."""
+        told = c.c_uint16()
+        while _is_there(_held(self._to, session, first, c.byref(told))):
+            yield told.value
+            first = told.value + 1
+
+    def abandon(self, session: int, first: int, code: int) -> Optional[int]:
+        """The word that fails the lowest stage from a number on that a session has, with this code, or None where it
+        has none."""
+        word = c.c_uint64()
+        return word.value if _is_there(_abandon(self._to, session, first, code, c.byref(word))) else None
+
+
+def _is_there(code: int) -> bool:
+    """Whether a call told something, where it may say that there is nothing."""
+    if code != Code.NOTHING:
+        check(code)
+    return code != Code.NOTHING

@@ -500,7 +500,7 @@ class DurableRequest:
         """Completes, fails or cancels a stage, and says whether that did it. `waits`: not while its function runs.
         `failure`: what it ends in by FAIL_AS, whose word doesn't name the payload."""
         def decide(view: RowView) -> Any:
-            if view.is_settled(stage) or waits and stage in view.claims:
+            if view.is_settled(stage) or waits and view.holder(stage) is not None:
                 return None
             low = (FAILURES.index(failure) << 32 if kind == FAIL_AS else 0 if payload is None else
                    (GIVES << 32 if kind == COMPLETE else 0) | view.place)
@@ -594,7 +594,7 @@ class DurableRequest:
 
     def _is_held(self, stage: int) -> bool:
         """Whether this session has a claim of a stage that isn't finished, by what is seen."""
-        return self._view.claims.get(stage) == self._service.session
+        return self._view.holder(stage) == self._service.session
 
     def _is_over(self) -> bool:
         """Whether it is a flow's, and nothing is left to do."""
@@ -608,7 +608,7 @@ class DurableRequest:
 
     def _cancel_all(self) -> None:
         for number, stage in list(self._stages.items()):
-            if not stage.done() and self._view.plan.rows[number:] and number not in self._view.claims:
+            if not stage.done() and self._view.plan.rows[number:] and self._view.holder(number) is None:
                 stage.cancel()
 
     def _fail_all(self, error: BaseException) -> None:

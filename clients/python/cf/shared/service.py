@@ -511,15 +511,14 @@ class DurableService(concurrent.futures.Executor):
 
     def _abandon(self, request: DurableRequest) -> None:
         """Fails the stages whose session is gone. If it isn't, the row says who was first."""
-        for stage, session in list(request._view.open_claims().items()):
+        for stage, session in request._view.open_claims().items():
             if self._is_gone(session):
                 said = f"the worker that ran {request._view.said(stage)['name']} is gone, and it may have run"
                 payload = self._error(Abandoned(said))
 
                 def decide(view: RowView, stage: int = stage, session: int = session, payload: bytes = payload) -> Any:
-                    if view.open_claims().get(stage) != session:
-                        return None
-                    return [(FAIL << 56 | view.who << 48 | stage << 36 | view.place, payload)]
+                    word = view.abandoned(session, stage)
+                    return None if word is None else [(word, payload)]
                 request._act(decide)
 
     def _next(self, request: DurableRequest, finish: Optional[Finish]) -> Optional[Claimed]:
@@ -582,9 +581,9 @@ class DurableService(concurrent.futures.Executor):
             return []
         ready = sorted(view.ready)
         if finish is not None and not view.is_settled(finish.stage):
-            kind = THROWS if finish.kind == THROWS else GIVES
+            goes_on = GOES_ON.get(finish.kind, ())  # (behind a link nothing is ready yet)
             ready += [it for it in view.behind(finish.stage)
-                      if not view.is_settled(it) and view.forms[it][0] in GOES_ON[kind] and len(view.forms[it][1]) == 1]
+                      if not view.is_settled(it) and view.forms[it][0] in goes_on and len(view.forms[it][1]) == 1]
         return list(itertools.islice((stage for stage in ready if self._known(request, stage) is not None), 2))
 
     def _known(self, request: DurableRequest, stage: int) -> Optional[Known]:

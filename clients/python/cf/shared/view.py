@@ -7,10 +7,10 @@ from typing import (Any, Callable, ContextManager, Dict, Iterable, List, Mapping
                     Tuple, TypeVar)
 
 from .. import values
-from .._library import NOT_YOURS, CNews
+from .._library import CNews
 from ..service.history import History
 from ..service.words import (ANSWER, ATTACH, CLAIM, COMPLETE, COMPOSE_FORMS, FAIL, FAIL_AS, FAILURES, FINISH, GIVES,
-                             IS_CLAIMED, IS_PENDING, IS_READY, IS_SETTLED, LINKS, MOST_STAGES, NOT_YET, NUMBER, THROWS,
+                             IS_PENDING, IS_READY, IS_SETTLED, LINKS, MOST_STAGES, NOT_YET, NUMBER, THROWS,
                              RequestFull, Told)
 from .codec import Json
 from .host import HOST, Host
@@ -114,7 +114,6 @@ class RowView:
         self.links: Dict[int, int] = {}
         # composing stages that were settled, and whose promises may be waited for by nobody
         self.unlinked: Set[int] = set()
-        self.claims: Dict[int, int] = {}  # the session whose claim of a stage is open
         self.ready: Set[int] = {number for number, kind in enumerate(self.kinds) if kind == IS_READY}
         self.words: "array[int]" = array("Q")
         self._sessions = array("Q")
@@ -153,7 +152,27 @@ class RowView:
     def is_done(self, is_gone: Callable[[int], bool] = lambda session: False) -> bool:
         """Whether all stages are settled, and no claim is open, but for those of sessions that are gone."""
         is_settled = all(kind == IS_SETTLED for kind in self.kinds)
-        return is_settled and all(is_gone(session) for session in list(self.claims.values()))
+        return is_settled and all(is_gone(session) for session in self.claims().values())
+
+    def claims(self) -> Dict[int, int]:
+        """The stages whose claim is open, each with the session to which it was granted: also those that were settled
+        since, whose finish is still to come."""
+        return dict(self._replica.claims())
+
+    def holder(self, stage: int) -> Optional[int]:
+        """The session to which a stage's claim was granted that is open, or None where none is."""
+        found, session = next(self._replica.claims(stage), (-1, 0))
+        return session if found == stage else None
+
+    def held(self, session: int) -> List[int]:
+        """The stages that a session has: its function is to run there, or runs."""
+        return list(self._replica.held(session))
+
+    def abandoned(self, session: int, stage: int) -> Optional[int]:
+        """The word that fails this stage for a session that is gone, with the exception at its place, or None where the
+        session doesn't have it."""
+        word = self._replica.abandon(session, stage, self.place)
+        return word if word is not None and word >> 36 & 0xFFF == stage else None
 
     def behind(self, stage: int) -> List[int]:
         """The stages that have it as a source."""
@@ -252,7 +271,7 @@ class RowView:
     # One word.
 
     def _take(self, word: int, token: int) -> Done:
-        kind, stage = word >> 56, word >> 36 & 0xFFF
+        kind = word >> 56
         try:
             if kind == ATTACH:
                 self.make_room(1)
@@ -263,17 +282,12 @@ class RowView:
         self.words.append(word)
         if self._times is not None:
             self._times.append(int(self._host.monotonic() * 1e9))
-        session = token >> COUNT_BITS
-        self._sessions.append(session)
+        self._sessions.append(token >> COUNT_BITS)
         if kind == ATTACH and not reply[ANSWER]:
             self._add(reply[NUMBER], word, place)
-        elif kind == CLAIM and not reply[ANSWER]:
-            self.claims[stage] = session
-        elif kind == FINISH and reply[ANSWER] != NOT_YOURS:
-            self.claims.pop(stage, None)
-            if word >> 32 & 0xF == LINKS and not reply[ANSWER]:
-                self.links[word & 0xFFF] = place
         links = kind == FINISH and word >> 32 & 0xF == LINKS
+        if links and not reply[ANSWER]:
+            self.links[word & 0xFFF] = place
         failed = place if kind == FAIL_AS else self.failed.get(word & 0xFFF, 0) if links else 0
         done = Done(place, word, token, reply, self._changed(news, place, failed))
         if token in self._doubt:
@@ -468,7 +482,7 @@ class RowView:
 
     def open_claims(self) -> Dict[int, int]:
         """The stages whose function runs somewhere: claimed and not settled, with the session that has it."""
-        return {stage: session for stage, session in list(self.claims.items()) if self.kinds[stage] == IS_CLAIMED}
+        return {stage: session for stage, session in self._replica.claims() if not self.is_settled(stage)}
 
 
 def _has_words_of(stands: Sequence[Entry], put: Put) -> bool:

@@ -50,7 +50,7 @@ class Codecs(Case):
         self.assertIsInstance(coded_promise.exception(5), Broken)
         error = coded.supply(fails).exception(20)
         self.assertIn("it can't be written", str(error))
-        self.assertFalse(coded._view.claims)
+        self.assertFalse(coded._view.claims())
 
     def test_remote_errors(self):
         codec = Json()
@@ -82,7 +82,7 @@ class Codecs(Case):
         self.assertEqual([type(it) for it in told], [RemoteError, FileNotFoundError, RecursionError, SystemExit])
         self.assertEqual(told[1].filename, "\udcff")
         self.assertEqual(coded.supply(half).result(20), "\ud800")
-        self.assertFalse(coded._view.claims)
+        self.assertFalse(coded._view.claims())
 
 
 if __name__ == "__main__":

@@ -12,7 +12,7 @@ from concurrent.futures import CancelledError
 from case import Case, Watched
 import shared_functions as f
 from cf.service import Flow, RequestFull
-from cf.service.words import VALUE
+from cf.service.words import CLAIM, VALUE
 from cf.shared import Broken, DurableService, Memory
 
 
@@ -54,6 +54,19 @@ class DurableStages(Case):
             stage = service.submit(f.load, 4, extra=1)
             self.assertEqual(stage.result(20), {"number": 4, "extra": 1})
             self.until(lambda: stage.request.name not in service.store.ends())
+
+    def test_no_claim_goes_with_a_link(self):
+        """A finish that links to a promise makes nothing ready: the stage behind is claimed once that is settled."""
+        for service, name in self.each():
+            durable = service.request(name)
+            first = durable.promise("first")
+            last = first.compose(f.waiting).then(f.inc)
+            first.complete(1)
+            self.until(lambda durable=durable: durable._view.links)
+            durable["late"].complete(17)
+            self.assertEqual(last.result(20), 18)
+            claims = [word for word in durable._view.words if word >> 56 == CLAIM and word >> 36 & 0xFFF == last.number]
+            self.assertEqual(len(claims), 1)
 
     def test_compose(self):
         """What a function gives is a stage of the request, which may be settled later, by anybody."""
@@ -156,7 +169,7 @@ class DurableStages(Case):
                 promise.complete(1)
             self.until(lambda: len(heard) == 8 and logs.output)
         self.assertEqual(stages[3].result(20), 3)
-        self.assertFalse(durable._view.claims)
+        self.assertFalse(durable._view.claims())
         waits = [durable.promise() for _ in range(3)]
         waits[0].add_done_callback(ends)
         with self.assertRaises(SystemExit):

@@ -165,7 +165,7 @@ class Transactions(Case):
                 pay = paying.function("pay", transactional=True)(pay)
                 transacting = paying.request("r")
                 self.assertIsInstance(transacting.supply(pay).exception(20), KeyError)
-                self.until(lambda: not transacting._view.claims)
+                self.until(lambda: not transacting._view.claims())
                 self.assertEqual((paid_store.effects, len(called)), ([], int(meanwhile)))
                 paying.shutdown(), other.shutdown()
 

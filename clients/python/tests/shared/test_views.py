@@ -14,7 +14,7 @@ import unittest.mock
 
 from case import Case, EMPTY
 from cf.service import RequestFull
-from cf.service.words import ATTACH, CLAIM, COMPLETE, FAIL, FINISH
+from cf.service.words import ATTACH, CANCEL, CLAIM, COMPLETE, FAIL, FINISH
 from cf.shared.host import Host
 from cf.shared import Broken, Json, Memory, new_session, Put, RowView, Unknown, Watcher
 
@@ -104,6 +104,41 @@ class Views(Case):
         self.assertEqual(sorted(granted), list(range(80)))
         views[0].catch_up()
         self.assertTrue(views[0].is_done())
+
+    def test_whose_a_claim_is(self):
+        """Of two sessions with one number each knows whose a claim is, and who is gone. The claim is open until its own
+        session finishes it, also once the stage was failed for that."""
+        store = Memory()
+        plan = json.dumps({"cf": 3, "flow": "",
+                           "stages": [{"form": "supply", "name": "s", "fn": "inc", "version": 1}] * 2})
+
+        def view(session):
+            return RowView(store, store.open("r", plan), session)
+        for session in range(64):
+            other = view(session)
+            other.catch_up()
+            other.act(lambda view: [(CANCEL << 56 | view.who << 48, None)])
+        one, two = view(100), view(164)
+        for each in (one, two):
+            each.catch_up()
+            done, _ = each.act(lambda view: [(CLAIM << 56 | view.who << 48 | 1 << 36, None)])
+            self.assertEqual((done[0].reply[0], each.who), (0 if each is one else 2, 36))
+        one.catch_up()
+        for each in (one, two):
+            self.assertEqual((each.claims(), each.open_claims(), each.held(100), each.held(164)),
+                             ({1: 100}, {1: 100}, [1], []))
+            self.assertEqual([each.holder(stage) for stage in (0, 1)], [None, 100])
+            self.assertEqual([each.abandoned(100, 0), each.abandoned(164, 1)], [None, None])
+        fails = two.abandoned(100, 1)
+        self.assertEqual(fails, FAIL << 56 | 36 << 48 | 1 << 36 | two.place)
+        done, _ = two.act(lambda view: [(fails, b"{}")])
+        self.assertEqual(done[0].reply[0], 1)
+        one.catch_up()
+        for each in (one, two):
+            self.assertEqual((each.claims(), each.open_claims(), each.held(100), each.abandoned(100, 1)),
+                             ({1: 100}, {}, [], None))
+        one.act(lambda view: [(FINISH << 56 | view.who << 48 | 1 << 36, None)])
+        self.assertEqual((one.claims(), one.holder(1)), ({}, None))
 
     def test_a_stale_read(self):
         """Reads that lack the last words change nothing: the put decides, and who loses is told what stands."""

@@ -26,7 +26,7 @@ class Working(Case):
                                                                             takes_all=True)
         stage = first.request("r").supply(waits)
         seen = second.open("r")
-        self.until(lambda: seen._view.claims)
+        self.until(lambda: seen._view.claims())
         second._work(seen)
         goes.set()
         self.assertTrue(stage.result(20))
@@ -83,7 +83,7 @@ class Working(Case):
         working._workers = 1
         working._serve(worked_on)
         self.assertEqual(second.result(20), 3)
-        self.until(lambda: not worked_on._view.claims)
+        self.until(lambda: not worked_on._view.claims())
 
     def test_functions_that_nobody_knows(self):
         """However many stages wait for such, others behind them are found."""

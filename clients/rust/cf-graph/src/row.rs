@@ -57,6 +57,7 @@ pub struct RowOpening {
 /// assert!(row.met(entry)?);
 /// row.saw(entry)?;
 /// assert_eq!((row.count()?, entry.session()), (1, 700));
+/// assert_eq!((row.open_claim(0)?, row.held(700, 0)?, row.abandon(700, 0, 1)?), (None, None, None)); // nobody has claimed anything
 /// # Ok(())
 /// # }
 /// ```
@@ -152,6 +153,26 @@ impl Row {
     pub fn claimed(&mut self, who: u8, from: u16) -> Result<Option<u16>, Refused> {
         // SAFETY: alone, pointers: `h` and what is told to are this call's.
         if_there(self.handle.tell(|h, told| unsafe { sys::cf_row_claimed(h, who, from, told) }))
+    }
+
+    /// The lowest stage from this number on whose claim is open, and the session to which it was granted, also where several sessions have its
+    /// caller's number. It may be settled already, as for `claimed`.
+    pub fn open_claim(&mut self, from: u16) -> Result<Option<(u16, u64)>, Refused> {
+        // SAFETY: alone, pointers: `h` and what is told to are this call's.
+        let told = if_there(self.handle.tell(|h, told: *mut sys::cf_row_claim| unsafe { sys::cf_row_open_claim(h, from, told) }))?;
+        Ok(told.map(|claim| (claim.stage, claim.session)))
+    }
+
+    /// The lowest stage from this number on that a session has: its claim was granted to the session and is open, and it isn't settled.
+    pub fn held(&mut self, session: u64, from: u16) -> Result<Option<u16>, Refused> {
+        // SAFETY: alone, pointers: `h` and what is told to are this call's.
+        if_there(self.handle.tell(|h, told| unsafe { sys::cf_row_held(h, session, from, told) }))
+    }
+
+    /// The word that fails the lowest stage from this number on that a session has, with this code: what to put if that session is gone.
+    pub fn abandon(&mut self, session: u64, from: u16, code: u32) -> Result<Option<u64>, Refused> {
+        // SAFETY: alone, pointers: `h` and what is told to are this call's.
+        if_there(self.handle.tell(|h, told| unsafe { sys::cf_row_abandon(h, session, from, code, told) }))
     }
 
     /// How many entries were seen.

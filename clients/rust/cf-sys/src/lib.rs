@@ -418,6 +418,13 @@ pub struct cf_row_opening {
     pub session: u64,
 }
 
+#[repr(C)]
+#[derive(Clone, Copy, Debug, Default, PartialEq, Eq)]
+pub struct cf_row_claim {
+    pub session: u64,
+    pub stage: u16,
+}
+
 pub type cf_stage_function = unsafe extern "C" fn(context: *mut c_void, task: *const cf_task, answer: *mut cf_answer);
 
 extern "C" {
@@ -526,6 +533,9 @@ extern "C" {
     pub fn cf_row_number(view: *mut cf_handle, who: *mut u8) -> u32;
     pub fn cf_row_number_of(view: *mut cf_handle, session: u64, who: *mut u8) -> u32;
     pub fn cf_row_claimed(view: *mut cf_handle, who: u8, from: u16, stage: *mut u16) -> u32;
+    pub fn cf_row_open_claim(view: *mut cf_handle, from: u16, claim: *mut cf_row_claim) -> u32;
+    pub fn cf_row_held(view: *mut cf_handle, session: u64, from: u16, stage: *mut u16) -> u32;
+    pub fn cf_row_abandon(view: *mut cf_handle, session: u64, from: u16, code: u32, word: *mut u64) -> u32;
     pub fn cf_history_new(plan: *mut cf_handle, room: u16, words: *const u64, n: usize, history: *mut cf_handle) -> u32;
     pub fn cf_history_times(history: *mut cf_handle, times: *const u64, n: usize) -> u32;
     pub fn cf_history_say(history: *mut cf_handle, what: u32, text: *const u8, n: usize, ends: *const usize, count: usize) -> u32;
@@ -581,6 +591,7 @@ pub fn mismatch() -> Option<&'static str> {
         known!(cf_request_done: calls told),
         known!(cf_entry: word token),
         known!(cf_row_opening: room first session),
+        known!(cf_row_claim: session stage),
     ];
     structures.iter().find_map(|it| *it)
 }

@@ -2,7 +2,7 @@ use crate::row::steps::{Engine, Step, take};
 use cf_forms::Args;
 use cf_model::Claimed;
 use cf_outcome::{Cause, Outcome, Value};
-use cf_row::{LedgerFault, PutFault, Reply};
+use cf_row::{Claim, LedgerFault, PutFault, Reply};
 
 /// Caller 0, or 1, gives the source the number 5.
 const COMPLETE_BY_0: u64 = 0x0100000100000005;
@@ -33,8 +33,22 @@ const CLAIM_BY_7: u64 = 0x0407001000000000;
 
 const FIVE: Args = Args::One(Value::Int(5));
 
+/// Caller 7 fails the apply with code 9.
+const FAIL_BY_7: u64 = 0x0207001000000009;
+
 /// Bits that no event has.
 const NO_WORD: u64 = 0xff00000000000000;
+
+/// The claim of the apply, granted to a session.
+const BY_9: Claim = Claim {
+    stage: 1,
+    session: 9,
+};
+
+const BY_27: Claim = Claim {
+    stage: 1,
+    session: 27,
+};
 
 const DONE: Result<(), PutFault> = Ok(());
 
@@ -150,6 +164,41 @@ const CROWDED: [(u8, Step); 14] = [
     (1, Step::Number(9)),
 ];
 
+/// The second session has the apply until the first fails it, and its claim is open until it finishes.
+const HELD: [(u8, Step); 16] = [
+    (0, Step::Lands(Engine::Sound, &[COMPLETE_BY_0])),
+    (1, Step::Sees),
+    (1, Step::OpenClaim(0, None)),
+    (1, Step::Lands(Engine::Sound, &[CLAIM_BY_1])),
+    (0, Step::Sees),
+    (0, Step::Held(9, 0, Some(1))),
+    (0, Step::Held(9, 2, None)),
+    (0, Step::Held(7, 0, None)),
+    (0, Step::OpenClaim(1, Some(BY_9))),
+    (0, Step::Abandon(9, Some(FAIL_BY_0))),
+    (0, Step::Lands(Engine::Sound, &[FAIL_BY_0])),
+    (0, Step::Abandon(9, None)),
+    (0, Step::Held(9, 0, None)),
+    (0, Step::OpenClaim(0, Some(BY_9))),
+    (1, Step::Sees),
+    (1, Step::Lands(Engine::Sound, &[FINISH_BY_1])),
+];
+
+/// Caller 7 is several sessions. Of their claims of the apply one is granted, to session 27, and stays its.
+const WHOSE: [(u8, Step); 11] = [
+    (0, Step::Crowd),
+    (0, Step::Sees),
+    (0, Step::Others(CLAIM_BY_7)),
+    (0, Step::Saw(Ok(Reply::Claim(Claimed::Granted(FIVE))))),
+    (0, Step::Held(27, 0, Some(1))),
+    (0, Step::Held(7, 0, None)),
+    (0, Step::Lands(Engine::Sound, &[CLAIM_BY_7])),
+    (0, Step::Held(27, 0, Some(1))),
+    (0, Step::Held(7, 0, None)),
+    (0, Step::OpenClaim(0, Some(BY_27))),
+    (0, Step::Abandon(27, Some(FAIL_BY_7))),
+];
+
 /// An engine overwrites: the second session doesn't know that the first has finished the apply, and is told that it has
 /// cancelled it.
 const OVERWRITTEN: [(u8, Step); 6] = [
@@ -182,12 +231,14 @@ const LOST: [(u8, Step); 6] = [
 ];
 
 /// The second session's first token in each of them.
-const TESTS: [(u32, &[(u8, Step)]); 8] = [
+const TESTS: [(u32, &[(u8, Step)]); 10] = [
     (0, &DOUBTS),
     (0, &FINDS),
     (0, &GONE),
     (8_388_606, &GROUPS),
     (0, &CROWDED),
+    (0, &HELD),
+    (0, &WHOSE),
     (0, &OVERWRITTEN),
     (0, &TORN),
     (0, &LOST),

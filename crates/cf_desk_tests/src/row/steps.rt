@@ -2,7 +2,7 @@
 use crate::checks::{holds, must};
 use crate::plans::{SOURCE_AND_APPLY, plan_of};
 use cf_outcome::Outcome;
-use cf_row::{Entry, LedgerFault, PutFault, Reply, Row, TOKENS};
+use cf_row::{Claim, Entry, LedgerFault, PutFault, Reply, Row, TOKENS};
 use std::alloc::Global;
 use std::process::Abort;
 
@@ -52,6 +52,12 @@ pub(crate) enum Step {
     NumberOf(u64, Option<u8>),
     /// The lowest stage that is claimed by a caller.
     Claimed(u8, Option<u16>),
+    /// The lowest stage from a number on whose claim is open, and whose it is.
+    OpenClaim(u16, Option<Claim>),
+    /// The lowest stage from a number on that a session has.
+    Held(u64, u16, Option<u16>),
+    /// The word that fails the lowest stage that a session has, by code 9.
+    Abandon(u64, Option<u64>),
     Outcome(u16, Option<Outcome>),
 }
 
@@ -168,6 +174,9 @@ fn is_known(row: &Row, step: Step) -> bool {
         Step::Number(answer) => replica.number() == answer,
         Step::NumberOf(session, answer) => replica.number_of(session) == answer,
         Step::Claimed(who, answer) => replica.claimed(who, 0) == answer,
+        Step::OpenClaim(from, answer) => replica.open_claim(from) == answer,
+        Step::Held(session, from, answer) => replica.held(session, from) == answer,
+        Step::Abandon(session, answer) => replica.abandon(session, 0, 9) == answer,
         _ => false,
     }
 }

@@ -1,4 +1,5 @@
 use Rattle.std.proofs.Common.{◌∙◌}
+use Rattle.cf_row.proofs.Granted.{granted_grow}
 use Rattle.cf_row.proofs.Rooms.{free_grow, kept_grow}
 use Rattle.cf_row.proofs.replica.Replica.grow.Goals as goal
 
@@ -13,5 +14,9 @@ invariant_of-self c =
         few = memory.few;
         of_seen = memory.of_seen;
         of_records = memory.of_records;
+      };
+      claims = record {
+        are = granted_grow c.grow.result r.ledger c.grow.new.self r.seen.items r.claims.items c.args.more c.grow.ensures.grown c.grow.ensures.unchanged c.self.invariant.kept.taken c.self.invariant.claims.are;
+        places = c.self.invariant.claims.places;
       };
     }

@@ -1,6 +1,8 @@
 use Rattle.std.proofs.Common.{◌≡◌, ◌+◌, ◌-◌, [], ◌∷◌, ◌++◌, eqb, length, length-append, ap, ◌∙◌, arith, rules}
 use Rattle.cf_event.specs.declared.record.Record.TheVariants.{Did}
 use Rattle.cf_row.specs.Rows.{Replica, session_of}
+use Rattle.cf_row.specs.Grants.{granted_by}
+use Rattle.cf_row.proofs.Granted.{claim_count, granted_take}
 use Rattle.cf_row.proofs.Memory.{note_count, spends}
 use Rattle.cf_row.proofs.Own.{kept_take}
 use Rattle.cf_row.proofs.replica.Replica.take.Goals as goal
@@ -16,6 +18,7 @@ invariant_of-self-2 c =
     let free : r.free ≡ c.args.self.now.free = ap (λ (v : Replica). v.free) c.self.view_is in
     let size = ap length seen ∙ length-append r.seen.items (c.args.entry ∷ []) in
     let count = note_count c.is_of-is_own.result r.records.items c.note.new.records.items (Did (c.len-place.result + 1) c.in-Some.event c.in_ok-reply.reply) c.note.ensures.items in
+    let claims = claim_count (granted_by c.in-Some.event c.in_ok-reply.reply) r.claims.items c.note_claim.new.claims.items c.session.result c.note_claim.ensures.items in
     record {
       kept = kept_take r.ledger c.apply.new.self r.session r.seen.items c.push_reserved.new.self.items r.records.items c.note.new.records.items c.args.entry c.in-Some.event c.in_ok-reply.reply c.is_of-is_own.result (c.len-place.result + 1)
           c.self.invariant.kept (search rules) c.in_ok-reply.ensures.done seen (search rules) is_own (search rules);
@@ -24,5 +27,10 @@ invariant_of-self-2 c =
         few = omega (arith, memory.few);
         of_seen = omega (arith, size, c.push_reserved.ensures.capacity, memory.of_seen, some, free);
         of_records = omega (arith, count, c.note.ensures.kept, memory.of_records, some, free);
+      };
+      claims = record {
+        are = granted_take r.ledger c.apply.new.self r.seen.items c.push_reserved.new.self.items r.claims.items c.note_claim.new.claims.items c.args.entry c.in-Some.event c.in_ok-reply.reply c.session.result
+            c.self.invariant.kept.named c.self.invariant.kept.events (search rules) c.in_ok-reply.ensures.done seen c.self.invariant.claims.are c.note_claim.ensures.items c.session.ensures;
+        places = omega (arith, claims, c.note_claim.ensures.kept, c.self.invariant.claims.places, some, free);
       };
     }
