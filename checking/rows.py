@@ -114,6 +114,8 @@ def rows_of_rust(tools: Tools, made: Path) -> List[Row]:
             [[python, offline, "--debian", "test", "-q", "-p", "cf", "--features", "tokio,rayon,serde,tracing", "--lib", "--tests"]]),
         Row("Rust's requests in SQLite", [*needs, DEBIANS],
             [[python, offline, "--debian", "test", "-q", "-p", "cf-store", "--features", "sqlite", "--tests"]]),
+        Row("Rust's requests in etcd", [*needs, DEBIANS],
+            [[python, offline, "--debian", "test", "-q", "-p", "cf-store", "--features", "etcd", "--tests"]]),
         Row("Rust's order in SQLite", [*needs, DEBIANS],
             [[python, offline, "--debian", "run", "-q", "-p", "cf-store", "--features", "sqlite", "--example", "order", "--", str(made / "orders.db")]],
             ("clients/rust", "cf-store/examples/order.rs")),

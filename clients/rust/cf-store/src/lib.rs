@@ -11,6 +11,7 @@
 //! | `store.rs` | what a store is asked: [`Store`] |
 //! | `sqlite.rs` | a file of SQLite's: `SQLite` |
 //! | `postgres.rs` | a database of PostgreSQL's: `Postgres` |
+//! | `etcd.rs`, `http.rs` | a cluster of etcd's: `Etcd`; and how its gateway is asked |
 //! | `plan.rs` | the text of a request's plan |
 //! | `flow.rs` | plans that are begun again and again: [`Flow`] |
 //! | `functions.rs` | functions by name and version: [`Functions`] |
@@ -49,9 +50,13 @@
 #![warn(missing_docs, missing_debug_implementations, unreachable_pub, rust_2018_idioms)]
 mod context;
 mod error;
+#[cfg(feature = "etcd")]
+mod etcd;
 mod flow;
 mod functions;
 mod history;
+#[cfg(feature = "etcd")]
+mod http;
 mod plan;
 #[cfg(feature = "postgres")]
 mod postgres;
@@ -65,6 +70,8 @@ mod view;
 pub use cf_graph::Entry;
 pub use context::{context, within};
 pub use error::{Error, Failed, StoreError};
+#[cfg(feature = "etcd")]
+pub use etcd::Etcd;
 pub use flow::{Flow, Step};
 pub use functions::{Composing, Function, Functions, Transactional};
 pub use history::{History, What};
