@@ -113,7 +113,7 @@ def rows_of_rust(tools: Tools, made: Path) -> List[Row]:
         Row("Rust's tests under tokio, rayon, serde and tracing", [*needs, DEBIANS],
             [[python, offline, "--debian", "test", "-q", "-p", "cf", "--features", "tokio,rayon,serde,tracing", "--lib", "--tests"]]),
         Row("Rust's requests in SQLite", [*needs, DEBIANS],
-            [[python, offline, "--debian", "test", "-q", "-p", "cf-store", "--features", "sqlite", "--tests"]]),
+            [["env", f"CF_LOOK={tools['cf_look']}", python, offline, "--debian", "test", "-q", "-p", "cf-store", "--features", "sqlite", "--tests"]]),
         Row("Rust's requests in etcd", [*needs, DEBIANS],
             [[python, offline, "--debian", "test", "-q", "-p", "cf-store", "--features", "etcd", "--tests"]]),
         Row("Rust's order in SQLite", [*needs, DEBIANS],

@@ -2,7 +2,7 @@
 mod common;
 
 use cf_store::{context, within, Error, Failed, Flow, Functions, Request, Service, Store, StoreError, What};
-use common::{printed, python, quick, settled, File};
+use common::{fits, printed, python, quick, settled, File};
 use serde_json::{json, Map, Value};
 use std::time::{Duration, Instant};
 
@@ -55,6 +55,7 @@ fn a_function_gives_a_stage_to_wait_for() {
     assert!(found.unwrap().complete(&7).unwrap());
     assert_eq!(settled::<i64>(&late), Ok(7));
     assert!(matches!(late.again(1), Err(StoreError::Refused(_))));
+    fits(&request.history().unwrap().account().unwrap());
 
     let other = service.request("another").unwrap();
     let functions = Functions::new().composing("strays", 1, move |_: &Request, _: i64| other.promise("elsewhere"));
@@ -163,6 +164,7 @@ fn histories_are_told() {
     assert!(history.line().unwrap().contains("; 1 failed: 2 declined by CardDeclined: no\\ncard"), "{}", history.line().unwrap());
     let account: Value = serde_json::from_str(&history.account().unwrap()).unwrap();
     assert_eq!((account["events"].as_array().unwrap().len(), account["name"].as_str()), (6, Some("order 17")));
+    fits(&history.account().unwrap());
     assert!(history.script().unwrap().starts_with('{'));
     let secret = request.history_by(|what| match what {
         What::Value(_) => "a value".into(),
@@ -189,7 +191,9 @@ fn sessions_of_one_number_have_records_of_their_own() {
         let other = Service::with(file.store(), Functions::new(), nobody.clone()).unwrap();
         assert!(other.open("numbers").unwrap().stage(number).unwrap().complete(&number).unwrap());
     }
-    let account: Value = serde_json::from_str(&request.history().unwrap().account().unwrap()).unwrap();
+    let account = request.history().unwrap().account().unwrap();
+    fits(&account);
+    let account: Value = serde_json::from_str(&account).unwrap();
     let callers = account["callers"].as_array().unwrap();
     let shared: usize = callers.iter().filter_map(|it| it["sessions"].as_array()).map(Vec::len).sum();
     assert!(callers.len() == 64 && shared >= 4, "67 sessions have 64 numbers");

@@ -2,6 +2,7 @@
 #![allow(dead_code)]
 
 use cf_store::{Functions, Options, Service, Stage, Store};
+use std::io::Write;
 use std::path::PathBuf;
 use std::process::{Child, Command, Stdio};
 use std::time::Duration;
@@ -58,9 +59,22 @@ pub fn python(program: &str, args: &[&str]) -> Option<Child> {
 
 /// What a program has printed, once it has ended.
 pub fn printed(child: Child) -> String {
+    let (ended_well, told) = printed_by(child);
+    assert!(ended_well, "the program in Python fails");
+    told
+}
+
+/// Has `cf_look check` judge an account, where CF_LOOK names that program.
+pub fn fits(account: &str) {
+    let Some(program) = std::env::var_os("CF_LOOK").filter(|it| std::path::Path::new(it).exists()) else { return };
+    let mut look = Command::new(program).arg("check").stdin(Stdio::piped()).stdout(Stdio::piped()).spawn().unwrap();
+    look.stdin.take().unwrap().write_all(account.as_bytes()).unwrap();
+    assert_eq!(printed_by(look), (true, "fits\n".into()));
+}
+
+fn printed_by(child: Child) -> (bool, String) {
     let told = child.wait_with_output().unwrap();
-    assert!(told.status.success(), "the program in Python fails");
-    String::from_utf8(told.stdout).unwrap()
+    (told.status.success(), String::from_utf8(told.stdout).unwrap())
 }
 
 /// Settled within a minute.
