@@ -112,7 +112,7 @@ def rows_of_rust(tools: Tools, made: Path) -> List[Row]:
         Row("Rust's tests", needs, [[python, offline, "test", "-q", "--lib", "--tests", "--examples"]]),
         Row("Rust's tests under tokio, rayon, serde and tracing", [*needs, DEBIANS],
             [[python, offline, "--debian", "test", "-q", "-p", "cf", "--features", "tokio,rayon,serde,tracing", "--lib", "--tests"]]),
-        Row("Rust's requests in SQLite", [*needs, DEBIANS],
+        Row("Rust's requests in SQLite", [*needs, "cf_look", DEBIANS],
             [["env", f"CF_LOOK={tools['cf_look']}", python, offline, "--debian", "test", "-q", "-p", "cf-store", "--features", "sqlite", "--tests"]]),
         Row("Rust's requests in etcd", [*needs, DEBIANS],
             [[python, offline, "--debian", "test", "-q", "-p", "cf-store", "--features", "etcd", "--tests"]]),

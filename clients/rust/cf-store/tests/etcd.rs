@@ -34,10 +34,13 @@ impl Server {
             return None;
         }
         let folder = std::env::temp_dir().join(format!("cf-store-{}-{name}.etcd", std::process::id()));
-        let ports = [free_port(), free_port()];
-        let mut server = Server { child: Server::run(&folder, ports), folder, ports };
-        server.until_it_answers();
-        Some(server)
+        loop {
+            let ports = [free_port(), free_port()];
+            let mut server = Server { child: Server::run(&folder, ports), folder: folder.clone(), ports };
+            if server.answers() {
+                return Some(server);
+            } // (another program has taken a port meanwhile)
+        }
     }
 
     fn run(folder: &PathBuf, [client, peer]: [u16; 2]) -> Child {
@@ -48,12 +51,17 @@ impl Server {
         command.stdout(Stdio::null()).stderr(Stdio::null()).spawn().unwrap()
     }
 
-    fn until_it_answers(&mut self) {
+    /// Waits until it answers; false where it has ended.
+    fn answers(&mut self) -> bool {
         let until = Instant::now() + Duration::from_secs(60);
         while !self.post("/v3/kv/range", &json!({"key": "AA=="})).contains("\"revision\"") {
+            if self.child.try_wait().unwrap().is_some() {
+                return false;
+            }
             assert!(Instant::now() < until, "etcd doesn't answer");
             thread::sleep(Duration::from_millis(20));
         }
+        self.child.try_wait().unwrap().is_none() // (else another's server answers at this port)
     }
 
     /// What the server answers, or nothing where it doesn't.
@@ -66,13 +74,13 @@ impl Server {
     }
 
     fn kill(&mut self) {
-        self.child.kill().unwrap();
+        let _has_ended = self.child.kill();
         self.child.wait().unwrap();
     }
 
     fn restart(&mut self) {
         self.child = Server::run(&self.folder, self.ports);
-        self.until_it_answers();
+        assert!(self.answers());
     }
 
     fn address(&self) -> String {
