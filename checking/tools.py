@@ -10,7 +10,7 @@ from checking.crates import TOP
 
 PROGRAMS = ["cf", "cf_look", "cf_bench"]  # that rows call
 DEBIAN = Path("/usr/share/cargo/registry")
-CRATES = ["futures", "getrandom", "rayon", "rusqlite", "rustix", "serde", "serde_json", "tokio", "tokio-postgres", "tracing"]
+CRATES = ["base64", "futures", "getrandom", "rayon", "rusqlite", "rustix", "serde", "serde_json", "tokio", "tokio-postgres", "tracing"]
 DEBIANS = f"Debian's crates of {', '.join(CRATES)}"
 JARS = Path("/usr/share/java")
 JUNIT = "JUnit 5, as Debian's junit5 has it"

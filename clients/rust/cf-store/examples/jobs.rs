@@ -1,8 +1,8 @@
 //! A worker of `conformance/stores/engines jobs`: it works on all requests of a store until it is killed. Its functions are those of
-//! `jobs_functions.py` that aren't transactional.
+//! `jobs_functions.py`. With the feature `etcd` the store may be a cluster, which has no transactional ones.
 //!
 //!     jobs ADDRESS EFFECTS
-use cf_store::{Functions, Options, Postgres, SQLite, Service, StoreError};
+use cf_store::{Functions, Options, Postgres, PostgresTransaction, SQLite, Service, StoreError};
 use std::time::{Duration, SystemTime, UNIX_EPOCH};
 
 type Fault = Box<dyn std::error::Error>;
@@ -55,18 +55,31 @@ fn main() -> Result<(), Fault> {
         pause(10);
         Ok(name)
     };
-    let functions = Functions::new().with("outside", 1, outside).with("same", 1, |name: String| Ok::<_, String>(name)).with(
-        "both",
-        1,
-        |name: String, _other: String| Ok::<_, String>(name),
-    );
+    let both = |name: String, _other: String| Ok::<_, String>(name);
+    let functions = Functions::new().with("outside", 1, outside).with("same", 1, |name: String| Ok::<_, String>(name)).with("both", 1, both);
     let mut options = Options::default();
     options.threads = 2;
     options.lease = Duration::from_millis(700);
     options.takes_all = true;
     let _service = match file_of(&address) {
-        Some(file) => Service::with(SQLite::open(file)?, functions, options)?,
-        None => Service::with(database(&address)?, functions, options)?,
+        Some(file) => {
+            let inside = |db: &mut rusqlite::Connection, name: String| -> Result<String, Fault> {
+                db.execute("insert into effect values (?)", [&name])?;
+                pause(10);
+                Ok(name)
+            };
+            Service::with(SQLite::open(file)?, functions.transactional("inside", 1, inside), options)?
+        }
+        #[cfg(feature = "etcd")]
+        None if address.starts_with("etcd://") => Service::with(cf_store::Etcd::connect(&address)?, functions, options)?,
+        None => {
+            let inside = |db: &mut PostgresTransaction, name: String| -> Result<String, Fault> {
+                db.execute("insert into effect values ($1)", &[&name])?;
+                pause(10);
+                Ok(name)
+            };
+            Service::with(database(&address)?, functions.transactional("inside", 1, inside), options)?
+        }
     };
     loop {
         std::thread::park();

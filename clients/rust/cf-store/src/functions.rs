@@ -1,24 +1,60 @@
 //! Functions by name and version, so that a request which one process began goes on in another.
 use crate::error::Failed;
+use crate::request::{Request, Stage};
 use serde::de::DeserializeOwned;
 use serde::Serialize;
-use serde_json::Value;
+use serde_json::{Map, Value};
+use std::any::Any;
 use std::collections::BTreeMap;
 use std::fmt;
 use std::panic::{catch_unwind, AssertUnwindSafe};
 use std::sync::Arc;
 
 type Call = dyn Fn(Vec<Value>) -> Result<Value, Failed> + Send + Sync;
+type Compose = dyn Fn(&Request, Vec<Value>) -> Result<Stage, Failed> + Send + Sync;
+type Transact = dyn Fn(&mut dyn Any, Vec<Value>) -> Result<Value, Failed> + Send + Sync;
+
+/// How a function is called.
+#[derive(Clone)]
+pub(crate) enum Kind {
+    Plain(Arc<Call>),
+    /// With the request, of which it gives a stage.
+    Composes(Arc<Compose>),
+    /// With the engine's connection, in a transaction.
+    Transacts(Arc<Transact>),
+}
+
+/// A function, with the names of its arguments where it takes these by name, too.
+#[derive(Clone)]
+pub(crate) struct Known {
+    pub(crate) kind: Kind,
+    pub(crate) names: Vec<String>,
+}
 
 /// The functions that a process knows. One that it doesn't know waits for a process that does.
 #[derive(Clone, Default)]
-pub struct Functions(BTreeMap<(String, u32), Arc<Call>>);
+pub struct Functions(BTreeMap<(String, u32), Known>);
 
 /// What can be registered: a function of up to two arguments that are read from JSON, and whose result is written as JSON, or whose error is shown.
 /// `Args` is the tuple of its arguments.
 pub trait Function<Args>: Send + Sync + 'static {
     /// Calls it with these arguments.
     fn call(&self, args: Vec<Value>) -> Result<Value, Failed>;
+}
+
+/// What can be registered to compose: a function of a request and up to two arguments, which attaches stages to the request and gives one of them.
+pub trait Composing<Args>: Send + Sync + 'static {
+    /// Calls it with these arguments.
+    fn call(&self, request: &Request, args: Vec<Value>) -> Result<Stage, Failed>;
+}
+
+/// What can be registered to act in the store's own transaction: a function of a connection and up to two arguments.
+pub trait Transactional<Args>: Send + Sync + 'static {
+    /// What it is called with first: `rusqlite::Connection` or `PostgresTransaction`.
+    type Connection: 'static;
+
+    /// Calls it with these arguments.
+    fn call(&self, connection: &mut Self::Connection, args: Vec<Value>) -> Result<Value, Failed>;
 }
 
 impl Functions {
@@ -35,24 +71,80 @@ impl Functions {
     /// The same with one more function, in the place of one of this name and version. A changed meaning is a new version: keep the old one as long
     /// as requests have it.
     #[must_use]
-    pub fn with<Args, F: Function<Args>>(mut self, name: &str, version: u32, function: F) -> Functions {
-        self.0.insert((name.to_owned(), version), Arc::new(move |args| function.call(args)));
+    pub fn with<Args, F: Function<Args>>(self, name: &str, version: u32, function: F) -> Functions {
+        self.and(name, version, Kind::Plain(Arc::new(move |args| function.call(args))))
+    }
+
+    /// The same with one more function that [composes](Stage::compose).
+    #[must_use]
+    pub fn composing<Args, F: Composing<Args>>(self, name: &str, version: u32, function: F) -> Functions {
+        self.and(name, version, Kind::Composes(Arc::new(move |request, args| function.call(request, args))))
+    }
+
+    /// The same with one more function that is called in a transaction of the store's, with its connection. What it does with that stands exactly
+    /// where the finish of its stage does. It is called again where the transaction comes to nothing, as by a cut connection. It neither ends
+    /// the transaction nor puts to a request. [`Service::with`](crate::Service::with) refuses it over a store that has no transactions.
+    #[must_use]
+    pub fn transactional<Args, F: Transactional<Args>>(self, name: &str, version: u32, function: F) -> Functions {
+        let call = move |connection: &mut dyn Any, args| match connection.downcast_mut() {
+            Some(connection) => function.call(connection, args),
+            None => Err(Failed::new("TypeError", "it takes the connection of another engine")),
+        };
+        self.and(name, version, Kind::Transacts(Arc::new(call)))
+    }
+
+    /// Says by which names a function takes its arguments, in their order: then it is also called for stages that [give these by
+    /// name](Request::supply_named), in any language. One that is left out is read from null.
+    ///
+    /// # Panics
+    ///
+    /// Where no function of this name and version is registered.
+    #[must_use]
+    pub fn parameters(mut self, name: &str, version: u32, names: &[&str]) -> Functions {
+        let known = self.0.get_mut(&(name.to_owned(), version));
+        known.expect("the function is registered first").names = names.iter().map(|it| (*it).to_owned()).collect();
         self
     }
 
-    pub(crate) fn of(&self, name: &str, version: u32) -> Option<Arc<Call>> {
-        self.0.get(&(name.to_owned(), version)).cloned()
+    fn and(mut self, name: &str, version: u32, kind: Kind) -> Functions {
+        self.0.insert((name.to_owned(), version), Known { kind, names: Vec::new() });
+        self
+    }
+
+    pub(crate) fn of(&self, name: &str, version: u32) -> Option<&Known> {
+        self.0.get(&(name.to_owned(), version))
     }
 
     /// The highest version of a function.
     pub(crate) fn latest(&self, name: &str) -> Option<u32> {
         self.0.keys().rev().find_map(|(known, version)| (known == name).then_some(*version))
     }
+
+    /// Whether one of them is called in a transaction.
+    pub(crate) fn transact(&self) -> bool {
+        self.0.values().any(|known| matches!(known.kind, Kind::Transacts(_)))
+    }
+}
+
+impl Known {
+    /// The arguments in their order, where some are given by name.
+    pub(crate) fn in_order(&self, mut args: Vec<Value>, mut named: Map<String, Value>) -> Result<Vec<Value>, Failed> {
+        if named.is_empty() {
+            return Ok(args);
+        }
+        for name in self.names.iter().skip(args.len()) {
+            args.push(named.remove(name).unwrap_or_default());
+        }
+        match named.keys().next() {
+            None => Ok(args),
+            Some(name) => Err(Failed::new("TypeError", format!("it takes no argument {name:?}, or has it already"))),
+        }
+    }
 }
 
 /// Calls a function; what it panics with is a failure.
-pub(crate) fn call(function: &Call, args: Vec<Value>) -> Result<Value, Failed> {
-    catch_unwind(AssertUnwindSafe(|| function(args))).unwrap_or_else(|panic| {
+pub(crate) fn call<T>(function: impl FnOnce() -> Result<T, Failed>) -> Result<T, Failed> {
+    catch_unwind(AssertUnwindSafe(function)).unwrap_or_else(|panic| {
         let text = panic.downcast_ref::<&str>().map(|it| (*it).to_owned());
         Err(Failed::new("Panic", text.or_else(|| panic.downcast_ref::<String>().cloned()).unwrap_or_else(|| "it panicked".into())))
     })
@@ -70,12 +162,13 @@ fn ended(args: &mut std::vec::IntoIter<Value>) -> Result<(), Failed> {
     }
 }
 
+fn failed<E: fmt::Display + 'static>(error: E) -> Failed {
+    let known: Option<&Failed> = (&error as &dyn Any).downcast_ref();
+    known.cloned().unwrap_or_else(|| Failed::of(&error))
+}
+
 fn written<R: Serialize, E: fmt::Display + 'static>(result: Result<R, E>) -> Result<Value, Failed> {
-    let value = result.map_err(|error| {
-        let known: Option<&Failed> = (&error as &dyn std::any::Any).downcast_ref();
-        known.cloned().unwrap_or_else(|| Failed::of(&error))
-    })?;
-    serde_json::to_value(value).map_err(|error| Failed::new("TypeError", format!("its result can't be written: {error}")))
+    serde_json::to_value(result.map_err(failed)?).map_err(|error| Failed::new("TypeError", format!("its result can't be written: {error}")))
 }
 
 macro_rules! functions {
@@ -93,6 +186,40 @@ macro_rules! functions {
                 $(let $arg = read(&mut args)?;)*
                 ended(&mut args)?;
                 written(self($($arg),*))
+            }
+        }
+
+        impl<Fun, $($arg,)* Err> Composing<($($arg,)* Err,)> for Fun
+        where
+            Fun: Fn(&Request, $($arg),*) -> Result<Stage, Err> + Send + Sync + 'static,
+            $($arg: DeserializeOwned,)*
+            Err: fmt::Display + 'static,
+        {
+            #[allow(non_snake_case, unused_mut)]
+            fn call(&self, request: &Request, args: Vec<Value>) -> Result<Stage, Failed> {
+                let mut args = args.into_iter();
+                $(let $arg = read(&mut args)?;)*
+                ended(&mut args)?;
+                self(request, $($arg),*).map_err(failed)
+            }
+        }
+
+        impl<Fun, Con, $($arg,)* Res, Err> Transactional<(Con, $($arg,)* Res, Err)> for Fun
+        where
+            Fun: Fn(&mut Con, $($arg),*) -> Result<Res, Err> + Send + Sync + 'static,
+            Con: 'static,
+            $($arg: DeserializeOwned,)*
+            Res: Serialize,
+            Err: fmt::Display + 'static,
+        {
+            type Connection = Con;
+
+            #[allow(non_snake_case, unused_mut)]
+            fn call(&self, connection: &mut Con, args: Vec<Value>) -> Result<Value, Failed> {
+                let mut args = args.into_iter();
+                $(let $arg = read(&mut args)?;)*
+                ended(&mut args)?;
+                written(self(connection, $($arg),*))
             }
         }
     )*};

@@ -11,8 +11,12 @@
 //! | `store.rs` | what a store is asked: [`Store`] |
 //! | `sqlite.rs` | a file of SQLite's: `SQLite` |
 //! | `postgres.rs` | a database of PostgreSQL's: `Postgres` |
+//! | `etcd.rs`, `http.rs` | a cluster of etcd's: `Etcd`; and how its gateway is asked |
 //! | `plan.rs` | the text of a request's plan |
+//! | `flow.rs` | plans that are begun again and again: [`Flow`] |
 //! | `functions.rs` | functions by name and version: [`Functions`] |
+//! | `context.rs` | what goes along with functions: [`context`], [`within`] |
+//! | `history.rs` | what happened to a request, as texts: [`History`] |
 //! | `view.rs` | what this session knows of one row, and how it puts words there |
 //! | `request.rs` | what a program has of a request: [`Request`], [`Stage`] |
 //! | `service.rs` | the threads that run functions, and the pump, which looks what is new: [`Service`] |
@@ -44,8 +48,15 @@
 #![cfg(feature = "json")]
 #![forbid(unsafe_code)]
 #![warn(missing_docs, missing_debug_implementations, unreachable_pub, rust_2018_idioms)]
+mod context;
 mod error;
+#[cfg(feature = "etcd")]
+mod etcd;
+mod flow;
 mod functions;
+mod history;
+#[cfg(feature = "etcd")]
+mod http;
 mod plan;
 #[cfg(feature = "postgres")]
 mod postgres;
@@ -57,12 +68,17 @@ mod store;
 mod view;
 
 pub use cf_graph::Entry;
+pub use context::{context, within};
 pub use error::{Error, Failed, StoreError};
-pub use functions::{Function, Functions};
+#[cfg(feature = "etcd")]
+pub use etcd::Etcd;
+pub use flow::{Flow, Step};
+pub use functions::{Composing, Function, Functions, Transactional};
+pub use history::{History, What};
 #[cfg(feature = "postgres")]
-pub use postgres::Postgres;
+pub use postgres::{Postgres, PostgresTransaction};
 pub use request::{Request, Stage};
 pub use service::{Options, Service};
 #[cfg(feature = "sqlite")]
 pub use sqlite::SQLite;
-pub use store::{Mark, Opened, Put, Store, Timer};
+pub use store::{Mark, Opened, Put, Store, Timer, Transaction};

@@ -2,7 +2,7 @@
 use crate::error::StoreError;
 use cf_graph::{Form, Plan, PlanBuilder};
 use serde::{Deserialize, Serialize};
-use serde_json::Value;
+use serde_json::{Map, Value};
 
 /// The format of plans in stores.
 const FORMAT: u32 = 3;
@@ -19,9 +19,9 @@ pub(crate) struct Said {
     /// What its function is called with, where it has no sources.
     #[serde(default, skip_serializing_if = "Vec::is_empty")]
     pub(crate) args: Vec<Value>,
-    /// What it is called with by name, as only Python's are.
-    #[serde(default, skip_serializing_if = "Option::is_none")]
-    pub(crate) kwargs: Option<Value>,
+    /// What it is called with by name.
+    #[serde(default, skip_serializing_if = "Map::is_empty")]
+    pub(crate) kwargs: Map<String, Value>,
     /// The stage whose function a further try calls.
     #[serde(default, skip_serializing_if = "Option::is_none")]
     pub(crate) again: Option<u16>,
@@ -30,16 +30,20 @@ pub(crate) struct Said {
     pub(crate) to: Option<u16>,
     /// What goes along of the context in which it was attached.
     #[serde(default, skip_serializing_if = "Option::is_none")]
-    pub(crate) context: Option<Value>,
+    pub(crate) context: Option<Map<String, Value>>,
 }
 
-#[derive(Deserialize)]
+#[derive(Serialize, Deserialize)]
 struct Text {
     cf: u32,
+    #[serde(default)]
+    flow: String,
     stages: Vec<Row>,
+    #[serde(default, skip_serializing_if = "Option::is_none")]
+    context: Option<Map<String, Value>>,
 }
 
-#[derive(Deserialize)]
+#[derive(Serialize, Deserialize)]
 struct Row {
     form: String,
     #[serde(default)]
@@ -53,11 +57,26 @@ struct Row {
 pub(crate) struct SharedPlan {
     pub(crate) plan: Plan,
     pub(crate) stages: Vec<(Form, Vec<u16>, Said)>,
+    /// What goes along of the context in which it was begun.
+    pub(crate) context: Map<String, Value>,
 }
 
-/// The text of a plan without stages.
-pub(crate) fn empty() -> String {
-    format!(r#"{{"cf":{FORMAT},"flow":"","stages":[]}}"#)
+/// The text of a plan, with what is said of its stages, and the context that its functions are to have.
+pub(crate) fn text_of(flow: &str, stages: Vec<(Form, Vec<u16>, Said)>, context: Option<Map<String, Value>>) -> Result<String, StoreError> {
+    let name = |form: Form| FORMS.iter().find_map(|(name, known)| (*known == form).then_some(*name)).unwrap_or_default();
+    let stages = stages.into_iter().map(|(form, of, said)| Row { form: name(form).into(), of, said }).collect();
+    let text = Text { cf: FORMAT, flow: flow.into(), stages, context };
+    serde_json::to_string(&text).map_err(|error| StoreError::Refused(error.to_string()))
+}
+
+/// Whether two texts are of one plan, wherever it was begun.
+pub(crate) fn are_alike(text: &str, other: &str) -> bool {
+    let bare = |text: &str| -> Option<Value> {
+        let mut read: Value = serde_json::from_str(text).ok()?;
+        read.as_object_mut()?.remove("context");
+        Some(read)
+    };
+    text == other || bare(text).map_or(false, |it| Some(it) == bare(other))
 }
 
 /// Reads the text of a request's plan.
@@ -76,7 +95,7 @@ pub(crate) fn read(text: &str, request: &str) -> Result<SharedPlan, StoreError> 
         stages.push((form, row.of, checked(row.said, number).map_err(|why| broken(&why))?));
     }
     let plan = builder.build().map_err(|refused| broken(&refused))?;
-    Ok(SharedPlan { plan, stages })
+    Ok(SharedPlan { plan, stages, context: text.context.unwrap_or_default() })
 }
 
 /// What the payload of an attached stage says.
@@ -98,26 +117,27 @@ pub(crate) fn has_function(form: Form) -> bool {
 }
 
 fn form_of(name: &str) -> Option<Form> {
-    let forms = [
-        ("source", Form::Source),
-        ("supply", Form::Supply),
-        ("runAsync", Form::RunAsync),
-        ("apply", Form::Apply),
-        ("accept", Form::Accept),
-        ("thenRun", Form::ThenRun),
-        ("combine", Form::Combine),
-        ("acceptBoth", Form::AcceptBoth),
-        ("runBoth", Form::RunBoth),
-        ("applyEither", Form::ApplyEither),
-        ("acceptEither", Form::AcceptEither),
-        ("runEither", Form::RunEither),
-        ("compose", Form::Compose),
-        ("handle", Form::Handle),
-        ("whenComplete", Form::WhenComplete),
-        ("exceptionally", Form::Exceptionally),
-        ("allOf", Form::AllOf),
-        ("anyOf", Form::AnyOf),
-        ("exceptionallyCompose", Form::ExceptionallyCompose),
-    ];
-    forms.into_iter().find_map(|(known, form)| (known == name).then_some(form))
+    FORMS.iter().find_map(|(known, form)| (*known == name).then_some(*form))
 }
+
+const FORMS: [(&str, Form); 19] = [
+    ("source", Form::Source),
+    ("supply", Form::Supply),
+    ("runAsync", Form::RunAsync),
+    ("apply", Form::Apply),
+    ("accept", Form::Accept),
+    ("thenRun", Form::ThenRun),
+    ("combine", Form::Combine),
+    ("acceptBoth", Form::AcceptBoth),
+    ("runBoth", Form::RunBoth),
+    ("applyEither", Form::ApplyEither),
+    ("acceptEither", Form::AcceptEither),
+    ("runEither", Form::RunEither),
+    ("compose", Form::Compose),
+    ("handle", Form::Handle),
+    ("whenComplete", Form::WhenComplete),
+    ("exceptionally", Form::Exceptionally),
+    ("allOf", Form::AllOf),
+    ("anyOf", Form::AnyOf),
+    ("exceptionallyCompose", Form::ExceptionallyCompose),
+];

@@ -1,7 +1,8 @@
 //! Rows in tables of a PostgreSQL database, which machines share, Python's processes too.
 use crate::error::StoreError;
-use crate::store::{in_a_row, Mark, Opened, Put, Store, Timer};
+use crate::store::{in_a_row, Mark, Opened, Put, Store, Timer, Transaction};
 use cf_graph::Entry;
+use std::any::Any;
 use std::collections::{BTreeMap, HashMap};
 use std::fmt;
 use std::future::poll_fn;
@@ -30,6 +31,8 @@ const SCHEMA: &str = "
     create table if not exists cf_name (request bigint, session bigint, name text not null,
         primary key (request, session));
 ";
+/// One statement: where a place is taken nothing of it stands.
+const PUT: &str = "insert into cf_word select id, v.* from cf_request, unnest($2::int[], $3::bigint[], $4::bigint[], $5::bytea[]) as v where id = $1";
 const NOW: &str = "extract(epoch from clock_timestamp())::double precision";
 const MARK: &str = "pg_snapshot_xmin(pg_current_snapshot())::text::bigint";
 /// The number of the lock under which tables are made.
@@ -220,6 +223,31 @@ impl Postgres {
     }
 }
 
+/// What a put's statement takes.
+struct PutValues<'a> {
+    number: i64,
+    places: Vec<i32>,
+    words: Vec<i64>,
+    tokens: Vec<i64>,
+    payloads: Vec<Option<&'a [u8]>>,
+}
+
+impl<'a> PutValues<'a> {
+    fn new(put: &Put<'a>) -> PutValues<'a> {
+        PutValues {
+            number: put.number,
+            places: (put.at as i32..).take(put.entries.len()).collect(),
+            words: put.entries.iter().map(|entry| entry.word as i64).collect(),
+            tokens: put.entries.iter().map(|entry| entry.token as i64).collect(),
+            payloads: (put.at + 1..).take(put.entries.len()).map(|place| put.payloads.get(&place).map(Vec::as_slice)).collect(),
+        }
+    }
+
+    fn all(&self) -> [&(dyn ToSql + Sync); 5] {
+        [&self.number, &self.places, &self.words, &self.tokens, &self.payloads]
+    }
+}
+
 /// Sends a notice each time one is wanted, until nobody can want one any more.
 fn send_notices(config: &Config, wanted: &AtomicBool, gets: &mpsc::Receiver<()>) {
     let mut connection = None;
@@ -253,17 +281,10 @@ impl Store for Postgres {
     }
 
     fn append(&self, put: Put<'_>) -> Result<Option<Vec<Entry>>, StoreError> {
-        let places: Vec<i32> = (put.at as i32..).take(put.entries.len()).collect();
-        let words: Vec<i64> = put.entries.iter().map(|entry| entry.word as i64).collect();
-        let tokens: Vec<i64> = put.entries.iter().map(|entry| entry.token as i64).collect();
-        let payloads: Vec<Option<&[u8]>> = (put.at + 1..).take(put.entries.len()).map(|place| put.payloads.get(&place).map(Vec::as_slice)).collect();
-        // (one statement: where a place is taken nothing of it stands)
-        let statement = "insert into cf_word select id, v.* from cf_request, \
-                         unnest($2::int[], $3::bigint[], $4::bigint[], $5::bytea[]) as v where id = $1";
+        let values = PutValues::new(&put);
         let landed = self.using(|connection| {
-            let values: Values<'_> = &[&put.number, &places, &words, &tokens, &payloads];
-            let statement = connection.prepared(statement)?;
-            let asked = connection.client.execute(&statement, values);
+            let (statement, values) = (connection.prepared(PUT)?, values.all());
+            let asked = connection.client.execute(&statement, &values);
             let answered = connection.runtime.block_on(async { tokio::time::timeout(SILENCE, asked).await });
             match answered.map_err(|_| StoreError::Unknown(format!("no answer for {SILENCE:?}")))? {
                 Ok(many) => Ok(many == put.entries.len() as u64),
@@ -383,6 +404,62 @@ impl Store for Postgres {
 
     fn drop_timer(&self, timer: &Timer) -> Result<(), StoreError> {
         self.ask("delete from cf_timer where request = $1 and stage = $2", &[&timer.number, &i32::from(timer.stage)]).map(|_| ())
+    }
+
+    fn transacts(&self) -> bool {
+        true
+    }
+
+    fn transaction(&self) -> Result<Box<dyn Transaction + '_>, StoreError> {
+        let connection = Connection::new(&self.config)?;
+        connection.all("begin")?;
+        Ok(Box::new(Open { store: self, inside: PostgresTransaction(connection) }))
+    }
+}
+
+/// What a transactional function is called with: the connection of its transaction.
+#[derive(Debug)]
+pub struct PostgresTransaction(Connection);
+
+impl PostgresTransaction {
+    /// Does a statement, and says how many rows it changed.
+    pub fn execute(&mut self, statement: &str, values: &[&(dyn ToSql + Sync)]) -> Result<u64, tokio_postgres::Error> {
+        self.0.runtime.block_on(self.0.client.execute(statement, values))
+    }
+
+    /// Does a statement, and gives its rows.
+    pub fn query(&mut self, statement: &str, values: &[&(dyn ToSql + Sync)]) -> Result<Vec<Row>, tokio_postgres::Error> {
+        self.0.runtime.block_on(self.0.client.query(statement, values))
+    }
+}
+
+/// A function's own transaction. What wasn't committed is undone as the connection is dropped.
+struct Open<'a> {
+    store: &'a Postgres,
+    inside: PostgresTransaction,
+}
+
+impl Transaction for Open<'_> {
+    fn connection(&mut self) -> &mut dyn Any {
+        &mut self.inside
+    }
+
+    fn is_away(&mut self) -> bool {
+        let connection = &mut self.inside.0;
+        let shown = connection.all("rollback").and_then(|()| connection.shown("transaction_read_only"));
+        shown.map_or(true, |it| it != "off")
+    }
+
+    fn append(&mut self, put: Put<'_>) -> Result<bool, StoreError> {
+        self.inside.0.all("savepoint cf")?; // (refused where the function has ended its transaction)
+        let rows = self.inside.0.rows(&format!("{PUT} on conflict do nothing returning 1"), &PutValues::new(&put).all())?;
+        Ok(rows.len() == put.entries.len())
+    }
+
+    fn commit(&mut self) -> Result<(), StoreError> {
+        self.inside.0.all("commit")?;
+        self.store.notify();
+        Ok(())
     }
 }
 

@@ -1,5 +1,8 @@
 //! What a program has of a request in a store: the request and its stages.
+use crate::context;
 use crate::error::{Error, Failed, StoreError};
+use crate::flow::Step;
+use crate::history::{History, What};
 use crate::plan::Said;
 use crate::service::Shared;
 use crate::store::Timer;
@@ -7,7 +10,8 @@ use crate::view::{bytes_of, Done, View, Wanted};
 use cf_graph::{Answer, Call, Failure, Form, Of, Outcome, Reply, State, Value};
 use serde::de::DeserializeOwned;
 use serde::Serialize;
-use serde_json::Value as Json;
+use serde_json::{json, Map, Value as Json};
+use std::cell::Cell;
 use std::fmt;
 use std::sync::atomic::{AtomicBool, AtomicUsize, Ordering};
 use std::sync::{Arc, Condvar, Mutex, MutexGuard, PoisonError};
@@ -31,8 +35,13 @@ pub struct Request {
 /// A stage of a request in a store. A clone is the same stage.
 #[derive(Clone, Debug)]
 pub struct Stage {
-    request: Request,
-    number: u16,
+    pub(crate) request: Request,
+    pub(crate) number: u16,
+}
+
+thread_local! {
+    /// Where the request is whose transactional function this thread runs, or 0.
+    static TRANSACTS: Cell<usize> = const { Cell::new(0) };
 }
 
 /// What a process has once of each request.
@@ -40,6 +49,9 @@ pub(crate) struct Inner {
     pub(crate) name: String,
     pub(crate) number: i64,
     view: Mutex<View>,
+    /// Taken before the view by who puts. Where a store lets nobody else put during a transaction, a transactional function runs with it: this
+    /// process's other threads wait there then, and not in the store with the view, which the function's finish needs.
+    writes: Mutex<()>,
     /// Told when stages were settled, and when the service ends.
     changed: Condvar,
     /// How many entries were seen.
@@ -61,6 +73,7 @@ impl Inner {
             number: view.opened.number,
             seen: AtomicUsize::new(view.seen()),
             view: Mutex::new(view),
+            writes: Mutex::new(()),
             changed: Condvar::new(),
             is_queued: AtomicBool::new(false),
             is_closed: AtomicBool::new(false),
@@ -94,10 +107,24 @@ impl Inner {
 
     /// Puts words: what they did, which is nothing where none was wanted.
     pub(crate) fn act(&self, decide: impl FnMut(&mut View) -> Result<Vec<Wanted>, StoreError>) -> Result<Vec<Done>, StoreError> {
+        if TRANSACTS.with(Cell::get) == self as *const Inner as usize {
+            let why = "its transactional function can't put to it: that takes the place of its finish";
+            return Err(StoreError::Refused(format!("request {:?}: {why}", self.name)));
+        }
+        let _writes = self.writes.lock().unwrap_or_else(PoisonError::into_inner);
         let mut view = self.view();
         let told = view.act(decide);
         self.show(view);
         told.map(|(done, _)| done)
+    }
+
+    /// Runs a transactional function of it, and what comes before and behind that in its transaction.
+    pub(crate) fn transacting<T>(&self, locks_out: bool, act: impl FnOnce() -> T) -> T {
+        let _writes = locks_out.then(|| self.writes.lock().unwrap_or_else(PoisonError::into_inner));
+        TRANSACTS.with(|it| it.set(self as *const Inner as usize));
+        let told = act(); // (it doesn't panic: what a function panics with is its failure)
+        TRANSACTS.with(|it| it.set(0));
+        told
     }
 
     /// Has those who wait told that it can't be gone on with.
@@ -127,6 +154,13 @@ impl Request {
         self.attach(Form::Supply, Of::None, said)
     }
 
+    /// The same with arguments that are given by name, behind those in order: where the function is called in Rust, by the names that
+    /// [`Functions::parameters`](crate::Functions::parameters) gave it.
+    pub fn supply_named(&self, function: &str, args: &[Json], named: &Map<String, Json>) -> Result<Stage, StoreError> {
+        let said = Said { args: args.to_vec(), kwargs: named.clone(), ..self.said(function)? };
+        self.attach(Form::Supply, Of::None, said)
+    }
+
     /// A stage without a function, which somebody settles, in any process.
     pub fn promise(&self, name: &str) -> Result<Stage, StoreError> {
         self.attach(Form::Source, Of::None, Said { name: name.into(), ..Said::default() })
@@ -141,6 +175,26 @@ impl Request {
     /// A stage that ends as the first of these that is settled, be it with an error. For n stages it takes n - 1, at least one.
     pub fn first_of(&self, of: &[&Stage]) -> Result<Stage, StoreError> {
         self.tree(Form::AnyOf, of, "first of")
+    }
+
+    /// A stage that ends with the list of the values of all of these, in this order, or fails as [`all_of`](Request::all_of) does. For n stages it
+    /// takes 2 n - 1. [`StoreError::Refused`] of none.
+    pub fn gather(&self, of: &[&Stage]) -> Result<Stage, StoreError> {
+        let attach = |form, of, function: &str| self.attach(form, of, Said { name: "gather".into(), ..self.said(function)? });
+        let mut row = of.iter().map(|it| attach(Form::Apply, Of::One(it.number), "cf.gather")).collect::<Result<Vec<_>, _>>()?;
+        while row.len() > 1 {
+            let pair = |pair: &[Stage]| match pair {
+                [first, second] => attach(Form::Combine, Of::Two(first.number, second.number), "cf.add"),
+                _ => Ok(pair[0].clone()),
+            };
+            row = row.chunks(2).map(pair).collect::<Result<_, _>>()?;
+        }
+        row.pop().ok_or_else(|| StoreError::Refused("a list of nothing needs no stage".into()))
+    }
+
+    /// The stage of a step of the request's flow.
+    pub fn step(&self, step: Step) -> Option<Stage> {
+        self.stage(step.number())
     }
 
     /// The stage of a number, in the order in which they were attached, if there is one by what this process has read.
@@ -166,6 +220,17 @@ impl Request {
         self.inner.catch_up()
     }
 
+    /// All that happened until now, as the row tells it. It asks the store for each payload, so it takes time by the number of words.
+    pub fn history(&self) -> Result<History, StoreError> {
+        self.history_by(|it| it.all())
+    }
+
+    /// The same, of which `tells` says what is told of a value or an error: less than all, where a history is to hold no secrets.
+    pub fn history_by(&self, tells: impl Fn(What<'_>) -> String) -> Result<History, StoreError> {
+        let opened = self.inner.view().opened.clone();
+        History::new(&*self.service.store, opened, tells)
+    }
+
     /// Closes the request: nothing is left to do in it, and workers look at it no more. Its timers are forgotten. A flow's request is closed by itself
     /// once all its stages are settled. A stage that is attached opens a request again.
     pub fn end(&self) -> Result<(), StoreError> {
@@ -178,28 +243,58 @@ impl Request {
 
     fn said(&self, function: &str) -> Result<Said, StoreError> {
         let version = self.service.functions.latest(function).ok_or_else(|| StoreError::NotRegistered(function.into()))?;
-        Ok(Said { name: function.into(), function: Some(function.into()), version: Some(version), ..Said::default() })
+        let context = context::captured();
+        Ok(Said { name: function.into(), function: Some(function.into()), version: Some(version), context, ..Said::default() })
     }
 
     fn attach(&self, form: Form, of: Of, said: Said) -> Result<Stage, StoreError> {
-        let payload = serde_json::to_vec(&said).map_err(|error| StoreError::Refused(error.to_string()))?;
+        let payload = bytes_said(&said)?;
+        self.attached(|view| {
+            let function = crate::plan::has_function(form).then_some(view.len() as u16);
+            Ok(vec![Wanted { call: Call::Attach(form, of, function), payload: Some(payload.clone()) }])
+        })
+    }
+
+    /// Attaches a stage that composes, below which stands the promise for what comes.
+    fn compose(&self, source: u16, function: &str) -> Result<Stage, StoreError> {
+        let own = self.said(function)?;
+        let promise = bytes_said(&Said { name: format!("what {function} gives"), ..Said::default() })?;
+        self.attached(|view| {
+            let number = view.len() as u16;
+            let own = bytes_said(&Said { to: Some(number), ..own.clone() })?;
+            Ok(vec![
+                Wanted { call: Call::Attach(Form::Source, Of::None, None), payload: Some(promise.clone()) },
+                Wanted { call: Call::Attach(Form::Compose, Of::One(source), Some(number + 1)), payload: Some(own) },
+            ])
+        })
+    }
+
+    /// Puts words that attach stages, and gives the last of these.
+    fn attached(&self, decide: impl FnMut(&mut View) -> Result<Vec<Wanted>, StoreError>) -> Result<Stage, StoreError> {
         let may_be_closed = self.inner.view().is_planned() || self.inner.is_closed.load(Ordering::Relaxed);
         if may_be_closed {
             // (also where this call fails, a thread of the service does it)
             self.inner.reopens.store(true, Ordering::Relaxed);
             self.service.keep(&self.inner);
         }
-        let done = self.inner.act(|view| {
-            let function = crate::plan::has_function(form).then_some(view.len() as u16);
-            Ok(vec![Wanted { call: Call::Attach(form, of, function), payload: Some(payload.clone()) }])
-        });
+        let done = self.inner.act(decide);
         let reopened = if done.is_ok() { self.service.reopen(&self.inner) } else { Ok(()) };
         self.service.serve(&self.inner);
         reopened?;
-        match done?.first().map(|it| it.reply) {
+        match done?.last().map(|it| it.reply) {
             Some(Reply::Attached(Some(number))) => Ok(Stage { request: self.clone(), number }),
             _ => Err(StoreError::Full),
         }
+    }
+
+    /// Completes a flow's promises, but those that are settled.
+    pub(crate) fn complete_all(&self, given: &[(u16, Option<Vec<u8>>)]) -> Result<(), StoreError> {
+        for some in given.chunks(MOST_GIVEN) {
+            let complete = |(stage, payload): &(u16, Option<Vec<u8>>)| Wanted { call: Call::Complete(*stage, Value::Nil), payload: payload.clone() };
+            self.inner.act(|view| Ok(some.iter().filter(|(stage, _)| !view.is_settled(*stage)).map(complete).collect()))?;
+        }
+        self.service.serve(&self.inner);
+        Ok(())
     }
 
     /// An attached stage has at most two sources; a tree of them tells what one stage of all would.
@@ -256,18 +351,35 @@ impl Stage {
         self.behind(Form::Handle, Of::One(self.number), function)
     }
 
+    /// Has a registered function called with the value, or null, and the [`Failed`], or null, and ends as this stage does, or with the function's own
+    /// error.
+    pub fn when_done(&self, function: &str) -> Result<Stage, StoreError> {
+        self.behind(Form::WhenComplete, Of::One(self.number), function)
+    }
+
+    /// Has a registered function attach stages to this request, and waits for one of them without holding a thread. The function is one that was
+    /// registered by [`Functions::composing`](crate::Functions::composing). It is called with the request, as the process has it that runs the
+    /// function, and with the value, and gives a stage of the request. The stage that is given back ends as that one does. It takes two stages.
+    pub fn compose(&self, function: &str) -> Result<Stage, StoreError> {
+        self.request.compose(self.number, function)
+    }
+
     /// Has a registered function called with the [`Failed`] that this stage ends in, if it does, and takes its result.
     pub fn recover(&self, function: &str) -> Result<Stage, StoreError> {
         self.behind(Form::Exceptionally, Of::One(self.number), function)
     }
 
     /// Plans further tries, for the case that the process that runs this stage's function dies. The function may have done its work before, and does
-    /// it once more with each try. It gives the last try, which passes on the value of an earlier one.
+    /// it once more with each try, unless it is transactional. It gives the last try, which passes on the value of an earlier one. A stage that
+    /// composes has no further tries: [`StoreError::Refused`].
     pub fn again(&self, times: usize) -> Result<Stage, StoreError> {
-        let name = format!("{} again", self.name()?);
-        let (mut stage, again) = (self.clone(), Some(self.number));
+        if self.request.inner.view().said(self.number)?.to.is_some() {
+            return Err(StoreError::Refused("a stage that composes has no further tries; those that its function attaches may".into()));
+        }
+        let said = Said { name: format!("{} again", self.name()?), again: Some(self.number), context: context::captured(), ..Said::default() };
+        let mut stage = self.clone();
         for _ in 0..times {
-            stage = self.request.attach(Form::Exceptionally, Of::One(stage.number), Said { name: name.clone(), again, ..Said::default() })?;
+            stage = self.request.attach(Form::Exceptionally, Of::One(stage.number), said.clone())?;
         }
         Ok(stage)
     }
@@ -382,6 +494,13 @@ impl Stage {
 
 const CANCELLED: State = State::Settled(Outcome::Fault { cause: cf_graph::Cause::Cancelled, wrapped: false });
 
+/// Promises that are completed in one put.
+const MOST_GIVEN: usize = 32;
+
+fn bytes_said(said: &Said) -> Result<Vec<u8>, StoreError> {
+    serde_json::to_vec(said).map_err(|error| StoreError::Refused(error.to_string()))
+}
+
 /// The bytes of a value, or nothing for null.
 pub(crate) fn payload_of<T: Serialize + ?Sized>(value: &T) -> Result<Option<Vec<u8>>, StoreError> {
     let bytes = serde_json::to_vec(value).map_err(|error| StoreError::Refused(error.to_string()))?;
@@ -398,11 +517,23 @@ pub(crate) fn fired(timer: &Timer) -> Wanted {
     }
 }
 
+/// What a function gave.
+#[derive(Clone)]
+pub(crate) enum Given {
+    Value(Json),
+    /// A stage, as which the promise of its own stage is to end.
+    Stage {
+        promise: u16,
+        stage: u16,
+    },
+}
+
 /// What a function came to.
-pub(crate) fn finish(stage: u16, result: Result<Json, Failed>) -> Wanted {
+pub(crate) fn finish(stage: u16, result: Result<Given, Failed>) -> Wanted {
     let (answer, payload) = match result {
-        Ok(Json::Null) => (Answer::Give(Value::Nil), None),
-        Ok(value) => (Answer::Give(Value::Nil), Some(value.to_string().into_bytes())),
+        Ok(Given::Value(Json::Null)) => (Answer::Give(Value::Nil), None),
+        Ok(Given::Value(value)) => (Answer::Give(Value::Nil), Some(value.to_string().into_bytes())),
+        Ok(Given::Stage { promise, stage }) => (Answer::Link(promise), Some(json!({ "stage": stage }).to_string().into_bytes())),
         Err(failed) => (Answer::Throw(0), Some(bytes_of(&failed))),
     };
     Wanted { call: Call::Finish(stage, answer), payload }

@@ -1,12 +1,15 @@
 //! The threads that work on requests: a pool that runs functions, and the pump, which looks what is new.
+use crate::context;
 use crate::error::{Error, Failed, StoreError, ABANDONED};
-use crate::functions::{self, Functions};
+use crate::flow::Flow;
+use crate::functions::{self, Functions, Kind};
 use crate::plan::{self, Said};
-use crate::request::{finish, fired, Inner, Request};
-use crate::store::{Mark, Opened, Store, Timer};
+use crate::request::{finish, fired, payload_of, Given, Inner, Request};
+use crate::store::{Mark, Opened, Store, Timer, Transaction};
 use crate::view::{by_chance, bytes_of, sure, View, Wanted, SESSION_BITS};
 use cf_graph::{Args, Call, Claimed, Form, Reply};
-use serde_json::Value as Json;
+use serde_json::{Map, Value as Json};
+use std::any::Any;
 use std::collections::{BTreeMap, HashSet, VecDeque};
 use std::fmt;
 use std::sync::atomic::{AtomicBool, Ordering};
@@ -20,6 +23,8 @@ const BETWEEN_TIMERS: Duration = Duration::from_millis(20);
 const LONGEST_PAUSE: Duration = Duration::from_millis(200);
 /// After so many leases the beats of a session that is gone are dropped.
 const LONG_GONE: u32 = 100;
+/// Before a transaction is begun again that came to nothing.
+const BETWEEN_TRANSACTIONS: Duration = Duration::from_millis(50);
 
 /// How a service works.
 #[derive(Clone, Debug)]
@@ -87,7 +92,26 @@ struct Task {
     name: String,
     version: u32,
     given: Result<Vec<Json>, Failed>,
+    /// What the function is called with by name.
+    named: Map<String, Json>,
+    /// What goes along of the context in which the stage was attached.
+    carried: Map<String, Json>,
+    /// The promise of a stage that composes.
+    to: Option<u16>,
 }
+
+/// What a try to do a function in a transaction came to.
+enum Tried {
+    /// Its effect stands, with its finish.
+    Stands,
+    /// Nothing stands, and it is to be done again.
+    Lost,
+    /// Nothing stands, and this finish is to be put.
+    Ended(Result<Given, Failed>),
+}
+
+/// What a function came to, if there is one whose finish is to be put.
+type Ended = Option<(u16, Result<Given, Failed>)>;
 
 impl Service {
     /// A service of a store that runs these functions, with the usual [`Options`].
@@ -95,8 +119,11 @@ impl Service {
         Service::with(store, functions, Options::default())
     }
 
-    /// The same with options.
+    /// The same with options. [`StoreError::Refused`] where a function is transactional, and the store has no transactions.
     pub fn with(store: impl Store + 'static, functions: Functions, options: Options) -> Result<Service, StoreError> {
+        if functions.transact() && !store.transacts() {
+            return Err(StoreError::Refused("the store has no transactions that a function can take part in".into()));
+        }
         let shared = Arc::new(Shared {
             store: Arc::new(store),
             functions,
@@ -112,14 +139,14 @@ impl Service {
         });
         let mut service = Service { shared, threads: Vec::new() };
         // (where one can't be started, those that were end as the service is dropped)
-        service.start("cf-store-pump", Shared::pump)?;
+        service.begin("cf-store-pump", Shared::pump)?;
         for number in 0..service.shared.options.threads.max(1) {
-            service.start(&format!("cf-store-{number}"), Shared::run)?;
+            service.begin(&format!("cf-store-{number}"), Shared::run)?;
         }
         Ok(service)
     }
 
-    fn start(&mut self, name: &str, run: fn(&Arc<Shared>)) -> Result<(), StoreError> {
+    fn begin(&mut self, name: &str, run: fn(&Arc<Shared>)) -> Result<(), StoreError> {
         let shared = Arc::clone(&self.shared);
         let started = thread::Builder::new().name(name.into()).spawn(move || run(&shared));
         self.threads.push(started.map_err(|error| StoreError::Refused(error.to_string()))?);
@@ -128,8 +155,29 @@ impl Service {
 
     /// Opens a request without stages, or gives the one of this name as it stands in the store.
     pub fn request(&self, name: &str) -> Result<Request, StoreError> {
-        let found = self.shared.sure(|| self.shared.store.open(name, &plan::empty()))?;
+        let plan = Flow::default().text(&self.shared.functions)?;
+        let found = self.shared.sure(|| self.shared.store.open(name, &plan))?;
         self.shared.opened(found)
+    }
+
+    /// Begins a request of a flow's stages, and completes its promises with these values, in their order. If a request of this name stands in the
+    /// store, it goes on with that: what is settled there stays as it is. The request is closed by itself once all its stages are settled.
+    ///
+    /// [`StoreError::Refused`] where more values are given than there are promises, or the flow is no plan; [`StoreError::NotRegistered`] where a
+    /// function isn't registered; [`StoreError::Broken`] where the request was begun with another plan.
+    pub fn start(&self, flow: &Flow, name: &str, given: &[Json]) -> Result<Request, StoreError> {
+        let (promises, plan) = (flow.promises(), flow.text(&self.shared.functions)?);
+        if given.len() > promises.len() {
+            return Err(StoreError::Refused(format!("the flow has {} promises", promises.len())));
+        }
+        let found = self.shared.sure(|| self.shared.store.open(name, &plan))?;
+        if !plan::are_alike(&found.plan, &plan) {
+            return Err(StoreError::broken(name, 0, "it was begun with another plan"));
+        }
+        let request = self.shared.opened(found)?;
+        let given = promises.into_iter().zip(given).map(|(stage, value)| Ok((stage, payload_of(value)?)));
+        request.complete_all(&given.collect::<Result<Vec<_>, StoreError>>()?)?;
+        Ok(request)
     }
 
     /// A request that stands in the store. [`StoreError::Gone`] where there is none of this name.
@@ -456,16 +504,15 @@ impl Shared {
         }
     }
 
-    fn work_on(&self, inner: &Arc<Inner>) -> Result<(), StoreError> {
+    fn work_on(self: &Arc<Shared>, inner: &Arc<Inner>) -> Result<(), StoreError> {
         inner.is_queued.store(false, Ordering::SeqCst);
         inner.catch_up()?;
         self.reopen(inner)?;
         self.abandon(inner)?;
         self.relay(inner)?;
         let mut task = self.first(inner)?;
-        while let Some(mut it) = task {
-            let result = self.called(&mut it);
-            task = self.next(inner, Some((it.stage, result)))?;
+        while let Some(it) = task {
+            task = self.done(inner, it)?;
             if task.is_none() {
                 task = self.first(inner)?;
             }
@@ -486,7 +533,7 @@ impl Shared {
                 let view = inner.view();
                 view.is_held(stage) && !view.is_settled(stage)
             };
-            let task = if is_open { self.task(inner, stage, args).map(Some) } else { self.next(inner, Some((stage, Ok(Json::Null)))) };
+            let task = if is_open { self.task(inner, stage, args).map(Some) } else { self.next(inner, Some((stage, Ok(Given::Value(Json::Null))))) };
             match task {
                 Ok(None) => {}
                 Ok(some) => return Ok(some),
@@ -520,7 +567,7 @@ impl Shared {
 
     /// Puts a finish, and with it the claim of the next stage, if there is one; what was claimed. While the store is away a finish is put again and
     /// again: its function has run. A value that the store refuses fails its stage.
-    fn next(&self, inner: &Arc<Inner>, mut ended: Option<(u16, Result<Json, Failed>)>) -> Result<Option<Task>, StoreError> {
+    fn next(&self, inner: &Arc<Inner>, mut ended: Ended) -> Result<Option<Task>, StoreError> {
         let mut chosen = Vec::new();
         let done = loop {
             let told = inner.act(|view| {
@@ -557,7 +604,7 @@ impl Shared {
     }
 
     /// Up to two stages that this session could claim: those that are ready, or that the finish makes ready.
-    fn choice(&self, view: &mut View, name: &str, ended: Option<&(u16, Result<Json, Failed>)>) -> Result<Vec<u16>, StoreError> {
+    fn choice(&self, view: &mut View, name: &str, ended: Option<&(u16, Result<Given, Failed>)>) -> Result<Vec<u16>, StoreError> {
         if self.is_over() || self.options.threads == 0 {
             return Ok(Vec::new());
         }
@@ -589,13 +636,22 @@ impl Shared {
         }
     }
 
-    /// Whether a stage's function is registered here, and one that Rust can call: others may have it. Those that compose, and those with arguments by
-    /// name, are Python's.
+    /// Whether a stage's function is registered here, as one of the kind that the stage calls, and with names for its arguments where the stage gives
+    /// some by name. Others may have it.
     fn knows(&self, view: &mut View, name: &str, stage: u16) -> Result<bool, StoreError> {
         let (said, _) = self.said(view, stage)?;
         let (function, version) = (said.function.unwrap_or_default(), said.version.unwrap_or_default());
-        let is_composing = matches!(view.form(stage).0, Form::Compose | Form::ExceptionallyCompose);
-        let knows = !is_composing && said.kwargs.is_none() && self.functions.of(&function, version).is_some();
+        let form = view.form(stage).0;
+        let knows = self.functions.of(&function, version).map_or(false, |known| {
+            let fits = match known.kind {
+                Kind::Composes(_) => form == Form::Compose,
+                Kind::Plain(_) | Kind::Transacts(_) => !matches!(form, Form::Compose | Form::ExceptionallyCompose),
+            };
+            fits && (said.kwargs.is_empty() || !known.names.is_empty())
+        });
+        if knows && form == Form::Compose && said.to.is_none() {
+            return Err(StoreError::broken(name, view.attached(stage), format!("stage {stage} composes, and no promise is named for what comes")));
+        }
         if !knows && locked(&self.unknown).insert((function.clone(), version)) {
             self.warn(name, &format!("stage {stage}: function {function:?}, version {version}, isn't known here"));
         }
@@ -606,23 +662,106 @@ impl Shared {
     fn task(&self, inner: &Inner, stage: u16, args: Args) -> Result<Task, StoreError> {
         let view = &mut inner.view();
         let (said, again) = self.said(view, stage)?;
+        let carried = view.carried(stage)?;
+        let (name, version, to) = (said.function.unwrap_or_default(), said.version.unwrap_or_default(), said.to);
         let mut given = arguments(view, stage, args)?;
+        let mut ends = None;
         if let Some(first) = again {
             given = match given.pop().map(serde_json::from_value::<Failed>) {
                 Some(Ok(failed)) if failed.kind == ABANDONED => again_with(view, first)?,
-                Some(Ok(failed)) => return Ok(Task { stage, name: String::new(), version: 0, given: Err(failed) }),
+                Some(Ok(failed)) => {
+                    ends = Some(failed);
+                    Vec::new()
+                }
                 _ => Vec::new(),
             };
         }
-        let given = if said.args.is_empty() { given } else { said.args };
-        Ok(Task { stage, name: said.function.unwrap_or_default(), version: said.version.unwrap_or_default(), given: Ok(given) })
+        let given = ends.map_or(Ok(if said.args.is_empty() { given } else { said.args }), Err);
+        Ok(Task { stage, name, version, given, named: said.kwargs, carried, to })
     }
 
-    fn called(&self, task: &mut Task) -> Result<Json, Failed> {
-        let args = std::mem::replace(&mut task.given, Ok(Vec::new()))?;
-        match self.functions.of(&task.name, task.version) {
-            Some(function) => functions::call(&*function, args),
-            None => Err(Failed::new("LookupError", format!("function {:?}, version {}, isn't known here", task.name, task.version))),
+    /// Calls a function, and puts its finish; what was claimed with it.
+    fn done(self: &Arc<Shared>, inner: &Arc<Inner>, task: Task) -> Result<Option<Task>, StoreError> {
+        let transacts = self.functions.of(&task.name, task.version).map_or(false, |known| matches!(known.kind, Kind::Transacts(_)));
+        let ended =
+            if transacts && task.given.is_ok() { self.in_transaction(inner, &task)? } else { Some((task.stage, self.called(inner, &task, None))) };
+        self.next(inner, ended)
+    }
+
+    /// Calls a function, with the engine's connection where it is transactional.
+    fn called(self: &Arc<Shared>, inner: &Arc<Inner>, task: &Task, connection: Option<&mut dyn Any>) -> Result<Given, Failed> {
+        let args = task.given.clone()?;
+        let missing = || Failed::new("LookupError", format!("function {:?}, version {}, isn't known here", task.name, task.version));
+        let known = self.functions.of(&task.name, task.version).ok_or_else(missing)?;
+        let args = known.in_order(args, task.named.clone())?;
+        let call = || match (&known.kind, connection) {
+            (Kind::Plain(function), _) => function(args).map(Given::Value),
+            (Kind::Transacts(function), Some(connection)) => function(connection, args).map(Given::Value),
+            (Kind::Transacts(_), None) => Err(missing()),
+            (Kind::Composes(function), _) => {
+                let given = function(&Request { inner: Arc::clone(inner), service: Arc::clone(self) }, args)?;
+                match task.to.filter(|_| Arc::ptr_eq(&given.request.inner, inner)) {
+                    Some(promise) => Ok(Given::Stage { promise, stage: given.number }),
+                    None => Err(Failed::new("TypeError", format!("{} has to give a stage of its request", task.name))),
+                }
+            }
+        };
+        context::within(task.carried.clone(), || functions::call(call))
+    }
+
+    /// The function's effect and the word of its finish stand or fall together. Where the finish's place was taken meanwhile, or the connection is
+    /// lost, all of it is done again, unless it stands. It gives a finish that is to be put behind the transaction. What comes next is put once the
+    /// transaction has ended.
+    fn in_transaction(self: &Arc<Shared>, inner: &Arc<Inner>, task: &Task) -> Result<Ended, StoreError> {
+        loop {
+            let mut is_open = false;
+            let told = inner.transacting(self.store.locks_out(), || {
+                let mut transaction = self.store.transaction()?;
+                is_open = true;
+                self.tried(inner, task, &mut *transaction)
+            });
+            inner.show(inner.view());
+            match told {
+                Ok(Tried::Stands) => return Ok(None),
+                Ok(Tried::Ended(result)) => return Ok(Some((task.stage, result))),
+                Ok(Tried::Lost) => {}
+                Err(error @ (StoreError::Broken { .. } | StoreError::Gone(_))) => return Err(error),
+                // what the function did to the connection lets no word be put, say
+                Err(StoreError::Refused(why)) if is_open => return Ok(Some((task.stage, Err(Failed::new("StoreError", why))))),
+                Err(error) if self.is_over() => return Err(error),
+                Err(error) => {
+                    self.warn(&inner.name, &error);
+                    thread::sleep(BETWEEN_TRANSACTIONS);
+                }
+            }
+        }
+    }
+
+    /// Calls a function in a transaction, and puts its finish there. What others have put is read first: where the stage isn't this session's any
+    /// more, no effect is for nothing.
+    fn tried(self: &Arc<Shared>, inner: &Arc<Inner>, task: &Task, transaction: &mut dyn Transaction) -> Result<Tried, StoreError> {
+        let mut view = inner.view();
+        view.catch_up()?;
+        let (is_held, is_settled) = (view.is_held(task.stage), view.is_settled(task.stage));
+        drop(view);
+        if !is_held {
+            return Ok(Tried::Stands);
+        }
+        if is_settled {
+            return Ok(Tried::Ended(Ok(Given::Value(Json::Null)))); // late: it does nothing
+        }
+        match self.called(inner, task, Some(transaction.connection())) {
+            Err(_) if transaction.is_away() => Err(StoreError::Unknown("the connection of a transaction was lost".into())),
+            Err(failed) => Ok(Tried::Ended(Err(failed))),
+            Ok(given) => {
+                let mut view = inner.view();
+                view.catch_up()?;
+                if view.is_settled(task.stage) {
+                    return Ok(Tried::Lost);
+                }
+                let stands = view.act_within(transaction, finish(task.stage, Ok(given)))?;
+                Ok(if stands { Tried::Stands } else { Tried::Lost })
+            }
         }
     }
 }

@@ -1,10 +1,12 @@
 //! Rows in a file of SQLite's, which processes of one machine share, Python's too.
 use crate::error::StoreError;
-use crate::store::{in_a_row, Mark, Opened, Put, Store, Timer};
+use crate::store::{in_a_row, Mark, Opened, Put, Store, Timer, Transaction};
 use cf_graph::Entry;
 use rusqlite::types::ValueRef;
 use rusqlite::{params, Connection, ErrorCode, Row, ToSql, TransactionBehavior};
 use rustix::fs::{flock, FlockOperation};
+use std::any::Any;
+use std::cell::RefCell;
 use std::collections::BTreeMap;
 use std::fs::{File, OpenOptions};
 use std::path::{Path, PathBuf};
@@ -37,6 +39,11 @@ const SMALL: usize = 512;
 const BETWEEN_LOOKS: Duration = Duration::from_millis(1);
 /// How long a writer waits for the file: who has it may have been stopped.
 const LONGEST_WAIT: Duration = Duration::from_secs(20);
+
+thread_local! {
+    /// In which files this thread has a transaction open.
+    static WITHIN: RefCell<Vec<PathBuf>> = RefCell::default();
+}
 
 /// A file. What it has answered is on disk: `synchronous` is FULL, and the journal is a write-ahead log; a file that can't have that is refused.
 /// Writers queue at a lock on the file of this name with `-line` behind it, as Python's do, which a killed process leaves.
@@ -98,6 +105,9 @@ impl SQLite {
     /// This one's turn to write, which ends where the file is dropped. A wait for the system's lock can't be given up, and who has it may have been
     /// stopped: where it isn't free a thread waits in this one's place.
     fn line(&self) -> Result<File, StoreError> {
+        if WITHIN.with(|it| it.borrow().contains(&self.path)) {
+            return Err(StoreError::Refused(format!("{}: a transactional function can't put, since nobody can meanwhile", self.path.display())));
+        }
         let mut name = self.path.clone().into_os_string();
         name.push("-line");
         let away = |why: &dyn std::fmt::Display| StoreError::Unknown(format!("{}: {why}", self.path.display()));
@@ -162,23 +172,7 @@ impl Store for SQLite {
     }
 
     fn append(&self, put: Put<'_>) -> Result<Option<Vec<Entry>>, StoreError> {
-        let landed = self.writing(|db| {
-            let (mut word, mut large) = (db.prepare_cached(PUT)?, db.prepare_cached("insert into cf_large values (?, ?, ?)")?);
-            for (k, entry) in put.entries.iter().enumerate() {
-                let payload = put.payloads.get(&(put.at + 1 + k));
-                let small = payload.filter(|it| it.len() <= SMALL);
-                if word.execute(params![put.at + k, entry.word as i64, entry.token as i64, small, put.number])? == 0 {
-                    return Ok(false); // (a row has no holes, so it is the first, and none of the group was put)
-                }
-                if small.is_none() {
-                    if let Some(payload) = payload {
-                        large.execute(params![put.number, put.at + 1 + k, payload])?;
-                    }
-                }
-            }
-            Ok(true)
-        })?;
-        if landed {
+        if self.writing(|db| put_in(db, put))? {
             return Ok(None);
         }
         let stands = self.read(put.request, put.number, put.at)?;
@@ -313,6 +307,79 @@ impl Store for SQLite {
     fn drop_timer(&self, timer: &Timer) -> Result<(), StoreError> {
         let drop = "delete from cf_timer where request = ? and stage = ?";
         self.writing(|db| db.execute(drop, params![timer.number, timer.stage]).map(|_| ()))
+    }
+
+    fn transacts(&self) -> bool {
+        true
+    }
+
+    fn locks_out(&self) -> bool {
+        true
+    }
+
+    fn transaction(&self) -> Result<Box<dyn Transaction + '_>, StoreError> {
+        let line = self.line()?;
+        let db = self.connected().and_then(|db| db.execute_batch("begin immediate").map(|()| db)).map_err(|error| self.told(&error))?;
+        Ok(Box::new(Open { store: self, db, _within: Within::new(&self.path), _line: line }))
+    }
+}
+
+/// Puts a group in a transaction that holds the file: whether it landed.
+fn put_in(db: &Connection, put: Put<'_>) -> rusqlite::Result<bool> {
+    let (mut word, mut large) = (db.prepare_cached(PUT)?, db.prepare_cached("insert into cf_large values (?, ?, ?)")?);
+    for (k, entry) in put.entries.iter().enumerate() {
+        let payload = put.payloads.get(&(put.at + 1 + k));
+        let small = payload.filter(|it| it.len() <= SMALL);
+        if word.execute(params![put.at + k, entry.word as i64, entry.token as i64, small, put.number])? == 0 {
+            return Ok(false); // (a row has no holes, so it is the first, and none of the group was put)
+        }
+        if small.is_none() {
+            if let Some(payload) = payload {
+                large.execute(params![put.number, put.at + 1 + k, payload])?;
+            }
+        }
+    }
+    Ok(true)
+}
+
+/// A function's own transaction. A connection that is dropped undoes what wasn't committed; then the next writer has its turn.
+struct Open<'a> {
+    store: &'a SQLite,
+    db: Connection,
+    _within: Within,
+    _line: File,
+}
+
+/// The time in which a thread has a transaction open in a file.
+struct Within;
+
+impl Within {
+    fn new(path: &Path) -> Within {
+        WITHIN.with(|it| it.borrow_mut().push(path.to_owned()));
+        Within
+    }
+}
+
+impl Drop for Within {
+    fn drop(&mut self) {
+        WITHIN.with(|it| it.borrow_mut().pop());
+    }
+}
+
+impl Transaction for Open<'_> {
+    fn connection(&mut self) -> &mut dyn Any {
+        &mut self.db
+    }
+
+    fn append(&mut self, put: Put<'_>) -> Result<bool, StoreError> {
+        if self.db.is_autocommit() {
+            return Err(StoreError::Refused("the function has ended its transaction".into()));
+        }
+        put_in(&self.db, put).map_err(|error| self.store.told(&error))
+    }
+
+    fn commit(&mut self) -> Result<(), StoreError> {
+        self.db.execute_batch("commit").map_err(|error| self.store.told(&error))
     }
 }
 

@@ -1,6 +1,7 @@
 //! What a store is asked: rows of entries, their payloads, timers, and which sessions are there.
 use crate::error::StoreError;
 use cf_graph::Entry;
+use std::any::Any;
 use std::collections::BTreeMap;
 use std::time::Duration;
 
@@ -122,4 +123,36 @@ pub trait Store: Send + Sync {
 
     /// Forgets a stage's timer.
     fn drop_timer(&self, timer: &Timer) -> Result<(), StoreError>;
+
+    /// Whether [`transaction`](Store::transaction) is there.
+    fn transacts(&self) -> bool {
+        false
+    }
+
+    /// Whether nobody else can put while a transaction is open.
+    fn locks_out(&self) -> bool {
+        false
+    }
+
+    /// Begins a transaction, in which a function's effect and the word of its finish stand or fall together.
+    fn transaction(&self) -> Result<Box<dyn Transaction + '_>, StoreError> {
+        Err(StoreError::Refused("the store has no transactions that a function can take part in".into()))
+    }
+}
+
+/// A transaction of an engine, with a connection of its own. When it is dropped it ends without effect, unless it was committed.
+pub trait Transaction {
+    /// What a function is called with.
+    fn connection(&mut self) -> &mut dyn Any;
+
+    /// Whether the connection is gone, or the engine can't write now, so that what a function failed with may be due to that. All is undone.
+    fn is_away(&mut self) -> bool {
+        false
+    }
+
+    /// Puts within the transaction: whether the place was free.
+    fn append(&mut self, put: Put<'_>) -> Result<bool, StoreError>;
+
+    /// Lets all of it stand. [`StoreError::Unknown`] where it may or may not.
+    fn commit(&mut self) -> Result<(), StoreError>;
 }

@@ -1,9 +1,9 @@
 //! What this session knows of one request's row, and how it puts words there.
 use crate::error::{Error, Failed, StoreError};
 use crate::plan::{self, Said};
-use crate::store::{Opened, Put, Store};
+use crate::store::{Opened, Put, Store, Transaction};
 use cf_graph::{Call, Cause, Claimed, Entry, Event, Failure, Form, Of, Outcome, Refused, Reply, Row, RowOpening, State, Value};
-use serde_json::Value as Json;
+use serde_json::{Map, Value as Json};
 use std::collections::{BTreeMap, BTreeSet};
 use std::sync::Arc;
 use std::thread;
@@ -66,6 +66,8 @@ pub(crate) struct View {
     stages: Vec<Known>,
     /// How many stages the plan has.
     planned: usize,
+    /// What goes along with their functions.
+    context: Map<String, Json>,
     room: usize,
     /// How many entries were seen.
     seen: usize,
@@ -85,7 +87,7 @@ pub(crate) struct View {
 
 impl View {
     pub(crate) fn new(store: Arc<dyn Store>, opened: Opened, session: u64) -> Result<View, StoreError> {
-        let plan::SharedPlan { mut plan, stages } = plan::read(&opened.plan, &opened.name)?;
+        let plan::SharedPlan { mut plan, stages, context } = plan::read(&opened.plan, &opened.name)?;
         // by chance: where two have one session, their tokens differ all the same; and half of all are left at least
         let first = by_chance(COUNT_BITS - 1) as u32;
         let mut room = ROOM.min(MOST_STAGES - stages.len());
@@ -100,7 +102,7 @@ impl View {
         let (links, unlinked, claims) = Default::default();
         let (found, doubt, own) = Default::default();
         let stages = stages.into_iter().map(known).collect();
-        Ok(View { opened, session, store, row, stages, planned, room, seen: 0, links, unlinked, claims, found, doubt, own })
+        Ok(View { opened, session, store, row, stages, planned, context, room, seen: 0, links, unlinked, claims, found, doubt, own })
     }
 
     /// How many entries were seen.
@@ -211,8 +213,7 @@ impl View {
             let stands = match sure(|| store.append(put)) {
                 Ok(stands) => stands.unwrap_or_else(|| entries.clone()),
                 Err(error) => {
-                    self.row.give_up()?;
-                    self.doubt.extend(entries.iter().enumerate().map(|(k, entry)| (entry.token, self.seen + 1 + k)));
+                    self.leave_in_doubt(&entries)?;
                     return Err(error);
                 }
             };
@@ -234,6 +235,32 @@ impl View {
             }
             others.extend(done);
         }
+    }
+
+    /// Puts a word within a transaction, and commits it: whether it stands. It doesn't where another word stands at its place.
+    pub(crate) fn act_within(&mut self, transaction: &mut dyn Transaction, wanted: Wanted) -> Result<bool, StoreError> {
+        let (entries, payloads) = self.planned_put(vec![wanted])?;
+        let put = Put { request: &self.opened.name, number: self.opened.number, at: self.seen, entries: &entries, payloads: &payloads };
+        let stands = transaction.append(put).and_then(|landed| if landed { transaction.commit().map(|()| true) } else { Ok(false) });
+        match stands {
+            Ok(true) => {
+                self.row.met(entries[0])?;
+                self.own.extend(payloads);
+                self.take(entries[0]).map(|_| true)
+            }
+            Ok(false) => self.row.give_up().map(|()| false).map_err(StoreError::from),
+            Err(error) => {
+                self.leave_in_doubt(&entries)?;
+                Err(error)
+            }
+        }
+    }
+
+    /// Gives a put up that may stand, and remembers it until the words at its places are read.
+    fn leave_in_doubt(&mut self, entries: &[Entry]) -> Result<(), StoreError> {
+        self.row.give_up()?;
+        self.doubt.extend(entries.iter().enumerate().map(|(k, entry)| (entry.token, self.seen + 1 + k)));
+        Ok(())
     }
 
     fn planned_put(&mut self, wanted: Vec<Wanted>) -> Result<(Vec<Entry>, Payloads), StoreError> {
@@ -353,6 +380,19 @@ impl View {
         let said = plan::said_in(&payload, usize::from(stage)).map_err(|why| self.unreadable(place, &why))?;
         self.stages[usize::from(stage)].said = Some(said.clone());
         Ok(said)
+    }
+
+    /// The place of the word that attached a stage, or 0 for one of the plan.
+    pub(crate) fn attached(&self, stage: u16) -> usize {
+        self.stages[usize::from(stage)].attached
+    }
+
+    /// What goes along with a stage's function.
+    pub(crate) fn carried(&mut self, stage: u16) -> Result<Map<String, Json>, StoreError> {
+        if usize::from(stage) < self.planned {
+            return Ok(self.context.clone());
+        }
+        Ok(self.said(stage)?.context.unwrap_or_default())
     }
 
     fn unreadable(&self, place: usize, why: &dyn std::fmt::Display) -> StoreError {

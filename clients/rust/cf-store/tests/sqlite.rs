@@ -1,54 +1,16 @@
 //! Requests in a file of SQLite's.
-use cf_store::{Error, Failed, Functions, Options, Request, SQLite, Service, Store, StoreError};
+mod common;
+
+use cf_store::{Error, Failed, Functions, Request, SQLite, Service, Store, StoreError};
+use common::{quick, settled, File};
 use serde_json::{json, Value};
-use std::path::PathBuf;
 use std::process::Command;
 use std::sync::atomic::{AtomicU32, Ordering};
 use std::sync::Arc;
 use std::time::Duration;
 
-/// A file of its own, which goes with the value.
-struct File(PathBuf);
-
-impl File {
-    fn new(name: &str) -> File {
-        let path = std::env::temp_dir().join(format!("cf-store-{}-{name}.db", std::process::id()));
-        let file = File(path);
-        file.remove();
-        file
-    }
-
-    fn store(&self) -> SQLite {
-        SQLite::open(&self.0).unwrap()
-    }
-
-    fn remove(&self) {
-        for end in ["", "-line", "-wal", "-shm"] {
-            let mut name = self.0.clone().into_os_string();
-            name.push(end);
-            let _not_there = std::fs::remove_file(name);
-        }
-    }
-}
-
-impl Drop for File {
-    fn drop(&mut self) {
-        self.remove();
-    }
-}
-
 fn add_one(number: i64) -> Result<i64, String> {
     Ok(number + 1)
-}
-
-fn quick() -> Options {
-    let mut options = Options::default();
-    options.lease = Duration::from_millis(500);
-    options
-}
-
-fn patient<T: serde::de::DeserializeOwned>(stage: &cf_store::Stage) -> Result<T, Error> {
-    stage.wait_timeout(Duration::from_secs(30)).map(|told| told.expect("it is settled within 30 s"))
 }
 
 #[test]
@@ -72,20 +34,20 @@ fn functions_are_called_with_what_is_behind_them() {
     let declined = inc.then("declined").unwrap();
     assert!(number.complete(&41).unwrap());
     assert!(!number.complete(&1).unwrap());
-    assert_eq!(patient::<i64>(&sum), Ok(49));
+    assert_eq!(settled::<i64>(&sum), Ok(49));
     let sorry = declined.recover("sorry").unwrap();
-    assert_eq!(patient::<String>(&sorry), Ok("sorry, card declined".into()));
-    assert!(matches!(patient::<i64>(&declined), Err(Error::Failed(failed)) if failed.text == "card declined" && failed.args.is_none()));
-    assert_eq!(patient::<i64>(&inc.then("kind").unwrap()), Err(Error::Failed(Failed::new("NoStock", "none left"))));
-    assert_eq!(patient::<Value>(&inc.handle("either_way").unwrap()), Ok(json!([42, null])));
-    assert_eq!(patient::<Value>(&declined.handle("either_way").unwrap()), Ok(json!([null, "card declined"])));
-    assert_eq!(patient::<i64>(&inc.then("panics").unwrap()), Err(Error::Failed(Failed::new("Panic", "oh"))));
-    assert!(matches!(patient::<String>(&inc.then("wants_text").unwrap()), Err(Error::Failed(failed)) if failed.kind == "TypeError"));
-    assert!(matches!(patient::<String>(&inc), Err(Error::Unreadable(_))));
-    assert_eq!(patient::<i64>(&request.supply("add", &[json!(1), json!(2)]).unwrap()), Ok(3));
-    assert_eq!(patient::<i64>(&request.promise("never").unwrap().either(&inc, "inc").unwrap()), Ok(43));
-    assert_eq!(patient::<Value>(&request.all_of(&[&inc, &sum, &sorry]).unwrap()), Ok(Value::Null));
-    assert_eq!(patient::<i64>(&request.first_of(&[&inc, &request.promise("late").unwrap()]).unwrap()), Ok(42));
+    assert_eq!(settled::<String>(&sorry), Ok("sorry, card declined".into()));
+    assert!(matches!(settled::<i64>(&declined), Err(Error::Failed(failed)) if failed.text == "card declined" && failed.args.is_none()));
+    assert_eq!(settled::<i64>(&inc.then("kind").unwrap()), Err(Error::Failed(Failed::new("NoStock", "none left"))));
+    assert_eq!(settled::<Value>(&inc.handle("either_way").unwrap()), Ok(json!([42, null])));
+    assert_eq!(settled::<Value>(&declined.handle("either_way").unwrap()), Ok(json!([null, "card declined"])));
+    assert_eq!(settled::<i64>(&inc.then("panics").unwrap()), Err(Error::Failed(Failed::new("Panic", "oh"))));
+    assert!(matches!(settled::<String>(&inc.then("wants_text").unwrap()), Err(Error::Failed(failed)) if failed.kind == "TypeError"));
+    assert!(matches!(settled::<String>(&inc), Err(Error::Unreadable(_))));
+    assert_eq!(settled::<i64>(&request.supply("add", &[json!(1), json!(2)]).unwrap()), Ok(3));
+    assert_eq!(settled::<i64>(&request.promise("never").unwrap().either(&inc, "inc").unwrap()), Ok(43));
+    assert_eq!(settled::<Value>(&request.all_of(&[&inc, &sum, &sorry]).unwrap()), Ok(Value::Null));
+    assert_eq!(settled::<i64>(&request.first_of(&[&inc, &request.promise("late").unwrap()]).unwrap()), Ok(42));
     assert!(matches!(inc.then("nobody"), Err(StoreError::NotRegistered(name)) if name == "nobody"));
 }
 
@@ -122,13 +84,13 @@ fn another_service_goes_on_with_it() {
     let second = Service::with(file.store(), Functions::new(), quick()).unwrap();
     let request = second.open("shared").unwrap();
     assert!(request.stage(0).unwrap().complete(&0).unwrap());
-    assert_eq!(patient::<i64>(&request.stage(20).unwrap()), Ok(20));
+    assert_eq!(settled::<i64>(&request.stage(20).unwrap()), Ok(20));
     for number in 21..41 {
-        assert_eq!(patient::<i64>(&request.stage(number).unwrap()), Ok(1));
+        assert_eq!(settled::<i64>(&request.stage(number).unwrap()), Ok(1));
     }
     assert_eq!(calls.load(Ordering::SeqCst), 40, "each function is called once");
     drop(workers);
-    assert_eq!(patient::<i64>(&request.stage(20).unwrap()), Ok(20));
+    assert_eq!(settled::<i64>(&request.stage(20).unwrap()), Ok(20));
     assert!(matches!(second.open("no such"), Err(StoreError::Gone(name)) if name == "no such"));
 }
 
@@ -147,7 +109,7 @@ fn what_is_closed_is_opened_again() {
     std::thread::sleep(Duration::from_millis(300)); // (the service lets it go by then)
     let inc = number.then("inc").unwrap();
     assert!(store.news(None).unwrap().0.contains_key("closed"));
-    assert_eq!(patient::<i64>(&inc), Ok(2));
+    assert_eq!(settled::<i64>(&inc), Ok(2));
     assert_eq!(service.resume().unwrap().len(), 1);
 }
 
@@ -161,9 +123,9 @@ fn timers_are_fired_by_any_service() {
     other.complete_on_timeout("in its place", Duration::from_millis(50)).unwrap();
     soon.or_timeout(Duration::from_secs(60)).unwrap();
     soon.complete(&Value::Null).unwrap();
-    assert_eq!(patient::<i64>(&slow), Err(Error::TimedOut(Some(Failed::new("TimeoutError", "slow took longer than 0.05 s")))));
-    assert_eq!(patient::<String>(&other), Ok("in its place".into()));
-    assert_eq!(patient::<Value>(&soon), Ok(Value::Null));
+    assert_eq!(settled::<i64>(&slow), Err(Error::TimedOut(Some(Failed::new("TimeoutError", "slow took longer than 0.05 s")))));
+    assert_eq!(settled::<String>(&other), Ok("in its place".into()));
+    assert_eq!(settled::<Value>(&soon), Ok(Value::Null));
     drop(service);
     let due = file.store().due(f64::MAX).unwrap();
     assert_eq!(due.iter().map(|timer| timer.stage).collect::<Vec<_>>(), [2], "what was fired is forgotten");
@@ -180,16 +142,16 @@ fn settled_once() {
     assert!(cancelled.cancel().unwrap());
     assert!(cancelled.abandon().unwrap(), "it is cancelled after the call");
     assert!(!cancelled.complete(&1).unwrap());
-    assert_eq!(patient::<i64>(&failed), Err(Error::Failed(Failed::new("Closed", "we are closed"))));
-    assert_eq!(patient::<i64>(&cancelled), Err(Error::Cancelled));
+    assert_eq!(settled::<i64>(&failed), Err(Error::Failed(Failed::new("Closed", "we are closed"))));
+    assert_eq!(settled::<i64>(&cancelled), Err(Error::Cancelled));
     assert_eq!(left.peek::<i64>(), Ok(None));
     assert_eq!(left.wait_timeout::<i64>(Duration::from_millis(5)), Ok(None));
     let large = "x".repeat(100_000);
     assert!(left.complete(&large).unwrap());
-    assert_eq!(patient::<String>(&left), Ok(large.clone()));
+    assert_eq!(settled::<String>(&left), Ok(large.clone()));
     let other = Service::with(file.store(), Functions::new(), quick()).unwrap();
     let there = other.open("settled").unwrap().named("left").unwrap().unwrap();
-    assert_eq!((there.number(), patient::<String>(&there)), (2, Ok(large)));
+    assert_eq!((there.number(), settled::<String>(&there)), (2, Ok(large)));
 }
 
 #[test]
@@ -209,7 +171,7 @@ fn a_request_is_full() {
 
 /// What the process that dies does: it claims the stage, and is gone.
 fn dies(request: &Request) {
-    let _never = patient::<i64>(&request.stage(1).unwrap());
+    let _never = settled::<i64>(&request.stage(1).unwrap());
 }
 
 #[test]
@@ -234,10 +196,10 @@ fn a_process_dies() {
     let service = Service::with(file.store(), Functions::new().with("inc", 1, add_one), quick()).unwrap();
     let request = service.open("dies").unwrap();
     assert_eq!(
-        patient::<i64>(&request.stage(once.number()).unwrap()),
+        settled::<i64>(&request.stage(once.number()).unwrap()),
         Err(Error::Abandoned("the worker that ran inc is gone, and it may have run".into()))
     );
-    assert_eq!(patient::<i64>(&request.stage(again.number()).unwrap()), Ok(2));
+    assert_eq!(settled::<i64>(&request.stage(again.number()).unwrap()), Ok(2));
 }
 
 #[test]
@@ -253,4 +215,12 @@ fn what_is_no_row_is_told() {
     let other = File::new("no database");
     std::fs::write(&other.0, "this is no database, as its first bytes tell. ".repeat(50)).unwrap();
     assert!(matches!(SQLite::open(&other.0), Err(StoreError::Refused(_))));
+}
+
+#[test]
+fn python_goes_on_with_it() {
+    let file = File::new("python");
+    if common::python_goes_on(&file.address(), || file.store()).is_none() {
+        eprintln!("left out: CF_PYTHON and CF_LIBRARY name no client for Python with its library");
+    }
 }

@@ -1,0 +1,483 @@
+//! Rows in keys of an etcd cluster, by its JSON gateway: for few and important requests that outlive machines. Python's processes share them.
+use crate::error::StoreError;
+use crate::http::Connection;
+use crate::store::{in_a_row, Mark, Opened, Put, Store, Timer};
+use cf_graph::Entry;
+use serde_json::{json, Value as Json};
+use std::collections::BTreeMap;
+use std::sync::atomic::{AtomicUsize, Ordering};
+use std::sync::{Mutex, MutexGuard, PoisonError};
+use std::thread;
+use std::time::{Duration, SystemTime, UNIX_EPOCH};
+
+/// In a put: a transaction of etcd has 128 operations at most by default.
+const MOST_ENTRIES: usize = 40;
+/// That one answer has, so that it comes in time.
+const MOST_KEYS: usize = 1000;
+/// For each step of an answer.
+const SILENCE: Duration = Duration::from_secs(3);
+/// Before a member is asked for a watch where another's was cut off.
+const BETWEEN_WATCHES: Duration = Duration::from_millis(50);
+/// The code of gRPC: a revision was compacted meanwhile, or the member doesn't know it yet.
+const OUT_OF_RANGE: i64 = 11;
+
+/// A cluster. It answers what a majority of its members has on disk, unless these were started with `--unsafe-no-fsync`, which can't be seen here.
+/// It has no clock: timers go by each process's own. A put takes 40 words at most. It needs etcd 3.4 or later. Connections have no TLS.
+///
+/// If a member doesn't answer within 3 s, the next one is asked.
+#[derive(Debug)]
+pub struct Etcd {
+    addresses: Vec<String>,
+    /// Which member is asked, counted on at each failure.
+    turn: AtomicUsize,
+    /// Connections that nobody uses now, each with the turn in which it was made.
+    idle: Mutex<Vec<(usize, Connection)>>,
+    /// A stream of what is put, which stays open.
+    watch: Mutex<Option<(usize, Connection)>>,
+}
+
+/// A key and its value, as etcd gives them.
+struct Pair {
+    key: Vec<u8>,
+    value: Vec<u8>,
+    /// The revision in which the key was made.
+    created: i64,
+    /// How often it was written since.
+    version: i64,
+}
+
+impl Etcd {
+    /// A cluster by the addresses of its members, as `etcd://host:2379,host:2379`. [`StoreError::Unknown`] where none of them answers.
+    pub fn connect(address: &str) -> Result<Etcd, StoreError> {
+        let addresses: Vec<String> = address.strip_prefix("etcd://").unwrap_or(address).split(',').map(str::to_owned).collect();
+        let has_port = |it: &String| it.rsplit_once(':').map_or(false, |(host, port)| !host.is_empty() && port.parse::<u16>().is_ok());
+        if !addresses.iter().all(has_port) {
+            return Err(StoreError::Refused(format!("{address:?} is no address of a cluster: etcd://HOST:PORT,..")));
+        }
+        let store = Etcd { addresses, turn: AtomicUsize::new(0), idle: Mutex::default(), watch: Mutex::default() };
+        let mut answered = store.range(json!({"key": b64(b"cf/r/"), "keys_only": true}));
+        for _ in 1..store.addresses.len() {
+            answered = answered.or_else(|_| store.range(json!({"key": b64(b"cf/r/"), "keys_only": true})));
+        }
+        answered.map(|_| store)
+    }
+
+    // Calls.
+
+    fn connected(&self) -> (usize, Result<Connection, StoreError>) {
+        let turn = self.turn.load(Ordering::SeqCst);
+        let address = &self.addresses[turn % self.addresses.len()];
+        (turn, Connection::new(address, SILENCE).map_err(|error| away(&error)))
+    }
+
+    /// Has the next member asked, unless another thread has done so since this turn.
+    fn pass_on(&self, turn: usize) {
+        let _done_by_another = self.turn.compare_exchange(turn, turn + 1, Ordering::SeqCst, Ordering::SeqCst);
+    }
+
+    fn post(&self, path: &str, body: &Json) -> Result<Json, StoreError> {
+        let now = self.turn.load(Ordering::SeqCst);
+        let idle = {
+            let mut idle = locked(&self.idle);
+            idle.retain(|(turn, _)| *turn == now);
+            idle.pop()
+        };
+        let (turn, connection) = idle.map_or_else(|| self.connected(), |(turn, it)| (turn, Ok(it)));
+        let told = connection.and_then(|mut connection| {
+            let (status, told) = connection.post(path, body.to_string().as_bytes()).map_err(|error| away(&error))?;
+            let read: Result<Json, _> = serde_json::from_slice(&told);
+            let shown = || format!("{status} {}", String::from_utf8_lossy(&told[..told.len().min(200)]));
+            let answer = match (status, read) {
+                (200, Ok(read)) => Ok(read),
+                // it is too large, say: asked again it is refused again
+                (400, Ok(read)) if read["code"] != OUT_OF_RANGE => Err(StoreError::Refused(format!("etcd refuses it: {}", shown()))),
+                _ => return Err(away(&shown())),
+            };
+            locked(&self.idle).push((turn, connection));
+            answer
+        });
+        if let Err(StoreError::Unknown(_)) = told {
+            self.pass_on(turn);
+        }
+        told
+    }
+
+    /// What stands in a range, without looking for more behind it, and the revision of that.
+    fn range(&self, asked: Json) -> Result<(Vec<Pair>, Json), StoreError> {
+        let told = self.post("/v3/kv/range", &asked)?;
+        Ok((pairs(&told)?, told))
+    }
+
+    /// What stands in a range at one revision, and that one. It is read some keys at a time.
+    fn keys(&self, key: &[u8], end: &[u8], more: &[(&str, Json)]) -> Result<(Vec<Pair>, i64), StoreError> {
+        let mut asked = json!({"key": b64(key), "range_end": b64(end), "limit": MOST_KEYS});
+        for (name, it) in more {
+            asked[name] = it.clone();
+        }
+        let (mut found, mut revision) = (Vec::new(), None);
+        loop {
+            let (some, told) = self.range(asked.clone())?;
+            found.extend(some);
+            let now = match revision {
+                Some(known) => known,
+                None => *revision.insert(number(&told["header"]["revision"])?),
+            };
+            if told["more"] != true {
+                return Ok((found, now));
+            }
+            // (of a revision any member that knows it has the same answer)
+            asked["revision"] = json!(now);
+            asked["serializable"] = json!(true);
+            let last = found.last().ok_or_else(|| unfit(&told))?;
+            asked["key"] = json!(b64(&[&last.key[..], &[0]].concat()));
+        }
+    }
+
+    /// Does `success` where all of `compares` are so, else `failure`: whether they were, and what was found.
+    fn txn(&self, compares: Json, success: Json, failure: Json) -> Result<(bool, Vec<Pair>), StoreError> {
+        let told = self.post("/v3/kv/txn", &json!({"compare": compares, "success": success, "failure": failure}))?;
+        let found = &told["responses"][0]["response_range"];
+        Ok((told["succeeded"] == true, if found.is_null() { Vec::new() } else { pairs(found)? }))
+    }
+
+    /// Whether a request is there no more, by a majority: a member that lags behind may not know it yet.
+    fn is_there(&self, name: &str, number: i64) -> Result<(), StoreError> {
+        match self.find(name)? {
+            Some(found) if found.number == number => Ok(()),
+            _ => Err(StoreError::Gone(name.into())),
+        }
+    }
+}
+
+impl Store for Etcd {
+    fn open(&self, name: &str, plan: &str) -> Result<Opened, StoreError> {
+        let (key, said) = (key("r", name), json!({"plan": plan, "opened": self.now()?}).to_string());
+        loop {
+            // (where it is there nothing is put; and it may be dropped meanwhile)
+            self.txn(json!([absent(&key)]), json!([put(&key, said.as_bytes()), put(&self::key("o", name), b"0")]), json!([]))?;
+            if let Some(found) = self.find(name)? {
+                return Ok(found);
+            }
+        }
+    }
+
+    fn find(&self, name: &str) -> Result<Option<Opened>, StoreError> {
+        let (found, _) = self.range(json!({"key": b64(&key("r", name))}))?;
+        let Some(pair) = found.first() else { return Ok(None) };
+        let said: Json = serde_json::from_slice(&pair.value).unwrap_or_default();
+        match (said["plan"].as_str(), said["opened"].as_f64()) {
+            (Some(plan), Some(opened)) => Ok(Some(Opened { name: name.into(), plan: plan.into(), opened, number: pair.created })),
+            _ => Err(StoreError::broken(name, 0, "what says that it was opened can't be read")),
+        }
+    }
+
+    fn append(&self, it: Put<'_>) -> Result<Option<Vec<Entry>>, StoreError> {
+        if it.entries.len() > MOST_ENTRIES {
+            return Err(StoreError::Refused(format!("etcd takes {MOST_ENTRIES} words in a put, not {}", it.entries.len())));
+        }
+        let (row, payloads) = (row("w", it.request, it.number), row("p", it.request, it.number));
+        let mut puts: Vec<Json> = Vec::with_capacity(it.entries.len() + it.payloads.len() + 1);
+        for (place, entry) in (it.at..).zip(it.entries) {
+            puts.push(put(&at(&row, place), format!("{:x} {:x}", entry.word, entry.token).as_bytes()));
+        }
+        puts.extend(it.payloads.iter().map(|(place, payload)| put(&at(&payloads, *place), payload)));
+        puts.push(put(&key("o", it.request), (it.at + it.entries.len()).to_string().as_bytes()));
+        let first = at(&row, it.at);
+        let free = json!([absent(&first), is_of(it.request, it.number)]);
+        let (landed, stands) = self.txn(free, json!(puts), json!([{"request_range": range(&first, &after(&row))}]))?;
+        if landed {
+            return Ok(None);
+        }
+        if stands.is_empty() {
+            return Err(StoreError::Gone(it.request.into()));
+        }
+        entries(it.request, it.at, &stands).map(Some)
+    }
+
+    fn read(&self, name: &str, number: i64, at: usize) -> Result<Vec<Entry>, StoreError> {
+        // Any member's answer will do: a stale one is a shorter beginning of the row.
+        let row = row("w", name, number);
+        let mut asked = range(&self::at(&row, at), &after(&row));
+        asked["serializable"] = json!(true);
+        let (is_there, stands) = self.txn(json!([is_of(name, number)]), json!([{ "request_range": asked }]), json!([]))?;
+        if !is_there {
+            self.is_there(name, number)?;
+        }
+        entries(name, at, &stands)
+    }
+
+    fn payload(&self, name: &str, number: i64, place: usize) -> Result<Option<Vec<u8>>, StoreError> {
+        let (found, _) = self.range(json!({"key": b64(&at(&row("p", name, number), place))}))?;
+        match found.into_iter().next() {
+            Some(pair) => Ok(Some(pair.value)),
+            None => self.is_there(name, number).map(|()| None),
+        }
+    }
+
+    fn news(&self, since: Option<Mark>) -> Result<(BTreeMap<String, usize>, Mark), StoreError> {
+        // Since a mark any member's answer will do. Of all, a request that a member that lags behind doesn't know yet would seem closed.
+        let known = since.map_or(0, |(revision, _)| revision);
+        let later = [("min_mod_revision", json!(known + 1)), ("serializable", json!(true))];
+        let (found, revision) = self.keys(b"cf/o/", b"cf/o0", if since.is_none() { &[] } else { &later })?;
+        let mut ends = BTreeMap::new();
+        for pair in found {
+            let words = text(&pair.value).and_then(|it| it.parse().ok());
+            ends.insert(name_in(&pair.key)?, words.ok_or_else(|| StoreError::Refused("an end of a row in etcd is no number".into()))?);
+        }
+        Ok((ends, (revision.max(known), 0))) // (a member that lags behind has a lower one)
+    }
+
+    fn changed(&self, wait: Duration) -> Result<(), StoreError> {
+        let mut watch = locked(&self.watch);
+        let (turn, told) = match watch.take() {
+            Some((turn, mut connection)) => (turn, connection.more(wait).map(|_| connection).map_err(|error| away(&error))),
+            None => {
+                let (turn, connection) = self.connected();
+                let asked = json!({"create_request": range(b"cf/w/", b"cf/w0")}).to_string();
+                let opened = connection.and_then(|mut it| it.stream("/v3/watch", asked.as_bytes()).map(|()| it).map_err(|error| away(&error)));
+                (turn, opened)
+            }
+        };
+        match told {
+            Ok(connection) => *watch = Some((turn, connection)),
+            // what is new is asked for all the same, and who asks is told if nobody answers
+            Err(_) => {
+                self.pass_on(turn);
+                thread::sleep(wait.min(BETWEEN_WATCHES));
+            }
+        }
+        Ok(())
+    }
+
+    fn end(&self, name: &str, number: i64, at: usize) -> Result<bool, StoreError> {
+        let (open, timers) = (key("o", name), [key("t", name), b"/".to_vec()].concat());
+        let is_so = json!([is_of(name, number), {"key": b64(&open), "target": "VALUE", "value": b64(at.to_string().as_bytes())}]);
+        let closed = json!([self.now()?, at]).to_string();
+        let (closes, _) = self.txn(
+            is_so,
+            json!([deleted(&open), {"request_delete_range": range(&timers, &after(&timers))}, deleted(&key("g", name)),
+                put(&key("c", name), closed.as_bytes())]),
+            json!([]),
+        )?;
+        if !closes {
+            self.is_there(name, number)?;
+        }
+        Ok(closes)
+    }
+
+    fn reopen(&self, name: &str, number: i64) -> Result<(), StoreError> {
+        let (row, open) = (row("w", name, number), key("o", name));
+        loop {
+            // others may put and close it meanwhile: with a count that is too low nobody could close it again
+            let (words, _) = self.keys(&row, &after(&row), &[("keys_only", json!(true))])?;
+            let many = words.len();
+            let is_so = json!([is_of(name, number), absent(&open), absent(&at(&row, many))]);
+            let opened = put(&open, many.to_string().as_bytes());
+            let (reopened, found) = self.txn(is_so, json!([opened]), json!([{"request_range": {"key": b64(&open)}}]))?;
+            if reopened {
+                return Ok(());
+            }
+            self.is_there(name, number)?;
+            if !found.is_empty() {
+                return Ok(()); // it is open
+            }
+        }
+    }
+
+    fn beat(&self, session: u64) -> Result<(), StoreError> {
+        self.post("/v3/kv/put", &json!({"key": b64(&of_session("b", session)), "value": ""})).map(|_| ())
+    }
+
+    fn beats(&self) -> Result<BTreeMap<u64, i64>, StoreError> {
+        let (found, _) = self.keys(b"cf/b/", b"cf/b0", &[("keys_only", json!(true))])?;
+        let session = |pair: &Pair| text(&pair.key).and_then(|it| u64::from_str_radix(it.get(5..)?, 16).ok());
+        Ok(found.iter().filter_map(|pair| Some((session(pair)?, pair.version))).collect())
+    }
+
+    fn drop_beat(&self, session: u64) -> Result<(), StoreError> {
+        self.txn(json!([]), json!([deleted(&of_session("b", session)), deleted(&of_session("s", session))]), json!([])).map(|_| ())
+    }
+
+    fn name_session(&self, session: u64, name: &str) -> Result<(), StoreError> {
+        self.post("/v3/kv/put", &json!({"key": b64(&of_session("s", session)), "value": b64(name.as_bytes())})).map(|_| ())
+    }
+
+    fn now(&self) -> Result<f64, StoreError> {
+        Ok(SystemTime::now().duration_since(UNIX_EPOCH).unwrap_or_default().as_secs_f64())
+    }
+
+    fn set_timer(&self, timer: &Timer) -> Result<(), StoreError> {
+        let key = at(&row("t", &timer.request, timer.number), timer.stage.into());
+        let value = json!([timer.due, b64(&timer.payload)]).to_string();
+        let (is_there, _) = self.txn(json!([is_of(&timer.request, timer.number)]), json!([put(&key, value.as_bytes())]), json!([]))?;
+        if is_there {
+            Ok(())
+        } else {
+            Err(StoreError::Gone(timer.request.clone()))
+        }
+    }
+
+    fn due(&self, now: f64) -> Result<Vec<Timer>, StoreError> {
+        let (found, _) = self.keys(b"cf/t/", b"cf/t0", &[("serializable", json!(true))])?;
+        let mut told = Vec::new();
+        for pair in found {
+            let timer = timer_in(&pair).ok_or_else(|| StoreError::Refused("a timer in etcd can't be read".into()))?;
+            if timer.due <= now {
+                told.push(timer);
+            }
+        }
+        told.sort_by(|a, b| a.due.total_cmp(&b.due));
+        Ok(told)
+    }
+
+    fn drop_timer(&self, timer: &Timer) -> Result<(), StoreError> {
+        let (key, stage) = ([key("t", &timer.request), b"/".to_vec()].concat(), timer.stage.into());
+        let own = row("t", &timer.request, timer.number);
+        self.txn(json!([]), json!([deleted(&at(&own, stage)), deleted(&at(&key, stage))]), json!([])).map(|_| ())
+    }
+}
+
+fn locked<T>(mutex: &Mutex<T>) -> MutexGuard<'_, T> {
+    mutex.lock().unwrap_or_else(PoisonError::into_inner)
+}
+
+fn away(why: &dyn std::fmt::Display) -> StoreError {
+    StoreError::Unknown(format!("etcd: {why}"))
+}
+
+/// What no etcd answers.
+fn unfit(told: &Json) -> StoreError {
+    StoreError::Refused(format!("etcd gives what can't be read: {}", told.to_string().chars().take(200).collect::<String>()))
+}
+
+// Keys.
+
+/// A key, in which a name stands as in an address: others than letters, digits and `_.-~` as `%` and their bytes.
+fn key(kind: &str, name: &str) -> Vec<u8> {
+    let mut key = format!("cf/{kind}/").into_bytes();
+    for byte in name.bytes() {
+        if byte.is_ascii_alphanumeric() || b"_.-~".contains(&byte) {
+            key.push(byte);
+        } else {
+            key.extend(format!("%{byte:02X}").bytes());
+        }
+    }
+    key
+}
+
+/// The name in a key without more behind it.
+fn name_in(key: &[u8]) -> Result<String, StoreError> {
+    text(key).and_then(|it| unquoted(it.get(5..)?)).ok_or_else(|| unfit(&json!(String::from_utf8_lossy(key))))
+}
+
+fn unquoted(quoted: &str) -> Option<String> {
+    let mut parts = quoted.split('%');
+    let mut name = parts.next()?.as_bytes().to_vec();
+    for part in parts {
+        name.push(u8::from_str_radix(part.get(..2)?, 16).ok()?);
+        name.extend(part.get(2..)?.bytes());
+    }
+    String::from_utf8(name).ok()
+}
+
+fn text(bytes: &[u8]) -> Option<&str> {
+    std::str::from_utf8(bytes).ok()
+}
+
+/// What the keys of a request's words or payloads begin with: another request of the same name has others.
+fn row(kind: &str, name: &str, number: i64) -> Vec<u8> {
+    [key(kind, name), format!("/{number}/").into_bytes()].concat()
+}
+
+/// A key in fixed width, so that a range is in order.
+fn at(row: &[u8], place: usize) -> Vec<u8> {
+    [row, format!("{place:06}").as_bytes()].concat()
+}
+
+fn of_session(kind: &str, session: u64) -> Vec<u8> {
+    format!("cf/{kind}/{session:010x}").into_bytes()
+}
+
+/// The end of the range of all keys that begin so, where they end with `/`.
+fn after(prefix: &[u8]) -> Vec<u8> {
+    let mut end = prefix.to_vec();
+    end.pop();
+    end.push(b'/' + 1);
+    end
+}
+
+// What etcd is asked, and what it answers.
+
+fn b64(bytes: &[u8]) -> String {
+    base64::encode(bytes)
+}
+
+fn range(key: &[u8], end: &[u8]) -> Json {
+    json!({"key": b64(key), "range_end": b64(end)})
+}
+
+fn put(key: &[u8], value: &[u8]) -> Json {
+    json!({"request_put": {"key": b64(key), "value": b64(value)}})
+}
+
+fn deleted(key: &[u8]) -> Json {
+    json!({"request_delete_range": {"key": b64(key)}})
+}
+
+fn absent(key: &[u8]) -> Json {
+    json!({"key": b64(key), "target": "VERSION", "version": 0})
+}
+
+/// Compares whether a request is the one that was opened.
+fn is_of(name: &str, number: i64) -> Json {
+    json!({"key": b64(&key("r", name)), "target": "CREATE", "create_revision": number})
+}
+
+/// A number, which JSON has as a text, or not at all where it is 0.
+fn number(told: &Json) -> Result<i64, StoreError> {
+    match told {
+        Json::Null => Ok(0),
+        Json::String(digits) => digits.parse().map_err(|_| unfit(told)),
+        _ => told.as_i64().ok_or_else(|| unfit(told)),
+    }
+}
+
+/// The keys and values of a range.
+fn pairs(range: &Json) -> Result<Vec<Pair>, StoreError> {
+    let bytes = |told: &Json| match told {
+        Json::Null => Ok(Vec::new()),
+        _ => told.as_str().and_then(|it| base64::decode(it).ok()).ok_or_else(|| unfit(told)),
+    };
+    let pair = |it: &Json| {
+        let (key, value) = (bytes(&it["key"])?, bytes(&it["value"])?);
+        Ok(Pair { key, value, created: number(&it["create_revision"])?, version: number(&it["version"])? })
+    };
+    range["kvs"].as_array().map_or(Ok(Vec::new()), |kvs| kvs.iter().map(pair).collect())
+}
+
+/// The entries of these keys, which stand behind `at` of them.
+fn entries(name: &str, at: usize, pairs: &[Pair]) -> Result<Vec<Entry>, StoreError> {
+    let row = pairs.iter().map(|pair| {
+        let place = text(&pair.key).and_then(|key| key.get(key.len().checked_sub(6)?..)?.parse().ok()).unwrap_or(-1);
+        let (word, token) = text(&pair.value).and_then(entry).unwrap_or((-1, -1));
+        (place, word, token)
+    });
+    in_a_row(name, at, row)
+}
+
+fn entry(value: &str) -> Option<(i64, i64)> {
+    let (word, token) = value.split_once(' ')?;
+    Some((i64::from_str_radix(word, 16).ok()?, i64::from_str_radix(token, 16).ok()?))
+}
+
+/// A timer, which has no number of its request where an earlier version has set it.
+fn timer_in(pair: &Pair) -> Option<Timer> {
+    let mut parts = text(&pair.key)?.get(5..)?.split('/');
+    let (name, middle, last) = (parts.next()?, parts.next()?, parts.next());
+    let (number, stage) = match last {
+        Some(stage) => (middle.parse().ok()?, stage),
+        None => (0, middle),
+    };
+    let (due, payload): (f64, String) = serde_json::from_slice(&pair.value).ok()?;
+    Some(Timer { request: unquoted(name)?, number, stage: stage.parse().ok()?, due, payload: base64::decode(payload).ok()? })
+}
