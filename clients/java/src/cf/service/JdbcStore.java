@@ -248,15 +248,7 @@ public abstract class JdbcStore implements Store {
             if (row.wasNull()) {
                 return null;
             }
-            Entry entry = new Entry(row.getLong(2), row.getLong(3));
-            int expected = at + entries.size();
-            if (place != expected) {
-                throw new StoreException.Broken(name, expected + 1, "no word stands there, and one stands at " + (place + 1));
-            }
-            if (entry.word < 0 || entry.token < 0) {
-                throw new StoreException.Broken(name, expected + 1, entry.word + " with " + entry.token + " is no word with its token");
-            }
-            entries.add(entry);
+            Entry.add(entries, name, at, place, row.getLong(2), row.getLong(3));
             return null;
         }, at, number);
         if (!isThere[0]) {

@@ -85,6 +85,18 @@ public interface Store extends AutoCloseable {
         public long token() {
             return token;
         }
+
+        /** Adds what stands at a place to what stands behind {@code at} words. {@link StoreException.Broken} where it is no entry, or leaves a gap. */
+        static void add(List<Entry> entries, String name, int at, long place, long word, long token) {
+            int expected = at + entries.size();
+            if (place != expected) {
+                throw new StoreException.Broken(name, expected + 1, "no word stands there, and one stands at " + (place + 1));
+            }
+            if (word < 0 || token < 0) {
+                throw new StoreException.Broken(name, expected + 1, word + " with " + token + " is no word with its token");
+            }
+            entries.add(new Entry(word, token));
+        }
     }
 
     /** A request as it was opened. If it is dropped and another one of its name is opened, that has another number. */
