@@ -407,6 +407,14 @@ public final class EtcdStore implements Store {
     }
 
     @Override
+    public Map<Long, String> sessionNames(String request, long number) {
+        byte[] row = row('n', request, number);
+        Map<Long, String> names = new HashMap<>();
+        keys(range(row, after(row))).kvs.forEach(it -> names.put(Long.valueOf(it.key.substring(row.length), 16), it.text()));
+        return names;
+    }
+
+    @Override
     public double now() {
         return System.currentTimeMillis() / 1000.0;
     }
@@ -457,7 +465,7 @@ public final class EtcdStore implements Store {
     // Keys and what is asked of them.
 
     /** {@code IllegalArgumentException} where a name has half of a pair of surrogates. */
-    private static byte[] key(char kind, String name) {
+    static byte[] key(char kind, String name) {
         StringBuilder key = new StringBuilder("cf/").append(kind).append('/');
         try {
             ByteBuffer letters = StandardCharsets.UTF_8.newEncoder().encode(CharBuffer.wrap(name));

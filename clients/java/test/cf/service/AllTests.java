@@ -132,6 +132,18 @@ public final class AllTests {
             over(StoresTest.InFile::new, "stages in SQLite, settled once", StoresTest::settled);
             test("a process that dies", StoresTest::dies);
             test("rows that can't be gone on with", StoresTest::broken);
+            over(StoresTest.InFile::new, "functions that compose in SQLite", StoredFunctionsTest::composing);
+            over(StoresTest.InFile::new, "arguments by name", StoredFunctionsTest::named);
+            over(StoresTest.InFile::new, "transactional functions", StoredFunctionsTest::transactions);
+            over(StoresTest.InFile::new, "a process that dies in a transaction", StoredFunctionsTest::dies);
+            over(StoresTest.InFile::new, "contexts in SQLite", StoredFunctionsTest::contexts);
+            over(StoresTest.InFile::new, "flows in SQLite", StoredFunctionsTest::flows);
+            over(StoresTest.InFile::new, "histories of requests in SQLite", StoredFunctionsTest::histories);
+            if (StoresTest.onPath("flock")) {
+                over(StoresTest.InFile::new, "the line of who writes to a file", StoredFunctionsTest::line);
+            } else {
+                System.out.println("left out the line of who writes to a file: there is no flock");
+            }
         } else {
             System.out.println("left out requests in SQLite: the class path has no driver, as sqlite-jdbc.jar of Debian's libxerial-sqlite-jdbc-java");
         }
@@ -141,6 +153,10 @@ public final class AllTests {
             over(EtcdTest.Server::new, "closed requests in etcd", StoresTest::closed);
             over(EtcdTest.Server::new, "timers in etcd", StoresTest::timers);
             over(EtcdTest.Server::new, "stages in etcd, settled once", StoresTest::settled);
+            over(EtcdTest.Server::new, "functions that compose in etcd", StoredFunctionsTest::composing);
+            over(EtcdTest.Server::new, "flows in etcd", StoredFunctionsTest::flows);
+            over(EtcdTest.Server::new, "histories of requests in etcd", StoredFunctionsTest::histories);
+            over(EtcdTest.Server::new, "no transactions in etcd", StoredFunctionsTest::noTransactions);
             over(EtcdTest.Server::new, "words in etcd", EtcdTest::words);
             over(EtcdTest.Server::new, "what etcd tells of changes", EtcdTest::changes);
             over(EtcdTest.Server::new, "connections to etcd that are cut", EtcdTest::cut);

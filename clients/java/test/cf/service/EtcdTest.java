@@ -49,15 +49,11 @@ final class EtcdTest {
     private EtcdTest() {}
 
     static boolean hasServer() {
-        return onPath("etcd");
+        return StoresTest.onPath("etcd");
     }
 
     static boolean hasPython() {
-        return onPath("python3") && System.getenv("CF_LIBRARY") != null && new File("clients/python/cf/shared").isDirectory();
-    }
-
-    private static boolean onPath(String program) {
-        return Arrays.stream(System.getenv("PATH").split(":")).anyMatch(it -> new File(it, program).canExecute());
+        return StoresTest.onPath("python3") && System.getenv("CF_LIBRARY") != null && new File("clients/python/cf/shared").isDirectory();
     }
 
     private static int freePort() throws IOException {
@@ -187,6 +183,7 @@ final class EtcdTest {
         try (Store store = server.open(); Store other = server.open()) {
             Store.Opened opened = store.open("a/b +*~\u00e9", "{\"plan\":1}"), again = other.open("a/b +*~\u00e9", "{\"plan\":2}");
             is(again.plan, "{\"plan\":1}");
+            is(new String(EtcdStore.key('r', opened.name), StandardCharsets.UTF_8), "cf/r/a%2Fb%20%2B%2A~%C3%A9"); // (as Python's is)
             is(again.number, opened.number);
             is(store.append(put(opened, 0, 3, 5, 6, 7, 8)), null);
             is(told(other.append(put(again, 0, -1, 9, 9))), "5 6 7 8 "); // (the place is taken)

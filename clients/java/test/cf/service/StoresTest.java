@@ -45,6 +45,10 @@ public final class StoresTest {
         }
     }
 
+    static boolean onPath(String program) {
+        return Arrays.stream(System.getenv("PATH").split(":")).anyMatch(it -> new File(it, program).canExecute());
+    }
+
     /** Where the requests of a test stand. */
     interface Place extends AutoCloseable {
         Store open();
