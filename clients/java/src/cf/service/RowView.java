@@ -1,6 +1,6 @@
 package cf.service;
 
-import java.security.SecureRandom;
+import cf.service.watch.Host;
 import java.util.ArrayList;
 import java.util.Arrays;
 import java.util.HashMap;
@@ -14,7 +14,6 @@ import java.util.concurrent.TimeoutException;
 
 /** What this session knows of one request's row, and how it puts words there. One thread at a time has it: its request's lock. */
 final class RowView {
-    static final SecureRandom CHANCE = new SecureRandom();
     private static final int MOST_STAGES = 4096, ROOM = 8;
     /** How long the store may be silent, in nanoseconds. */
     private static final long PATIENCE = 60_000_000_000L;
@@ -22,6 +21,7 @@ final class RowView {
     final Store.Opened opened;
     final long session;
     private final Store store;
+    private final Host host;
     private final Row row;
     private final List<Known> stages = new ArrayList<>();
     private final int planned;
@@ -87,8 +87,9 @@ final class RowView {
         }
     }
 
-    RowView(Store store, Store.Opened opened, long session) {
+    RowView(Store store, Store.Opened opened, long session, Host host) {
         this.store = store;
+        this.host = host;
         this.opened = opened;
         this.session = session;
         StoredPlan plan = new StoredPlan(opened.plan, opened.name);
@@ -102,7 +103,7 @@ final class RowView {
 
     private Row made(StoredPlan plan) {
         // By chance: where two have one session, their tokens differ all the same; and half of all are left at least.
-        int first = CHANCE.nextInt(1 << Row.COUNT_BITS - 1);
+        int first = (int) host.chance(Row.COUNT_BITS - 1);
         while (true) {
             try {
                 return new Row(plan.rows, room, first, session);
@@ -194,7 +195,7 @@ final class RowView {
 
     /** Does what others have put. */
     void catchUp() {
-        sure(() -> store.read(opened.name, opened.number, seen)).forEach(this::take);
+        sure(host, () -> store.read(opened.name, opened.number, seen)).forEach(this::take);
     }
 
     /** Puts words behind all that is seen, and does them; what they did, which is nothing where none was wanted. */
@@ -208,7 +209,7 @@ final class RowView {
             Store.Put put = planned(wanted);
             List<Store.Entry> stands;
             try {
-                stands = sure(() -> store.append(put));
+                stands = sure(host, () -> store.append(put));
             } catch (RuntimeException | Error fault) {
                 row.giveUp();
                 for (int k = 0; k < put.entries.size(); k++) {
@@ -224,7 +225,11 @@ final class RowView {
             List<Done> done = new ArrayList<>();
             stands.forEach(entry -> done.add(take(entry)));
             if (landed) {
-                return done.subList(0, put.entries.size());
+                List<Done> own = done.subList(0, put.entries.size());
+                for (int k = 0; k < own.size(); k++) {
+                    host.did(opened.name, put.at + 1 + k, own.get(k).word, own.get(k).reply[Row.ANSWER]);
+                }
+                return own;
             }
         }
     }
@@ -282,6 +287,9 @@ final class RowView {
         seen = place;
         int[] reply = row.told.clone();
         boolean isOwn = doubt.remove(entry.token) != null;
+        if (isOwn) {
+            host.did(opened.name, place, entry.word, reply[Row.ANSWER]);
+        }
         switch (Words.kind(entry.word)) {
             case Words.ATTACH:
                 if (reply[Row.ANSWER] == 0) {
@@ -387,7 +395,7 @@ final class RowView {
 
     private byte[] payloadIfAny(int place) {
         byte[] mine = own.get(place);
-        return mine != null || place == 0 ? mine : sure(() -> store.payload(opened.name, opened.number, place));
+        return mine != null || place == 0 ? mine : sure(host, () -> store.payload(opened.name, opened.number, place));
     }
 
     private byte[] payload(int place) {
@@ -494,17 +502,17 @@ final class RowView {
     }
 
     /** What the store answers to a call that may be made again, whatever became of it before. */
-    static <T> T sure(Callable<T> call) {
-        long until = System.nanoTime() + PATIENCE;
+    static <T> T sure(Host host, Callable<T> call) {
+        long until = host.nanoTime() + PATIENCE;
         for (long pause = 10;; pause = Math.min(pause * 2, 500)) {
             try {
                 return call.call();
             } catch (StoreException.Unknown silent) {
-                if (System.nanoTime() - until > 0) {
+                if (host.nanoTime() - until > 0) {
                     throw silent;
                 }
                 try {
-                    Thread.sleep(pause);
+                    host.sleep(pause);
                 } catch (InterruptedException interrupted) {
                     Thread.currentThread().interrupt();
                     throw silent;
