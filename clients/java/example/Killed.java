@@ -17,6 +17,6 @@ public class Killed {
     }
 
     public static void main(String[] args) {
-        Orders.of(Killed::checkout).run().failed().forEach(System.out::println);
+        Orders.of(Killed::checkout).seconds(60).run().failed().forEach(System.out::println);
     }
 }

@@ -26,8 +26,8 @@ import java.util.stream.Collectors;
 /** What does the kit find in services over a store, what may go wrong there, and what does it say of {@code StoreService}? */
 public final class StoredOrdersTest {
     private static final int SECONDS_ENOUGH = 100, MOST = 500;
-    /** Within which each planted fault has to be found. */
-    private static final double SECONDS_TO_FIND = 10;
+    /** By which each planted fault has to be found: so many are tried in a tenth of a second. */
+    private static final int MOST_TO_FIND = 10;
 
     private StoredOrdersTest() {}
 
@@ -79,17 +79,17 @@ public final class StoredOrdersTest {
     }
 
     private static Failure failure(String name) {
-        return StoredServices.FAULTY.stream().filter(it -> it.name.equals(name)).findFirst().get().orders().run().failed().get(0);
+        return StoredServices.FAULTY.stream().filter(it -> it.name.equals(name)).findFirst().get().orders().seconds(SECONDS_ENOUGH).run().failed().get(0);
     }
 
     // Services.
 
     public static void plantedFaults() {
         for (Services.Service service : StoredServices.FAULTY) {
-            Report report = service.orders().seconds(SECONDS_TO_FIND).run();
+            Report report = service.orders().seconds(SECONDS_ENOUGH).run();
             is(service.name + ": " + report.failed().size(), service.name + ": 1");
             is(report.failed().get(0).why(), service.why);
-            is(report.seconds() < SECONDS_TO_FIND, true);
+            is(service.name + ": " + (report.orders() <= MOST_TO_FIND), service.name + ": true");
             Report again = service.orders().row(report.failed().get(0).row()).run();
             is(again.orders(), 1);
             is(again.failed().get(0).why(), report.failed().get(0).why());
@@ -402,7 +402,7 @@ public final class StoredOrdersTest {
     public static void byChance() {
         for (String name : Arrays.asList("own word for another's", "charged again")) {
             Services.Service service = StoredServices.FAULTY.stream().filter(it -> it.name.equals(name)).findFirst().get();
-            is(name + service.orders().chance(500, 3).run().failed().isEmpty(), name + "false");
+            is(name + service.orders().seconds(SECONDS_ENOUGH).chance(500, 3).run().failed().isEmpty(), name + "false");
         }
     }
 }
