@@ -11,7 +11,7 @@ import java.util.concurrent.TimeUnit;
 
 /**
  * A worker of {@code conformance/stores/engines jobs}: it works on all requests of a store until it is killed. Its functions are those of
- * {@code jobs_functions.py} that aren't transactional. It is called with the address of the store, and that of the table of effects.
+ * {@code jobs_functions.py}. It is called with the address of the store, and that of the table of effects.
  */
 public final class Jobs {
     private Jobs() {}
@@ -42,10 +42,14 @@ public final class Jobs {
             if (effects.startsWith("jdbc:sqlite:")) {
                 db.createStatement().execute("pragma busy_timeout = 60000");
             }
-            try (PreparedStatement insert = db.prepareStatement("insert into effect values (?)")) {
-                insert.setString(1, (String) name);
-                insert.executeUpdate();
-            }
+            return inside(db, name);
+        }
+    }
+
+    private static Object inside(Connection db, Object name) throws Exception {
+        try (PreparedStatement insert = db.prepareStatement("insert into effect values (?)")) {
+            insert.setString(1, (String) name);
+            insert.executeUpdate();
         }
         Thread.sleep(ThreadLocalRandom.current().nextInt(10));
         return name;
@@ -55,7 +59,7 @@ public final class Jobs {
     public static void main(String[] args) throws Exception {
         String effects = jdbc(args[1]);
         Functions functions = new Functions().with("outside", 1, name -> outside(effects, name)).with("same", 1, name -> name)
-                .with("both", 1, (name, other) -> name);
+                .with("both", 1, (name, other) -> name).transactional("inside", 1, (db, name) -> inside(db, name.get(0)));
         new StoreService(opened(jdbc(args[0])), functions, 2, 700, TimeUnit.MILLISECONDS, true);
         Thread.sleep(Long.MAX_VALUE);
     }

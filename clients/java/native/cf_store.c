@@ -1,12 +1,16 @@
-/* The library's views of rows (docs/C.md, "A row in a store") as native methods of cf.service.Row.
+/* The library's views of rows (docs/C.md, "A row in a store") as native methods of cf.service.Row, and the system's lock of cf.service.Line.
  *
  * What the library is owed, and where it is met: each view stands in a block of its own, which isn't moved; the lock of its request orders the
  * calls that have it (View.java); Row.java keeps it until it is closed, once, and makes no call then. Arrays of Java's are read within their
  * bounds, whatever numbers they hold. No JNI function is called with an exception pending. */
 #include "cf.h"
+#include <errno.h>
+#include <fcntl.h>
 #include <jni.h>
 #include <stdbool.h>
 #include <stdlib.h>
+#include <sys/file.h>
+#include <unistd.h>
 
 enum { MOST = 4096, TOLD = 13, STAGE = 9 };
 
@@ -151,4 +155,35 @@ CALL(jint, ready)(JNIEnv *env, jclass self, jlong view, jint from) {
   (void)env, (void)self;
   uint16_t stage = 0;
   return cf_ledger_ready(&VIEW(view)->row, (uint16_t)from, &stage) == CF_OK ? stage : -1;
+}
+
+/* The line in which who writes to a file of SQLite's stands. */
+
+#define LINE(type, name) JNIEXPORT type JNICALL Java_cf_service_Line_##name
+
+/* A file, which is made if it isn't there; or the system's error, negated. */
+LINE(jint, open)(JNIEnv *env, jclass self, jbyteArray path) {
+  (void)self;
+  const jsize n = (*env)->GetArrayLength(env, path);
+  char *name = malloc((size_t)n + 1);
+  if (!name) return -ENOMEM;
+  (*env)->GetByteArrayRegion(env, path, 0, n, (jbyte *)name);
+  name[n] = 0;
+  const int file = open(name, O_RDWR | O_CREAT | O_CLOEXEC, 0644), error = errno;
+  free(name);
+  return file < 0 ? -error : file;
+}
+
+/* Locks a file for one alone, and waits for that if it is told to. Whether it is locked. */
+LINE(jboolean, lock)(JNIEnv *env, jclass self, jint file, jboolean waits) {
+  (void)env, (void)self;
+  int code = 0;
+  do code = flock(file, LOCK_EX | (waits ? 0 : LOCK_NB));
+  while (code && errno == EINTR);
+  return code == 0;
+}
+
+LINE(void, close)(JNIEnv *env, jclass self, jint file) {
+  (void)env, (void)self;
+  close(file);
 }

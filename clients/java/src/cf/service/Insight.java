@@ -17,7 +17,7 @@ final class Insight implements Stores {
 
     @Override
     public Serving service(Store store, Functions functions, int threads, long lease, boolean takesAll, Host host) {
-        return new OfService(new StoreService(store, functions, threads, lease, TimeUnit.NANOSECONDS, takesAll, host));
+        return new OfService(new StoreService(store, functions, threads, lease, TimeUnit.NANOSECONDS, takesAll, null, host));
     }
 
     @Override

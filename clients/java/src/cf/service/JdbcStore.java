@@ -1,5 +1,8 @@
 package cf.service;
 
+import java.lang.reflect.InvocationHandler;
+import java.lang.reflect.InvocationTargetException;
+import java.lang.reflect.Proxy;
 import java.sql.Connection;
 import java.sql.DriverManager;
 import java.sql.PreparedStatement;
@@ -7,6 +10,7 @@ import java.sql.ResultSet;
 import java.sql.SQLException;
 import java.sql.Statement;
 import java.util.ArrayList;
+import java.util.Arrays;
 import java.util.HashMap;
 import java.util.List;
 import java.util.Map;
@@ -19,6 +23,8 @@ import java.util.concurrent.ConcurrentLinkedDeque;
 public abstract class JdbcStore implements Store {
     /** How long a writer waits for an engine that others have, in seconds. */
     static final int LONGEST_WAIT = 20;
+
+    private static final List<String> ENDS_IT = Arrays.asList("commit", "rollback", "setAutoCommit", "close", "abort");
 
     private final String url;
     private final ConcurrentLinkedDeque<Connection> idle = new ConcurrentLinkedDeque<>();
@@ -62,6 +68,17 @@ public abstract class JdbcStore implements Store {
 
     /** What stands for the engine's clock in a statement. */
     abstract String clock();
+
+    /** Begins a transaction of a function's; then commits it. */
+    abstract void begin(Connection db) throws SQLException;
+
+    abstract void commit(Connection db) throws SQLException;
+
+    /** It has ended, in the thread that began it. */
+    void ended() {}
+
+    /** Undoes what such a transaction did, and says whether the engine can't write now. */
+    abstract boolean undoes(Connection db) throws SQLException;
 
     /** Something that is done on a connection. */
     interface Act<T> {
@@ -156,7 +173,7 @@ public abstract class JdbcStore implements Store {
     }
 
     /** Acts in a transaction of its own. */
-    final <T> T within(Act<T> act) {
+    <T> T within(Act<T> act) {
         return using(db -> {
             db.setAutoCommit(false);
             try {
@@ -230,6 +247,109 @@ public abstract class JdbcStore implements Store {
         return stands;
     }
 
+    @Override
+    public final boolean isTransactional() {
+        return true;
+    }
+
+    @Override
+    public Transaction transaction() {
+        return new Within(null);
+    }
+
+    /** A transaction of a function's, on a connection of its own. */
+    final class Within implements Transaction {
+        private final Line line;
+        private final Connection db;
+
+        /** In its turn in this line, if there is one. */
+        Within(Line line) {
+            this.line = line;
+            Connection made = null;
+            try {
+                made = connect();
+                begin(made);
+            } catch (SQLException | RuntimeException fault) {
+                give(made);
+                throw fault instanceof SQLException ? told((SQLException) fault) : (RuntimeException) fault;
+            }
+            db = made;
+        }
+
+        /** It refuses what ends the transaction: the function's finish does that. */
+        @Override
+        public Connection connection() {
+            InvocationHandler calls = (proxy, method, args) -> {
+                if (ENDS_IT.contains(method.getName()) && (args == null || !method.getName().equals("rollback"))) {
+                    throw new SQLException("the finish of a transactional function ends its transaction, and not " + method.getName());
+                }
+                try {
+                    return method.invoke(db, args);
+                } catch (InvocationTargetException thrown) {
+                    throw thrown.getCause();
+                }
+            };
+            return (Connection) Proxy.newProxyInstance(JdbcStore.class.getClassLoader(), new Class<?>[] {Connection.class}, calls);
+        }
+
+        @Override
+        public boolean isAway() {
+            try {
+                return undoes(db);
+            } catch (SQLException lost) {
+                return true;
+            }
+        }
+
+        @Override
+        public boolean append(Put put) {
+            try {
+                for (int k = 0; k < put.entries.size(); k++) {
+                    put(db, put, k);
+                }
+                if (rows(db, "select 1 from cf_request where id = ?", row -> 1, put.number).isEmpty()) {
+                    throw new StoreException.Gone(put.request);
+                }
+                return true;
+            } catch (SQLException error) {
+                if (isTaken(error)) {
+                    return false;
+                }
+                throw told(error);
+            }
+        }
+
+        @Override
+        public void commit() {
+            try {
+                JdbcStore.this.commit(db);
+            } catch (SQLException error) {
+                throw told(error);
+            }
+            hasPut();
+        }
+
+        @Override
+        public void close() {
+            ended();
+            give(db);
+        }
+
+        private void give(Connection made) {
+            try {
+                if (made != null) {
+                    made.close(); // What wasn't committed is undone by that.
+                }
+            } catch (SQLException lost) {
+                // It is gone anyway.
+            } finally {
+                if (line != null) {
+                    line.close();
+                }
+            }
+        }
+    }
+
     /** Puts one entry of a group, within its transaction. A place that is taken is an error, so nothing of the group stands. */
     abstract void put(Connection db, Put put, int k) throws SQLException;
 
@@ -248,15 +368,7 @@ public abstract class JdbcStore implements Store {
             if (row.wasNull()) {
                 return null;
             }
-            Entry entry = new Entry(row.getLong(2), row.getLong(3));
-            int expected = at + entries.size();
-            if (place != expected) {
-                throw new StoreException.Broken(name, expected + 1, "no word stands there, and one stands at " + (place + 1));
-            }
-            if (entry.word < 0 || entry.token < 0) {
-                throw new StoreException.Broken(name, expected + 1, entry.word + " with " + entry.token + " is no word with its token");
-            }
-            entries.add(entry);
+            Entry.add(entries, name, at, place, row.getLong(2), row.getLong(3));
             return null;
         }, at, number);
         if (!isThere[0]) {
@@ -298,6 +410,13 @@ public abstract class JdbcStore implements Store {
     public final void nameSession(long session, String name) {
         change("insert into cf_name (request, session, name) values (0, ?, ?) on conflict (request, session) do update set name = excluded.name",
                 session, name);
+    }
+
+    @Override
+    public final Map<Long, String> sessionNames(String request, long number) {
+        Map<Long, String> names = new HashMap<>();
+        ask("select session, name from cf_name where request = ?", row -> names.put(row.getLong(1), row.getString(2)), number);
+        return names;
     }
 
     @Override

@@ -87,6 +87,22 @@ final class PostgresStore extends JdbcStore {
     }
 
     @Override
+    void begin(Connection db) throws SQLException {
+        db.setAutoCommit(false);
+    }
+
+    @Override
+    void commit(Connection db) throws SQLException {
+        db.commit();
+    }
+
+    @Override
+    boolean undoes(Connection db) throws SQLException {
+        db.rollback();
+        return shown(db, "transaction_read_only").equals("on");
+    }
+
+    @Override
     void put(Connection db, Put put, int k) throws SQLException {
         Entry entry = put.entries.get(k);
         change(db, PUT, put.at + k, entry.word, entry.token, put.payloads.get(put.at + 1 + k), put.number);

@@ -3,6 +3,7 @@ package cf.service;
 import cf.service.watch.Host;
 import java.util.ArrayList;
 import java.util.Arrays;
+import java.util.Collections;
 import java.util.HashMap;
 import java.util.List;
 import java.util.Map;
@@ -26,6 +27,9 @@ final class RowView {
     private final List<Known> stages = new ArrayList<>();
     private final int planned;
     private int room, seen;
+    /** The words that were seen, and whose each is. */
+    private long[] words = new long[16], sessions = new long[16];
+    private final StoredPlan plan;
     /** Promises that composing stages were linked to, with the places of those words. */
     final TreeMap<Integer, Integer> links = new TreeMap<>();
     /** Composing stages that were settled, and whose promises may be waited for by nobody. */
@@ -92,16 +96,16 @@ final class RowView {
         this.host = host;
         this.opened = opened;
         this.session = session;
-        StoredPlan plan = new StoredPlan(opened.plan, opened.name);
+        plan = new StoredPlan(opened.plan, opened.name);
         planned = plan.forms.size();
         for (int k = 0; k < planned; k++) {
             stages.add(new Known(plan.forms.get(k), plan.sources.get(k), plan.said.get(k), 0));
         }
         room = Math.min(ROOM, MOST_STAGES - planned);
-        row = made(plan);
+        row = made();
     }
 
-    private Row made(StoredPlan plan) {
+    private Row made() {
         // By chance: where two have one session, their tokens differ all the same; and half of all are left at least.
         int first = (int) host.chance(Row.COUNT_BITS - 1);
         while (true) {
@@ -211,10 +215,7 @@ final class RowView {
             try {
                 stands = sure(host, () -> store.append(put));
             } catch (RuntimeException | Error fault) {
-                row.giveUp();
-                for (int k = 0; k < put.entries.size(); k++) {
-                    doubt.put(put.entries.get(k).token, put.at + 1 + k);
-                }
+                doubts(put);
                 throw fault;
             }
             stands = stands == null ? put.entries : stands;
@@ -231,6 +232,34 @@ final class RowView {
                 }
                 return own;
             }
+        }
+    }
+
+    /** Puts a word within a transaction, and lets that stand. Whether it does; where the place was taken, it doesn't. {@code Unknown} where it may. */
+    boolean actWithin(Store.Transaction transaction, Wanted wanted) {
+        Store.Put put = planned(Collections.singletonList(wanted));
+        try {
+            if (!transaction.append(put)) {
+                row.giveUp();
+                return false;
+            }
+            transaction.commit();
+        } catch (RuntimeException | Error fault) {
+            doubts(put);
+            throw fault;
+        }
+        row.met(put.entries.get(0).word, put.entries.get(0).token);
+        own.putAll(put.payloads);
+        Done done = take(put.entries.get(0));
+        host.did(opened.name, put.at + 1, done.word, done.reply[Row.ANSWER]);
+        return true;
+    }
+
+    /** Gives a put up that may stand, and remembers it until the words at its places are read. */
+    private void doubts(Store.Put put) {
+        row.giveUp();
+        for (int k = 0; k < put.entries.size(); k++) {
+            doubt.put(put.entries.get(k).token, put.at + 1 + k);
         }
     }
 
@@ -257,6 +286,9 @@ final class RowView {
     /** A word whose value or exception is named by this place. */
     private static long named(long word, int place) {
         int stage = Words.stage(word);
+        if (Words.linking(word)) {
+            return word;
+        }
         switch (Words.kind(word)) {
             case Words.COMPLETE:
                 return Words.complete(0, stage, place);
@@ -284,7 +316,7 @@ final class RowView {
             }
             throw new StoreException.Broken(opened.name, place, "the word " + entry.word + " can't be done: " + refused.getMessage());
         }
-        seen = place;
+        remember(entry);
         int[] reply = row.told.clone();
         boolean isOwn = doubt.remove(entry.token) != null;
         if (isOwn) {
@@ -317,6 +349,15 @@ final class RowView {
         doubt.values().removeIf(its -> its <= place); // What was to stand here and doesn't never will.
         takeNews(changed, entry.word, place);
         return new Done(entry.word, reply);
+    }
+
+    private void remember(Store.Entry entry) {
+        if (seen == words.length) {
+            words = Arrays.copyOf(words, 2 * seen);
+            sessions = Arrays.copyOf(sessions, 2 * seen);
+        }
+        words[seen] = entry.word;
+        sessions[seen++] = entry.token >>> Row.COUNT_BITS;
     }
 
     private static Known attached(long word, int place) {
@@ -378,6 +419,68 @@ final class RowView {
             stage.said = reading(stage.attached, payload -> new StoredPlan.Said((Map<?, ?>) Json.read(payload), number));
         }
         return stage.said;
+    }
+
+    /** What of the context of the place where a stage was attached goes along with its function. */
+    Map<String, Object> carried(int stage) {
+        return stage < planned ? plan.carried : said(stage).carried;
+    }
+
+    /** All that is seen, to be told. What payloads say is read later. */
+    Facts facts() {
+        int[] attached = stages.subList(planned, stages.size()).stream().mapToInt(it -> it.attached).toArray();
+        return new Facts(this, Arrays.copyOf(words, seen), Arrays.copyOf(sessions, seen), attached);
+    }
+
+    /** What was seen of a row until some moment, which any thread may read. */
+    static final class Facts {
+        private final Store store;
+        private final Host host;
+        private final Store.Opened opened;
+        private final StoredPlan plan;
+        private final long[] words, sessions;
+        private final int[] attached;
+
+        Facts(RowView view, long[] words, long[] sessions, int[] attached) {
+            store = view.store;
+            host = view.host;
+            opened = view.opened;
+            plan = view.plan;
+            this.words = words;
+            this.sessions = sessions;
+            this.attached = attached;
+        }
+
+        /** It reads all payloads. */
+        StoredHistory history(Describe describe) {
+            String[] values = new String[words.length + 1], errors = new String[words.length + 1];
+            Arrays.fill(values, "null");
+            Arrays.fill(errors, "");
+            for (int k = 0; k < words.length; k++) {
+                int kind = Words.kind(words[k]), tag = Words.tag(words[k]);
+                if (kind == Words.FAIL || Words.throwing(words[k])) {
+                    errors[k + 1] = Text.of(describe, RemoteException.read(read(k + 1)));
+                } else if ((kind == Words.COMPLETE || kind == Words.FINISH) && tag == 1) {
+                    values[k + 1] = Text.of(describe, read(k + 1));
+                }
+            }
+            String[] names = new String[plan.said.size() + attached.length];
+            for (int k = 0; k < names.length; k++) {
+                int stage = k, place = k < plan.said.size() ? 0 : attached[k - plan.said.size()];
+                names[k] = place == 0 ? plan.said.get(k).name : new StoredPlan.Said((Map<?, ?>) read(place), stage).name;
+            }
+            Map<Long, String> named = sure(host, () -> store.sessionNames(opened.name, opened.number));
+            return new StoredHistory(opened.name, plan.rows, attached.length, words, sessions, names, values, errors, named);
+        }
+
+        private Object read(int place) {
+            byte[] payload = sure(host, () -> store.payload(opened.name, opened.number, place));
+            try {
+                return Json.read(payload);
+            } catch (IllegalArgumentException | NullPointerException fault) {
+                throw new StoreException.Broken(opened.name, place, "its payload can't be read: " + fault.getMessage());
+            }
+        }
     }
 
     private interface Reading<T> {

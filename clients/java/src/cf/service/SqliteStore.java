@@ -7,7 +7,7 @@ import java.util.HashMap;
 import java.util.List;
 import java.util.Map;
 
-/** A file of SQLite's. Writers wait for one another by SQLite's own lock. */
+/** A file of SQLite's. Who writes stands in a {@link Line}, as the clients in other languages do. */
 final class SqliteStore extends JdbcStore {
     private static final String[] SCHEMA = {
         "create table if not exists cf_request (id integer primary key autoincrement, name text not null unique, "
@@ -33,8 +33,65 @@ final class SqliteStore extends JdbcStore {
     private Connection watch;
     private long version = -1;
 
+    /** The file, or none where it is in memory; and whether this thread has a transaction of a function's open there. */
+    private final String path;
+    private final ThreadLocal<Boolean> within = new ThreadLocal<>();
+
     SqliteStore(String url) {
         super(url);
+        String file = url.substring("jdbc:sqlite:".length()).replaceFirst("\\?.*", "").replaceFirst("^file:", "");
+        path = file.isEmpty() || file.equals(":memory:") ? null : file;
+    }
+
+    private Line line() {
+        if (within.get() != null) {
+            throw new StoreException(path + ": a transactional function can't put: its own transaction has the file");
+        }
+        return path == null ? null : Line.taken(path, LONGEST_WAIT);
+    }
+
+    @Override
+    <T> T within(Act<T> act) {
+        Line line = line();
+        try {
+            return super.within(act);
+        } finally {
+            if (line != null) {
+                line.close();
+            }
+        }
+    }
+
+    @Override
+    public boolean locksOut() {
+        return true;
+    }
+
+    @Override
+    public Transaction transaction() {
+        Transaction made = new Within(line());
+        within.set(true);
+        return made;
+    }
+
+    @Override
+    void ended() {
+        within.remove();
+    }
+
+    @Override
+    void begin(Connection db) throws SQLException {
+        execute(db, "begin immediate");
+    }
+
+    @Override
+    void commit(Connection db) throws SQLException {
+        execute(db, "commit");
+    }
+
+    @Override
+    boolean undoes(Connection db) {
+        return false;
     }
 
     @Override

@@ -1,5 +1,6 @@
 package cf.service;
 
+import java.sql.Connection;
 import java.util.Collections;
 import java.util.List;
 import java.util.Map;
@@ -54,6 +55,26 @@ public interface Store extends AutoCloseable {
     /** The store's clock, in seconds since 1970. */
     double now();
 
+    /** What sessions are called in a request, by whoever did something there by hand. */
+    default Map<Long, String> sessionNames(String request, long number) {
+        return Collections.emptyMap();
+    }
+
+    /** Whether it has transactions that a function can take part in. */
+    default boolean isTransactional() {
+        return false;
+    }
+
+    /** Whether nobody else can put while a transaction is open. */
+    default boolean locksOut() {
+        return false;
+    }
+
+    /** Begins a transaction, with a connection of its own. */
+    default Transaction transaction() {
+        throw new StoreException("the store has no transactions that a function can take part in");
+    }
+
     /** Keeps a timer of a stage, in the place of one that it had. */
     void setTimer(Timer timer);
 
@@ -65,6 +86,24 @@ public interface Store extends AutoCloseable {
 
     @Override
     void close();
+
+    /** A transaction of an engine. Closing it undoes what isn't committed. */
+    interface Transaction extends AutoCloseable {
+        /** What a function is called with. */
+        Connection connection();
+
+        /** Whether the connection is gone, or the engine can't write now, once what a function threw may be due to that. All is undone. */
+        boolean isAway();
+
+        /** Puts within the transaction, and says whether its place was free. */
+        boolean append(Put put);
+
+        /** Lets all of it stand. {@link StoreException.Unknown} where it may or may not. */
+        void commit();
+
+        @Override
+        void close();
+    }
 
     /** An entry of a row: a word, and the token that says who put it. */
     final class Entry {
@@ -84,6 +123,18 @@ public interface Store extends AutoCloseable {
         /** The session, times 2^23, and a count. */
         public long token() {
             return token;
+        }
+
+        /** Adds what stands at a place to what stands behind {@code at} words. {@link StoreException.Broken} where it is no entry, or leaves a gap. */
+        static void add(List<Entry> entries, String name, int at, long place, long word, long token) {
+            int expected = at + entries.size();
+            if (place != expected) {
+                throw new StoreException.Broken(name, expected + 1, "no word stands there, and one stands at " + (place + 1));
+            }
+            if (word < 0 || token < 0) {
+                throw new StoreException.Broken(name, expected + 1, word + " with " + token + " is no word with its token");
+            }
+            entries.add(new Entry(word, token));
         }
     }
 

@@ -2,6 +2,7 @@ package cf.service;
 
 import cf.service.watch.Host;
 import java.lang.ref.WeakReference;
+import java.sql.Connection;
 import java.util.ArrayList;
 import java.util.Arrays;
 import java.util.Collections;
@@ -29,6 +30,7 @@ public final class StoreService implements AutoCloseable {
     private final int threads;
     private final long lease;
     private final boolean takesAll;
+    private final StoredContexts contexts;
     private final Watcher watcher;
     private long nextBeat, nextLook;
     private Object mark;
@@ -52,13 +54,26 @@ public final class StoreService implements AutoCloseable {
      * @param takesAll whether it works on all requests that are open in the store, and not only on those that were opened here
      */
     public StoreService(Store store, Functions functions, int threads, long lease, TimeUnit unit, boolean takesAll) {
-        this(store, functions, threads, lease, unit, takesAll, new Host());
+        this(store, functions, threads, lease, unit, takesAll, null);
     }
 
-    StoreService(Store store, Functions functions, int threads, long lease, TimeUnit unit, boolean takesAll, Host host) {
+    /**
+     * With contexts that go along with functions, too.
+     *
+     * @throws IllegalArgumentException a function is transactional, and the store has no transactions that it can take part in
+     */
+    public StoreService(Store store, Functions functions, int threads, long lease, TimeUnit unit, boolean takesAll, StoredContexts contexts) {
+        this(store, functions, threads, lease, unit, takesAll, contexts, new Host());
+    }
+
+    StoreService(Store store, Functions functions, int threads, long lease, TimeUnit unit, boolean takesAll, StoredContexts contexts, Host host) {
         if (threads < 0 || lease <= 0) {
             throw new IllegalArgumentException("threads must not be below 0, and the lease has to be above it");
         }
+        if (functions.hasTransactional() && !store.isTransactional()) {
+            throw new IllegalArgumentException("the store has no transactions that a function can take part in");
+        }
+        this.contexts = contexts;
         this.store = store;
         this.functions = functions;
         this.threads = threads;
@@ -73,7 +88,59 @@ public final class StoreService implements AutoCloseable {
 
     /** Opens a request without stages, or gives the one of this name as it stands in the store. */
     public StoredRequest request(String name) {
-        return opened(RowView.sure(host, () -> store.open(name, StoredPlan.EMPTY)));
+        String plan = StoredPlan.text("", Collections.emptyList(), captured());
+        return opened(RowView.sure(host, () -> store.open(name, plan)));
+    }
+
+    /**
+     * Begins a request of a flow's stages. If one of this name stands in the store, goes on with that.
+     *
+     * @param given the values of its promises, in their order. Those that are settled in the store stay as they are
+     * @return the request; {@link StoredRequest#stage(StoredFlow.Step)} gives the stage of a step
+     * @throws IllegalArgumentException more values are given than there are promises, a function isn't registered, or JSON hasn't a value
+     * @throws StoreException.Broken the request of this name was begun with another plan
+     */
+    public StoredRequest start(StoredFlow flow, String name, Object... given) {
+        if (given.length > flow.promises.size()) {
+            throw new IllegalArgumentException(flow.name + " has " + flow.promises.size() + " promises");
+        }
+        List<byte[]> payloads = new ArrayList<>();
+        for (Object value : given) {
+            payloads.add(value == null ? null : Json.write(value));
+        }
+        String plan = flow.text(functions, captured());
+        while (true) {
+            Store.Opened found = RowView.sure(host, () -> store.open(name, plan));
+            if (!StoredFlow.areAlike(found.plan, plan)) {
+                throw new StoreException.Broken(name, 0, "it was begun with another plan");
+            }
+            StoredRequest request = opened(found);
+            if (request.number == found.number) { // (else it was dropped meanwhile, and another of its name begun)
+                request.completeAll(flow.promises, payloads);
+                return request;
+            }
+        }
+    }
+
+    private Map<String, ?> captured() {
+        return contexts == null ? Collections.emptyMap() : contexts.capture();
+    }
+
+    /** With what goes along with a function from here. */
+    Map<String, Object> along(Map<String, Object> said) {
+        Map<String, ?> carried = captured();
+        if (!carried.isEmpty()) {
+            said.put("context", carried);
+        }
+        return said;
+    }
+
+    /** What is said of a stage that calls the latest version of a function. */
+    Map<String, Object> said(String function, boolean composes) {
+        Map<String, Object> said = StoredRequest.said(function);
+        said.put("fn", function);
+        said.put("version", functions.latest(function, composes));
+        return along(said);
     }
 
     /** A request that stands in the store. {@link StoreException.Gone} where there is none of this name. */
@@ -415,16 +482,32 @@ public final class StoreService implements AutoCloseable {
     private static final class Task {
         final int stage;
         final String name;
-        final Functions.Any function;
+        final Functions.Known function;
         final List<Object> args;
+        /** Arguments by name, what goes along, and the promise for what a composing function gives, or -1. */
+        final Map<String, Object> named, carried;
+        final int to;
         final RemoteException ended;
 
-        Task(int stage, String name, Functions.Any function, List<Object> args, RemoteException ended) {
+        Task(int stage, Functions.Known function, List<Object> args, StoredPlan.Said said, Map<String, Object> carried) {
             this.stage = stage;
-            this.name = name;
+            name = said.function;
             this.function = function;
             this.args = args;
+            named = said.named;
+            to = said.to;
+            this.carried = carried;
+            ended = null;
+        }
+
+        Task(int stage, RemoteException ended) {
+            this.stage = stage;
             this.ended = ended;
+            name = null;
+            function = null;
+            args = null;
+            named = carried = null;
+            to = -1;
         }
     }
 
@@ -433,15 +516,22 @@ public final class StoreService implements AutoCloseable {
         final int stage;
         final byte[] payload;
         final boolean isThrown;
+        /** The promise to which it links a composing stage, or -1. */
+        final int to;
 
         Finish(int stage, byte[] payload, boolean isThrown) {
+            this(stage, payload, isThrown, -1);
+        }
+
+        Finish(int stage, byte[] payload, boolean isThrown, int to) {
             this.stage = stage;
             this.payload = payload;
             this.isThrown = isThrown;
+            this.to = to;
         }
 
         RowView.Wanted wanted() {
-            return new RowView.Wanted(isThrown ? Words.finishThrowing(0, stage, 0) : Words.finish(0, stage, Words.NIL), payload);
+            return to >= 0 ? new RowView.Wanted(Words.finishLinking(0, stage, to), payload) : new RowView.Wanted(isThrown ? Words.finishThrowing(0, stage, 0) : Words.finish(0, stage, Words.NIL), payload);
         }
     }
 
@@ -452,8 +542,8 @@ public final class StoreService implements AutoCloseable {
         abandon(request);
         relay(request);
         for (Task task = first(request); task != null;) {
-            Finish finish = called(task);
-            Task next = next(request, finish);
+            boolean isWithin = task.ended == null && task.function.takes == Functions.Takes.CONNECTION;
+            Task next = isWithin ? inTransaction(request, task) : next(request, called(request, task, null));
             task = next == null ? first(request) : next;
         }
         relay(request);
@@ -566,7 +656,7 @@ public final class StoreService implements AutoCloseable {
             return Collections.emptyList();
         }
         List<Integer> ready = view.ready(), chosen = new ArrayList<>();
-        if (finish != null && !view.isSettled(finish.stage)) {
+        if (finish != null && finish.to < 0 && !view.isSettled(finish.stage)) {
             for (int stage : view.aloneBehind(finish.stage)) {
                 Form form = view.form(stage);
                 boolean isEither = form == Form.HANDLE || form == Form.WHEN_COMPLETE;
@@ -583,18 +673,26 @@ public final class StoreService implements AutoCloseable {
         return chosen;
     }
 
-    /**
-     * The function of a stage, or null where it isn't registered here: others may have it. Those that compose, and those with arguments by name, are
-     * Python's.
-     */
-    private Functions.Any function(RowView view, int stage) {
+    /** The function of a stage, or null where none is registered here that could be called: others may have it. */
+    private Functions.Known function(RowView view, int stage) {
         StoredPlan.Said said = calledBy(view, stage);
-        Functions.Any function = said.function == null || said.hasNamed || view.form(stage).composes ? null : functions.of(said.function, said.version);
+        Functions.Known function = said.function == null ? null : functions.of(said.function, said.version);
+        if (function != null && !isFit(function.takes, view.form(stage), said)) {
+            function = null;
+        }
         if (function == null && unknown.add(said.function + " " + said.version)) {
             host.warns("request \"" + view.opened.name + "\", stage " + stage + ": function " + said.function + ", version " + said.version
                     + ", isn't known here", "", null);
         }
         return function;
+    }
+
+    /** Whether what a function takes is what a stage of this form has. */
+    private boolean isFit(Functions.Takes takes, Form form, StoredPlan.Said said) {
+        boolean hasAll = said.named.isEmpty() || takes == Functions.Takes.NAMED;
+        boolean composes = takes == Functions.Takes.REQUEST;
+        return hasAll && composes == form.composes && (!composes || form == Form.COMPOSE && said.to >= 0)
+                && (takes != Functions.Takes.CONNECTION || store.isTransactional());
     }
 
     /** What is said of the stage whose function a stage calls: of itself, or of the one that it tries again. */
@@ -611,12 +709,12 @@ public final class StoreService implements AutoCloseable {
             if (again >= 0) {
                 RemoteException thrown = (RemoteException) args.get(0);
                 if (!thrown.kind().equals(RemoteException.ABANDONED)) {
-                    return new Task(stage, said.function, null, null, thrown);
+                    return new Task(stage, thrown);
                 }
                 args = argumentsAgain(view, again);
             }
             boolean isGiven = said.args != null && !said.args.isEmpty();
-            return new Task(stage, said.function, function(view, stage), isGiven ? new ArrayList<>(said.args) : args, null);
+            return new Task(stage, function(view, stage), isGiven ? new ArrayList<>(said.args) : args, said, view.carried(stage));
         });
     }
 
@@ -666,17 +764,106 @@ public final class StoreService implements AutoCloseable {
         return args;
     }
 
-    private Finish called(Task task) {
+    private Finish called(StoredRequest request, Task task, Connection connection) {
         try {
             if (task.ended != null) {
                 throw task.ended;
             }
-            Object value = host.call(task.name, () -> task.function.call(task.args));
+            Object value = host.call(task.name, () -> call(task, new Functions.Given(request, connection, task.args, task.named)));
+            if (task.function.takes == Functions.Takes.REQUEST) {
+                if (!(value instanceof StoredStage) || ((StoredStage) value).request != request) {
+                    throw new IllegalArgumentException("a function that composes has to give a stage of the request");
+                }
+                byte[] payload = Json.write(Collections.singletonMap("stage", ((StoredStage) value).number));
+                return new Finish(task.stage, payload, false, task.to);
+            }
             return new Finish(task.stage, value == null ? null : Json.write(value), false);
         } catch (Throwable thrown) { // (also an Error: the stage ends in it, and the thread goes on)
             host.passes(thrown);
             return new Finish(task.stage, Json.write(RemoteException.of(thrown).written()), true);
         }
+    }
+
+    /** Calls a function, within what went along with it. */
+    private Object call(Task task, Functions.Given given) throws Throwable {
+        if (contexts == null) {
+            return task.function.call.call(given);
+        }
+        Object[] value = new Object[1];
+        Throwable[] thrown = {new IllegalStateException("the context has not called the function at once")};
+        contexts.restore(task.carried).execute(() -> {
+            try {
+                value[0] = task.function.call.call(given);
+                thrown[0] = null;
+            } catch (Throwable fault) {
+                thrown[0] = fault;
+            }
+        });
+        if (thrown[0] != null) {
+            throw thrown[0];
+        }
+        return value[0];
+    }
+
+    /** That of a transaction whose place was taken. */
+    private static final Finish LOST = new Finish(-1, null, false);
+
+    /**
+     * The function's effect and the word of its finish stand or fall together. Where the finish's place was taken meanwhile, or the connection is lost,
+     * all of it is done again, unless it stands. What comes next is put once the transaction has ended.
+     */
+    private Task inTransaction(StoredRequest request, Task task) {
+        while (true) {
+            boolean[] isOpen = {false};
+            Finish finish = LOST;
+            try {
+                finish = request.transacting(() -> {
+                    try (Store.Transaction transaction = store.transaction()) {
+                        isOpen[0] = true;
+                        return tried(request, task, transaction);
+                    }
+                });
+            } catch (StoreException.Broken fault) {
+                throw fault;
+            } catch (RuntimeException | Error fault) {
+                host.passes(fault);
+                boolean isUnknown = fault instanceof StoreException.Unknown;
+                if (stops && (isUnknown || !isOpen[0])) {
+                    throw fault;
+                }
+                if (isOpen[0] && !isUnknown) { // What the function did to the connection lets no word be put, say.
+                    finish = new Finish(task.stage, Json.write(RemoteException.of(fault).written()), true);
+                } else { // It was the store.
+                    host.warns(request + ", stage " + task.stage + ": " + fault.getMessage(), request.name, null);
+                    pause();
+                }
+            }
+            if (finish != LOST) {
+                return next(request, finish);
+            }
+        }
+    }
+
+    /**
+     * Calls a function in a transaction and puts its finish there; what has to be put behind that, or null, or {@link #LOST} where it has to be done
+     * again. What others have put is read first: where the stage isn't this session's any more, no effect is for nothing.
+     */
+    private Finish tried(StoredRequest request, Task task, Store.Transaction transaction) {
+        request.read();
+        if (!request.with(view -> view.isHeld(task.stage))) {
+            return null; // It stands.
+        }
+        if (request.with(view -> view.isSettled(task.stage))) {
+            return new Finish(task.stage, null, false); // Late: it does nothing.
+        }
+        Finish finish = called(request, task, transaction.connection());
+        if (finish.isThrown) {
+            if (transaction.isAway()) {
+                throw new StoreException.Unknown("the connection was lost", null);
+            }
+            return finish;
+        }
+        return request.actWithin(transaction, finish.stage, finish.wanted()) ? null : LOST;
     }
 
     // What a search over a store looks at.

@@ -1,14 +1,14 @@
 package cf.service;
 
+import java.nio.charset.StandardCharsets;
 import java.util.ArrayList;
+import java.util.Collections;
 import java.util.LinkedHashMap;
 import java.util.List;
 import java.util.Map;
 
 /** The text of a request's plan, of which each process builds the same graph, and what payloads say of attached stages. */
 final class StoredPlan {
-    /** The text of a plan without stages. */
-    static final String EMPTY = "{\"cf\":3,\"flow\":\"\",\"stages\":[]}";
     private static final long FORMAT = 3;
 
     /** Form and sources of each stage, and what is said of it. */
@@ -17,11 +17,25 @@ final class StoredPlan {
     final List<Said> said = new ArrayList<>();
     /** The same for the library. */
     final int[] rows;
+    /** What of the context goes along with the functions of these stages. */
+    final Map<String, Object> carried;
+
+    /** The text of a flow's plan, or of one without stages, with what is to go along with its functions. */
+    static String text(String flow, List<?> stages, Map<String, ?> carried) {
+        Map<String, Object> plan = new LinkedHashMap<>();
+        plan.put("cf", FORMAT);
+        plan.put("flow", flow);
+        plan.put("stages", stages);
+        if (!carried.isEmpty()) {
+            plan.put("context", carried);
+        }
+        return new String(Json.write(plan), StandardCharsets.UTF_8);
+    }
 
     /** Reads the text of a request's plan. */
     StoredPlan(String text, String request) {
         try {
-            Map<?, ?> read = (Map<?, ?>) Json.read(text.getBytes(java.nio.charset.StandardCharsets.UTF_8));
+            Map<?, ?> read = (Map<?, ?>) Json.read(text.getBytes(StandardCharsets.UTF_8));
             if (!Long.valueOf(FORMAT).equals(read.get("cf"))) {
                 throw new IllegalArgumentException("it is of version " + read.get("cf"));
             }
@@ -30,6 +44,7 @@ final class StoredPlan {
                 add((Map<?, ?>) it, numbers);
             }
             rows = numbers.stream().mapToInt(Integer::intValue).toArray();
+            carried = named(read.get("context"));
         } catch (IllegalArgumentException | ClassCastException | NullPointerException fault) {
             throw new StoreException.Broken(request, 0, "its plan can't be read: " + fault.getMessage());
         }
@@ -64,8 +79,8 @@ final class StoredPlan {
         final String name, function;
         final int version;
         final List<?> args;
-        /** Whether its function is called with arguments by name, as only Python's are. */
-        final boolean hasNamed;
+        /** Arguments by name, and what of the context goes along. */
+        final Map<String, Object> named, carried;
         /** The stage whose function a further try calls, and the promise for what a composing stage's function gives; or -1. */
         final int again, to;
 
@@ -74,7 +89,8 @@ final class StoredPlan {
             function = (String) read.get("fn");
             version = read.get("version") == null ? 0 : Math.toIntExact((Long) read.get("version"));
             args = (List<?>) read.get("args");
-            hasNamed = read.get("kwargs") != null;
+            named = named(read.get("kwargs"));
+            carried = named(read.get("context"));
             again = lower(read.get("again"), number);
             to = lower(read.get("to"), number);
         }
@@ -89,22 +105,10 @@ final class StoredPlan {
             }
             return found;
         }
+    }
 
-        /** The payload of a word that attaches a stage. */
-        static byte[] write(String name, String function, int version, List<?> args, int again) {
-            Map<String, Object> said = new LinkedHashMap<>();
-            said.put("name", name);
-            if (function != null) {
-                said.put("fn", function);
-                said.put("version", version);
-            }
-            if (args != null && !args.isEmpty()) {
-                said.put("args", args);
-            }
-            if (again >= 0) {
-                said.put("again", again);
-            }
-            return Json.write(said);
-        }
+    @SuppressWarnings("unchecked")
+    private static Map<String, Object> named(Object read) {
+        return read == null ? Collections.emptyMap() : (Map<String, Object>) (Map<?, ?>) read;
     }
 }

@@ -5,13 +5,16 @@ import java.util.ArrayList;
 import java.util.Arrays;
 import java.util.Collections;
 import java.util.HashMap;
+import java.util.LinkedHashMap;
 import java.util.LinkedHashSet;
 import java.util.List;
 import java.util.Map;
 import java.util.Set;
+import java.util.concurrent.ConcurrentHashMap;
 import java.util.concurrent.atomic.AtomicBoolean;
 import java.util.concurrent.locks.Lock;
 import java.util.function.Function;
+import java.util.function.Supplier;
 
 /**
  * A request in a store: what happened to it stands there as a row of words, so it outlives its process, and processes share it.
@@ -33,7 +36,10 @@ public final class StoredRequest {
     volatile int seen;
     private final StoreService service;
     private final RowView view;
-    private final Lock lock;
+    /** Who puts has the first one, and then the second one, which guards the view. */
+    private final Lock writes, lock;
+    /** The threads that run a transactional function of it. */
+    private final Set<Thread> transacts = ConcurrentHashMap.newKeySet();
     /** The stages that were asked for, and those of them that aren't shown to be settled. */
     private final Map<Integer, StoredStage> stages = new HashMap<>();
     private final Set<StoredStage> open = new LinkedHashSet<>();
@@ -41,6 +47,7 @@ public final class StoredRequest {
     StoredRequest(StoreService service, RowView view) {
         this.service = service;
         this.view = view;
+        writes = service.host.lock();
         lock = service.host.lock();
         name = view.opened.name;
         number = view.opened.number;
@@ -55,13 +62,24 @@ public final class StoredRequest {
 
     /** Has a registered function called, in its latest version, by any process that works on the request, with arguments of JSON's. */
     public StoredStage supply(String function, Object... args) {
-        int version = service.functions.latest(function);
-        return attach(Form.SUPPLY, StoredPlan.Said.write(function, function, version, Arrays.asList(args), -1));
+        return supplyNamed(function, Collections.emptyMap(), args);
+    }
+
+    /** The same, with further arguments by name, which the function has to take: see {@link Functions#byName}, and any function of Python's. */
+    public StoredStage supplyNamed(String function, Map<String, ?> named, Object... args) {
+        Map<String, Object> said = service.said(function, false);
+        if (args.length > 0) {
+            said.put("args", Arrays.asList(args));
+        }
+        if (!named.isEmpty()) {
+            said.put("kwargs", named);
+        }
+        return attach(Form.SUPPLY, said);
     }
 
     /** A stage without a function, which somebody settles, in any process. */
     public StoredStage promise(String name) {
-        return attach(Form.SOURCE, StoredPlan.Said.write(name, null, 0, null, -1));
+        return attach(Form.SOURCE, said(name));
     }
 
     /**
@@ -75,6 +93,50 @@ public final class StoredRequest {
     /** A stage that ends as the first of these that is settled, be it with an exception. For n stages it takes n - 1, at least one. */
     public StoredStage anyOf(StoredStage... of) {
         return tree(Form.ANY_OF, "first of", StoredStage.numbers(this, of));
+    }
+
+    /**
+     * A stage that ends with the list of the values of all of these, in this order, or fails as {@link #allOf} does. For n stages it takes 2 n - 1.
+     * {@code IllegalArgumentException} where none is given.
+     */
+    public StoredStage gather(StoredStage... of) {
+        int[] row = StoredStage.numbers(this, of);
+        if (row.length == 0) {
+            throw new IllegalArgumentException("a list of nothing needs no stage");
+        }
+        for (int k = 0; k < row.length; k++) {
+            row[k] = attach(Form.APPLY, gathering("cf.gather"), row[k]).number;
+        }
+        while (row.length > 1) {
+            int[] above = new int[(row.length + 1) / 2];
+            for (int k = 0; k < above.length; k++) {
+                above[k] = 2 * k + 1 < row.length ? attach(Form.COMBINE, gathering("cf.add"), row[2 * k], row[2 * k + 1]).number : row[2 * k];
+            }
+            row = above;
+        }
+        return stage(row[0]);
+    }
+
+    private Map<String, Object> gathering(String function) {
+        Map<String, Object> said = service.said(function, false);
+        said.put("name", "gather");
+        return said;
+    }
+
+    /** The stage of a step of the flow that the request was started by. */
+    public StoredStage stage(StoredFlow.Step step) {
+        return stage(step.number);
+    }
+
+    /** All that happened until now, as the row tells it. It reads all payloads, so it takes time by the number of words. */
+    public StoredHistory history() {
+        return history(Describe.ALL);
+    }
+
+    /** The same, with what this tells of values, and of exceptions, which are {@link RemoteException}s. */
+    public StoredHistory history(Describe describe) {
+        catchUp();
+        return with(RowView::facts).history(describe);
     }
 
     /** The stage of a number, in the order in which they were attached; null if there is none by what this process has read. */
@@ -129,11 +191,49 @@ public final class StoredRequest {
     }
 
     StoredStage behind(Form form, String function, int... of) {
-        return attach(form, StoredPlan.Said.write(function, function, service.functions.latest(function), null, -1), of);
+        return attach(form, service.said(function, false), of);
     }
 
-    StoredStage attach(Form form, byte[] said, int... of) {
+    /** What is said of a stage without a function. */
+    static Map<String, Object> said(String name) {
+        Map<String, Object> said = new LinkedHashMap<>();
+        said.put("name", name);
+        return said;
+    }
+
+    /** What is said of a further try of a stage: who calls its function has what goes along from here. */
+    Map<String, Object> again(StoredStage stage) {
+        Map<String, Object> said = service.along(said(stage.name() + " again"));
+        said.put("again", stage.number);
+        return said;
+    }
+
+    StoredStage attach(Form form, Map<String, ?> said, int... of) {
+        byte[] payload = Json.write(said);
+        return attached(1, view -> {
+            int function = form.calls ? view.size() : 0;
+            return Collections.singletonList(attaching(form, of, function, payload));
+        });
+    }
+
+    private static RowView.Wanted attaching(Form form, int[] of, int function, byte[] payload) {
         int first = of.length > 0 ? of[0] : 0, second = of.length > 1 ? of[1] : 0;
+        return new RowView.Wanted(Words.attach(0, form, of.length, first, second, function), payload);
+    }
+
+    /** A stage that composes has a promise beside it, which stands for what its function gives. That promise is given back. */
+    StoredStage compose(StoredStage source, String function) {
+        Map<String, Object> said = service.said(function, true);
+        byte[] promise = Json.write(said("what " + function + " gives"));
+        return attached(2, view -> {
+            said.put("to", view.size());
+            return Arrays.asList(attaching(Form.SOURCE, new int[0], 0, promise),
+                    attaching(Form.COMPOSE, new int[] {source.number}, view.size() + 1, Json.write(said)));
+        });
+    }
+
+    /** Puts words that attach so many stages, and gives the first of these. */
+    private StoredStage attached(int many, RowView.Decision decision) {
         boolean mayBeClosed = view.isPlanned() || isClosed;
         if (mayBeClosed) { // (also where this call fails a thread of the service does it)
             reopens = true;
@@ -142,11 +242,10 @@ public final class StoredRequest {
         List<RowView.Done> done;
         try {
             done = act(view -> {
-                if (view.size() == 4096) {
+                if (view.size() + many > 4096) {
                     throw new RequestFullException(name);
                 }
-                int function = form.calls ? view.size() : 0;
-                return Collections.singletonList(new RowView.Wanted(Words.attach(0, form, of.length, first, second, function), said));
+                return decision.of(view);
             });
             service.reopen(this);
         } finally {
@@ -157,7 +256,7 @@ public final class StoredRequest {
 
     /** An attached stage has at most two sources; a tree of them tells what one stage of all would. */
     private StoredStage tree(Form form, String name, int[] of) {
-        byte[] said = StoredPlan.Said.write(name, null, 0, null, -1);
+        Map<String, Object> said = said(name);
         int[] row = of;
         while (row.length > 2) {
             int[] above = new int[(row.length + 1) / 2];
@@ -182,6 +281,23 @@ public final class StoredRequest {
         }
         return Words.kind(word) == Words.CANCEL && with(view -> view.isSettled(stage) && view.outcome(stage)[0] == Row.CANCELLED
                 && view.outcome(stage)[Row.WRAPPED] == 0);
+    }
+
+    /** Completes a flow's promises, but those that are settled; up to 32 in one put. */
+    void completeAll(List<StoredFlow.Step> promises, List<byte[]> payloads) {
+        for (int from = 0; from < payloads.size(); from += 32) {
+            int first = from, end = Math.min(from + 32, payloads.size());
+            act(view -> {
+                List<RowView.Wanted> wanted = new ArrayList<>();
+                for (int k = first; k < end; k++) {
+                    if (!view.isSettled(promises.get(k).number)) {
+                        wanted.add(new RowView.Wanted(Words.complete(0, promises.get(k).number, Words.NIL), payloads.get(k)));
+                    }
+                }
+                return wanted;
+            });
+        }
+        service.serve(this);
     }
 
     StoredStage later(StoredStage stage, double seconds, char kind, byte[] what) {
@@ -221,21 +337,71 @@ public final class StoredRequest {
     }
 
     void catchUp() {
-        act(view -> {
-            view.catchUp();
-            return Collections.emptyList();
-        });
+        try {
+            read();
+        } finally {
+            show();
+        }
     }
 
-    List<RowView.Done> act(RowView.Decision decision) {
+    /** Does what others have put, which isn't shown yet. */
+    void read() {
         lock.lock();
         try {
-            return view.act(decision);
+            view.catchUp();
         } finally {
             seen = view.seen();
             lock.unlock();
+        }
+    }
+
+    List<RowView.Done> act(RowView.Decision decision) {
+        if (transacts.contains(Thread.currentThread())) {
+            throw new StoreException(this + ": its transactional function can't put to it: that takes the place of its finish");
+        }
+        writes.lock();
+        try {
+            return acted(() -> view.act(decision));
+        } finally {
+            writes.unlock();
             show();
         }
+    }
+
+    private <T> T acted(Supplier<T> act) {
+        lock.lock();
+        try {
+            return act.get();
+        } finally {
+            seen = view.seen();
+            lock.unlock();
+        }
+    }
+
+    /**
+     * Acts while a transactional function runs. Where the store lets nobody else put meanwhile, this process's threads wait here, and not in the store
+     * with the lock of the request, which the function's finish needs.
+     */
+    <T> T transacting(Supplier<T> act) {
+        boolean locksOut = service.store.locksOut();
+        if (locksOut) {
+            writes.lock();
+        }
+        transacts.add(Thread.currentThread());
+        try {
+            return act.get();
+        } finally {
+            transacts.remove(Thread.currentThread());
+            if (locksOut) {
+                writes.unlock();
+            }
+            show();
+        }
+    }
+
+    /** Puts a finish within a transaction, and says whether that stands. What it settled isn't shown yet. */
+    boolean actWithin(Store.Transaction transaction, int stage, RowView.Wanted finish) {
+        return acted(() -> !view.isSettled(stage) && view.actWithin(transaction, finish));
     }
 
     private StoredStage asked(int number) {

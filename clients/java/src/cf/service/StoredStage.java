@@ -57,17 +57,36 @@ public final class StoredStage {
         return request.behind(Form.EXCEPTIONALLY, function, number);
     }
 
+    /** Has a registered function called as {@link #handle}. The new stage ends as this one does, unless the function throws. */
+    public StoredStage whenDone(String function) {
+        return request.behind(Form.WHEN_COMPLETE, function, number);
+    }
+
+    /**
+     * Has a function called that attaches stages to the request, and waits for one of them without holding a thread: {@link Functions#composing}
+     * registers it. Two stages are attached: the one that calls the function, and a promise, which any process settles that sees the returned stage
+     * settled.
+     *
+     * @return the promise
+     */
+    public StoredStage compose(String function) {
+        return request.compose(this, function);
+    }
+
     /**
      * Plans further tries, for the case that the process that runs this stage's function dies. The function may have done its work before, and does
      * it once more with each try.
      *
      * @return the last try, which passes on the value of an earlier one
+     * @throws IllegalArgumentException the stage has no function, or composes: the stages that its function attaches may have further tries
      */
     public StoredStage again(int times) {
         StoredStage last = this;
-        byte[] said = StoredPlan.Said.write(name() + " again", null, 0, null, number);
+        if (request.with(view -> view.form(number).composes || !view.form(number).calls)) {
+            throw new IllegalArgumentException("it has no function of its own, or composes; stages that its function attaches may have further tries");
+        }
         for (int k = 0; k < times; k++) {
-            last = request.attach(Form.EXCEPTIONALLY, said, last.number);
+            last = request.attach(Form.EXCEPTIONALLY, request.again(this), last.number);
         }
         return last;
     }

@@ -5,6 +5,7 @@ import cf.service.testing.StoredOrdersTest;
 import java.util.Arrays;
 import java.util.LinkedHashSet;
 import java.util.Set;
+import java.util.concurrent.Callable;
 
 /** Runs all tests, or those that are named, one after another in one process. They ask what OpenJDK's tests can't know of. */
 public final class AllTests {
@@ -143,15 +144,49 @@ public final class AllTests {
         test("orders over a store by chance", StoredOrdersTest::byChance);
         test("JSON", StoresTest::json);
         if (StoresTest.hasDriver()) {
-            test("functions of requests in SQLite", StoresTest::functions);
-            test("services that share a file", StoresTest::others);
-            test("closed requests in SQLite", StoresTest::closed);
-            test("timers in SQLite", StoresTest::timers);
-            test("stages in SQLite, settled once", StoresTest::settled);
+            over(StoresTest.InFile::new, "functions of requests in SQLite", StoresTest::functions);
+            over(StoresTest.InFile::new, "services that share a file", StoresTest::others);
+            over(StoresTest.InFile::new, "closed requests in SQLite", StoresTest::closed);
+            over(StoresTest.InFile::new, "timers in SQLite", StoresTest::timers);
+            over(StoresTest.InFile::new, "stages in SQLite, settled once", StoresTest::settled);
             test("a process that dies", StoresTest::dies);
             test("rows that can't be gone on with", StoresTest::broken);
+            over(StoresTest.InFile::new, "functions that compose in SQLite", StoredFunctionsTest::composing);
+            over(StoresTest.InFile::new, "arguments by name", StoredFunctionsTest::named);
+            over(StoresTest.InFile::new, "transactional functions", StoredFunctionsTest::transactions);
+            over(StoresTest.InFile::new, "a process that dies in a transaction", StoredFunctionsTest::dies);
+            over(StoresTest.InFile::new, "contexts in SQLite", StoredFunctionsTest::contexts);
+            over(StoresTest.InFile::new, "flows in SQLite", StoredFunctionsTest::flows);
+            over(StoresTest.InFile::new, "histories of requests in SQLite", StoredFunctionsTest::histories);
+            if (StoresTest.onPath("flock")) {
+                over(StoresTest.InFile::new, "the line of who writes to a file", StoredFunctionsTest::line);
+            } else {
+                System.out.println("left out the line of who writes to a file: there is no flock");
+            }
         } else {
             System.out.println("left out requests in SQLite: the class path has no driver, as sqlite-jdbc.jar of Debian's libxerial-sqlite-jdbc-java");
+        }
+        if (EtcdTest.hasServer()) {
+            over(EtcdTest.Server::new, "functions of requests in etcd", StoresTest::functions);
+            over(EtcdTest.Server::new, "services that share a cluster", StoresTest::others);
+            over(EtcdTest.Server::new, "closed requests in etcd", StoresTest::closed);
+            over(EtcdTest.Server::new, "timers in etcd", StoresTest::timers);
+            over(EtcdTest.Server::new, "stages in etcd, settled once", StoresTest::settled);
+            over(EtcdTest.Server::new, "functions that compose in etcd", StoredFunctionsTest::composing);
+            over(EtcdTest.Server::new, "flows in etcd", StoredFunctionsTest::flows);
+            over(EtcdTest.Server::new, "histories of requests in etcd", StoredFunctionsTest::histories);
+            over(EtcdTest.Server::new, "no transactions in etcd", StoredFunctionsTest::noTransactions);
+            over(EtcdTest.Server::new, "words in etcd", EtcdTest::words);
+            over(EtcdTest.Server::new, "what etcd tells of changes", EtcdTest::changes);
+            over(EtcdTest.Server::new, "connections to etcd that are cut", EtcdTest::cut);
+            over(EtcdTest.Server::new, "members of etcd that don't answer", EtcdTest::silent);
+            if (EtcdTest.hasPython()) {
+                over(EtcdTest.Server::new, "requests in etcd, in Java and Python", EtcdTest::python);
+            } else {
+                System.out.println("left out requests in etcd beside Python's: it takes python3, CF_LIBRARY, and clients/python in the working folder");
+            }
+        } else {
+            System.out.println("left out requests in etcd: there is no etcd, as Debian's etcd-server has it");
         }
         if (chosen != null && !chosen.isEmpty()) {
             System.err.println("there are no tests " + chosen);
@@ -159,6 +194,19 @@ public final class AllTests {
         }
         System.out.println(tests + " tests passed, with " + Native.version() + " on Java " + System.getProperty("java.version"));
         System.exit(0);
+    }
+
+    /** Runs a test where its requests stand. */
+    private static <P extends StoresTest.Place> void over(Callable<P> place, String name, PlaceTest<P> test) {
+        test(name, () -> {
+            try (P at = place.call()) {
+                test.run(at);
+            }
+        });
+    }
+
+    private interface PlaceTest<P> {
+        void run(P place) throws Exception;
     }
 
     private static void test(String name, Checks.Test test) {

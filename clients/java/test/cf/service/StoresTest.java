@@ -28,7 +28,7 @@ public final class StoresTest {
 
     /** With a file, it is the process that dies in a function. */
     public static void main(String[] args) throws Exception {
-        try (StoreService service = service(args[0], new Functions().with("inc", 1, number -> {
+        try (StoreService service = service(() -> JdbcStore.open("jdbc:sqlite:" + args[0]), new Functions().with("inc", 1, number -> {
             Runtime.getRuntime().halt(7);
             return number;
         }))) {
@@ -45,12 +45,29 @@ public final class StoresTest {
         }
     }
 
+    static boolean onPath(String program) {
+        return Arrays.stream(System.getenv("PATH").split(":")).anyMatch(it -> new File(it, program).canExecute());
+    }
+
+    /** Where the requests of a test stand. */
+    interface Place extends AutoCloseable {
+        Store open();
+
+        @Override
+        default void close() throws Exception {}
+    }
+
     /** A file of its own, for as long as a test runs. */
-    private static final class InFile implements AutoCloseable {
+    static final class InFile implements Place {
         final Path folder = Files.createTempDirectory("cf-store");
         final String path = folder.resolve("db").toString();
 
         InFile() throws IOException {}
+
+        @Override
+        public JdbcStore open() {
+            return JdbcStore.open("jdbc:sqlite:" + path);
+        }
 
         @Override
         public void close() throws IOException {
@@ -61,15 +78,15 @@ public final class StoresTest {
         }
     }
 
-    private static StoreService service(String path, Functions functions) {
-        return service(path, functions, 4, false);
+    static StoreService service(Place place, Functions functions) {
+        return service(place, functions, 4, false);
     }
 
-    private static StoreService service(String path, Functions functions, int threads, boolean takesAll) {
-        return new StoreService(JdbcStore.open("jdbc:sqlite:" + path), functions, threads, LEASE, TimeUnit.MILLISECONDS, takesAll);
+    static StoreService service(Place place, Functions functions, int threads, boolean takesAll) {
+        return new StoreService(place.open(), functions, threads, LEASE, TimeUnit.MILLISECONDS, takesAll);
     }
 
-    private static Object end(StoredStage stage) throws Exception {
+    static Object end(StoredStage stage) throws Exception {
         try {
             return stage.get(30, TimeUnit.SECONDS);
         } catch (ExecutionException ended) {
@@ -77,7 +94,7 @@ public final class StoresTest {
         }
     }
 
-    private static RemoteException remote(StoredStage stage) throws Exception {
+    static RemoteException remote(StoredStage stage) throws Exception {
         return (RemoteException) end(stage);
     }
 
@@ -95,14 +112,14 @@ public final class StoresTest {
         thrown(IllegalArgumentException.class, () -> Json.write(new Object()));
     }
 
-    static void functions() throws Exception {
+    static void functions(Place place) throws Exception {
         Functions functions = new Functions().with("seven", 1, () -> 7L).with("inc", 1, number -> (Long) number + 1)
                 .with("add", 1, (a, b) -> (Long) a + (Long) b).with("declined", 1, number -> {
                     throw new IllegalStateException("card declined");
                 }).with("sorry", 1, thrown -> "sorry, " + ((RemoteException) thrown).text())
                 .with("both", 1, (value, thrown) -> Arrays.asList(value, thrown == null ? null : ((RemoteException) thrown).kind()))
                 .with("object", 1, number -> new Object());
-        try (InFile file = new InFile(); StoreService service = service(file.path, functions)) {
+        try (StoreService service = service(place, functions)) {
             StoredRequest request = service.request("all");
             StoredStage number = request.promise("number"), inc = number.then("inc");
             StoredStage sum = inc.combine(request.supply("seven"), "add");
@@ -131,47 +148,44 @@ public final class StoresTest {
         }
     }
 
-    static void others() throws Exception {
+    static void others(Place place) throws Exception {
         AtomicInteger calls = new AtomicInteger();
         Functions functions = new Functions().with("inc", 1, number -> {
             calls.incrementAndGet();
             return (Long) number + 1;
         });
-        try (InFile file = new InFile()) {
-            StoredStage last;
-            try (StoreService first = service(file.path, functions, 0, false)) {
-                StoredRequest request = first.request("shared");
-                StoredStage number = request.promise("number");
-                last = number;
-                for (int k = 0; k < 20; k++) {
-                    last = last.then("inc");
-                }
-                for (int k = 0; k < 20; k++) {
-                    number.then("inc"); // (all of these are ready at once)
-                }
+        StoredStage last;
+        try (StoreService first = service(place, functions, 0, false)) {
+            StoredRequest request = first.request("shared");
+            StoredStage number = request.promise("number");
+            last = number;
+            for (int k = 0; k < 20; k++) {
+                last = last.then("inc");
             }
-            is(end(last) instanceof IllegalStateException, true);
-            List<StoreService> workers = new ArrayList<>();
-            for (int k = 0; k < 3; k++) {
-                workers.add(service(file.path, functions, 2, true));
+            for (int k = 0; k < 20; k++) {
+                number.then("inc"); // (all of these are ready at once)
             }
-            try (StoreService second = service(file.path, new Functions())) {
-                StoredRequest request = second.open("shared");
-                is(request.stage(0).complete(0), true);
-                is(end(request.stage(20)), 20L);
-                for (int k = 21; k < 41; k++) {
-                    is(end(request.stage(k)), 1L);
-                }
-                is(calls.get(), 40); // each function once
-                thrown(StoreException.Gone.class, () -> second.open("no such"));
-            }
-            workers.forEach(StoreService::close);
         }
+        is(end(last) instanceof IllegalStateException, true);
+        List<StoreService> workers = new ArrayList<>();
+        for (int k = 0; k < 3; k++) {
+            workers.add(service(place, functions, 2, true));
+        }
+        try (StoreService second = service(place, new Functions())) {
+            StoredRequest request = second.open("shared");
+            is(request.stage(0).complete(0), true);
+            is(end(request.stage(20)), 20L);
+            for (int k = 21; k < 41; k++) {
+                is(end(request.stage(k)), 1L);
+            }
+            is(calls.get(), 40); // each function once
+            thrown(StoreException.Gone.class, () -> second.open("no such"));
+        }
+        workers.forEach(StoreService::close);
     }
 
-    static void closed() throws Exception {
-        try (InFile file = new InFile(); JdbcStore store = JdbcStore.open("jdbc:sqlite:" + file.path);
-                StoreService service = service(file.path, new Functions().with("inc", 1, number -> (Long) number + 1))) {
+    static void closed(Place place) throws Exception {
+        try (Store store = place.open(); StoreService service = service(place, new Functions().with("inc", 1, number -> (Long) number + 1))) {
             StoredRequest request = service.request("closed");
             StoredStage number = request.promise("number");
             number.complete(1);
@@ -186,28 +200,26 @@ public final class StoresTest {
         }
     }
 
-    static void timers() throws Exception {
-        try (InFile file = new InFile()) {
-            try (StoreService service = service(file.path, new Functions())) {
-                StoredRequest request = service.request("timers");
-                StoredStage slow = request.promise("slow"), other = request.promise("other"), soon = request.promise("soon");
-                slow.orTimeout(50, TimeUnit.MILLISECONDS);
-                other.completeOnTimeout("in its place", 50, TimeUnit.MILLISECONDS);
-                soon.orTimeout(1, TimeUnit.MINUTES).complete(null);
-                is(((TimeoutException) end(slow)).getMessage(), "slow took longer than 0.05 s");
-                is(end(other), "in its place");
-                is(end(soon), null);
-            }
-            try (JdbcStore store = JdbcStore.open("jdbc:sqlite:" + file.path)) {
-                List<Store.Timer> left = store.due(1e12);
-                is(left.size(), 1); // what was fired is forgotten
-                is(left.get(0).stage, 2);
-            }
+    static void timers(Place place) throws Exception {
+        try (StoreService service = service(place, new Functions())) {
+            StoredRequest request = service.request("timers");
+            StoredStage slow = request.promise("slow"), other = request.promise("other"), soon = request.promise("soon");
+            slow.orTimeout(50, TimeUnit.MILLISECONDS);
+            other.completeOnTimeout("in its place", 50, TimeUnit.MILLISECONDS);
+            soon.orTimeout(1, TimeUnit.MINUTES).complete(null);
+            is(((TimeoutException) end(slow)).getMessage(), "slow took longer than 0.05 s");
+            is(end(other), "in its place");
+            is(end(soon), null);
+        }
+        try (Store store = place.open()) {
+            List<Store.Timer> left = store.due(1e12);
+            is(left.size(), 1); // what was fired is forgotten
+            is(left.get(0).stage, 2);
         }
     }
 
-    static void settled() throws Exception {
-        try (InFile file = new InFile(); StoreService service = service(file.path, new Functions())) {
+    static void settled(Place place) throws Exception {
+        try (StoreService service = service(place, new Functions())) {
             StoredRequest request = service.request("settled");
             StoredStage failed = request.promise("failed"), cancelled = request.promise("cancelled"), left = request.promise("left");
             is(failed.fail(new RemoteException("Closed", "we are closed")), true);
@@ -223,7 +235,7 @@ public final class StoresTest {
             String large = String.join("", Collections.nCopies(100_000, "x"));
             is(left.complete(large), true);
             is(end(left), large);
-            try (StoreService other = service(file.path, new Functions())) {
+            try (StoreService other = service(place, new Functions())) {
                 is(end(other.open("settled").stage("left")), large);
             }
         }
@@ -233,7 +245,7 @@ public final class StoresTest {
         try (InFile file = new InFile()) {
             int once, again;
             Functions functions = new Functions().with("inc", 1, number -> (Long) number + 1);
-            try (StoreService planner = service(file.path, functions, 0, false)) {
+            try (StoreService planner = service(file, functions, 0, false)) {
                 StoredRequest request = planner.request("dies");
                 StoredStage number = request.promise("number"), inc = number.then("inc");
                 once = inc.number();
@@ -243,7 +255,7 @@ public final class StoresTest {
             String java = System.getProperty("java.home") + "/bin/java";
             Process child = new ProcessBuilder(java, "-cp", System.getProperty("java.class.path"), StoresTest.class.getName(), file.path).inheritIO().start();
             is(child.waitFor(), 7);
-            try (StoreService service = service(file.path, functions)) {
+            try (StoreService service = service(file, functions)) {
                 StoredRequest request = service.open("dies");
                 is(remote(request.stage(once)).getMessage(), "Abandoned: the worker that ran inc is gone, and it may have run");
                 is(end(request.stage(again)), 2L);
@@ -252,8 +264,8 @@ public final class StoresTest {
     }
 
     static void broken() throws Exception {
-        try (InFile file = new InFile(); JdbcStore store = JdbcStore.open("jdbc:sqlite:" + file.path);
-                StoreService service = service(file.path, new Functions())) {
+        try (InFile file = new InFile(); JdbcStore store = file.open();
+                StoreService service = service(file, new Functions())) {
             store.open("no plan", "{}");
             store.open("old plan", "{\"cf\":2,\"flow\":\"\",\"stages\":[]}");
             for (String name : new String[] {"no plan", "old plan"}) {

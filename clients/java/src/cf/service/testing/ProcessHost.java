@@ -5,7 +5,6 @@ import cf.service.testing.Footprint.How;
 import cf.service.watch.Host;
 import cf.service.watch.Watched;
 import java.util.Random;
-import java.util.concurrent.Callable;
 import java.util.concurrent.locks.Lock;
 import java.util.function.BooleanSupplier;
 import java.util.function.Supplier;
@@ -57,7 +56,7 @@ final class ProcessHost extends Host {
     public void end() {}
 
     @Override
-    public Object call(String function, Callable<Object> call) throws Exception {
+    public Object call(String function, Call call) throws Throwable {
         return world.call(process, function, call);
     }
 

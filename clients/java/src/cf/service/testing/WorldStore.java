@@ -19,7 +19,6 @@ import java.util.Iterator;
 import java.util.List;
 import java.util.Map;
 import java.util.Objects;
-import java.util.concurrent.Callable;
 import java.util.function.Supplier;
 
 /**
@@ -334,7 +333,7 @@ public final class WorldStore {
     }
 
     /** Calls a function, which is a move of its own. */
-    Object call(StoreProcess process, String name, Callable<Object> call) throws Exception {
+    Object call(StoreProcess process, String name, Host.Call call) throws Throwable {
         Flight flight = flight(process);
         if (flight == null) {
             return call.call();

@@ -1,7 +1,6 @@
 package cf.service.watch;
 
 import java.security.SecureRandom;
-import java.util.concurrent.Callable;
 import java.util.concurrent.ExecutorService;
 import java.util.concurrent.Executors;
 import java.util.concurrent.RejectedExecutionException;
@@ -28,6 +27,11 @@ public class Host {
 
     /** What a thread is to do for a request: see what is to be done there; act on a timer; forget it once it is closed. */
     public enum Job { WORK, FIRE, LET_GO }
+
+    /** A function's call. */
+    public interface Call {
+        Object call() throws Throwable;
+    }
 
     /** Nanoseconds of a clock that never goes back. */
     public long nanoTime() {
@@ -83,7 +87,7 @@ public class Host {
     }
 
     /** Calls a function of this name. */
-    public Object call(String function, Callable<Object> call) throws Exception {
+    public Object call(String function, Call call) throws Throwable {
         return call.call();
     }
 

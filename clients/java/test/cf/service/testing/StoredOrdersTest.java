@@ -27,7 +27,7 @@ import java.util.stream.Collectors;
 public final class StoredOrdersTest {
     private static final int SECONDS_ENOUGH = 100, MOST = 500;
     /** By which each planted fault has to be found: so many are tried in a tenth of a second. */
-    private static final int MOST_TO_FIND = 10;
+    private static final int MOST_TO_FIND = 20;
 
     private StoredOrdersTest() {}
 
