@@ -13,8 +13,8 @@ import java.util.concurrent.TimeUnit;
 import java.util.concurrent.atomic.AtomicInteger;
 
 /**
- * Words a second that a service puts, beside a bare loop of the same insert by JDBC, on one thread. Each way has its turn for a while, again and again,
- * so that whatever else the machine does falls on all of them. It is called with an address of JDBC's, and for how many seconds, or 6.
+ * Words a second that a service puts, beside a bare loop of the same insert by JDBC, on one thread. Each way has its turn for a while, again and
+ * again, so that whatever else the machine does falls on all of them. It is called with an address of JDBC's, and for how many seconds, or 6.
  */
 public final class Speed {
     private static final long SLICE = 200_000_000L; // ns

@@ -392,7 +392,8 @@ public final class EtcdStore implements Store {
     @Override
     public Map<Long, Long> beats() {
         Map<Long, Long> beats = new HashMap<>();
-        keys(range(bytes("cf/b/"), bytes("cf/b0"), "keys_only", true)).kvs.forEach(it -> beats.put(Long.valueOf(it.key.substring(5), 16), it.version));
+        Found found = keys(range(bytes("cf/b/"), bytes("cf/b0"), "keys_only", true));
+        found.kvs.forEach(it -> beats.put(Long.valueOf(it.key.substring(5), 16), it.version));
         return beats;
     }
 

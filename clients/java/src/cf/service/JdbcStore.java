@@ -269,6 +269,7 @@ public abstract class JdbcStore implements Store {
             try {
                 made = connect();
                 begin(made);
+                execute(made, "savepoint cf_function");
             } catch (SQLException | RuntimeException fault) {
                 give(made);
                 throw fault instanceof SQLException ? told((SQLException) fault) : (RuntimeException) fault;
@@ -304,6 +305,7 @@ public abstract class JdbcStore implements Store {
         @Override
         public boolean append(Put put) {
             try {
+                execute(db, "release savepoint cf_function"); // (it is there, unless the function has ended the transaction)
                 for (int k = 0; k < put.entries.size(); k++) {
                     put(db, put, k);
                 }

@@ -235,7 +235,7 @@ final class RowView {
         }
     }
 
-    /** Puts a word within a transaction, and lets that stand. Whether it does; where the place was taken, it doesn't. {@code Unknown} where it may. */
+    /** Puts a word within a transaction, and lets that stand. Whether it does: where the place was taken, it doesn't. {@code Unknown} if it may. */
     boolean actWithin(Store.Transaction transaction, Wanted wanted) {
         Store.Put put = planned(Collections.singletonList(wanted));
         try {
@@ -459,7 +459,8 @@ final class RowView {
             for (int k = 0; k < words.length; k++) {
                 int kind = Words.kind(words[k]), tag = Words.tag(words[k]);
                 if (kind == Words.FAIL || Words.throwing(words[k])) {
-                    errors[k + 1] = Text.of(describe, RemoteException.read(read(k + 1)));
+                    RemoteException thrown = RemoteException.read(read(k + 1));
+                    errors[k + 1] = Text.of(describe, describe == Describe.ALL ? thrown.getMessage() : thrown); // (without the name of its class)
                 } else if ((kind == Words.COMPLETE || kind == Words.FINISH) && tag == 1) {
                     values[k + 1] = Text.of(describe, read(k + 1));
                 }

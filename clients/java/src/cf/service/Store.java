@@ -125,7 +125,7 @@ public interface Store extends AutoCloseable {
             return token;
         }
 
-        /** Adds what stands at a place to what stands behind {@code at} words. {@link StoreException.Broken} where it is no entry, or leaves a gap. */
+        /** Adds what stands at a place to what stands behind so many words. {@link StoreException.Broken} where it is no entry, or leaves a gap. */
         static void add(List<Entry> entries, String name, int at, long place, long word, long token) {
             int expected = at + entries.size();
             if (place != expected) {

@@ -531,7 +531,9 @@ public final class StoreService implements AutoCloseable {
         }
 
         RowView.Wanted wanted() {
-            return to >= 0 ? new RowView.Wanted(Words.finishLinking(0, stage, to), payload) : new RowView.Wanted(isThrown ? Words.finishThrowing(0, stage, 0) : Words.finish(0, stage, Words.NIL), payload);
+            long word = to >= 0 ? Words.finishLinking(0, stage, to)
+                    : isThrown ? Words.finishThrowing(0, stage, 0) : Words.finish(0, stage, Words.NIL);
+            return new RowView.Wanted(word, payload);
         }
     }
 
@@ -809,8 +811,8 @@ public final class StoreService implements AutoCloseable {
     private static final Finish LOST = new Finish(-1, null, false);
 
     /**
-     * The function's effect and the word of its finish stand or fall together. Where the finish's place was taken meanwhile, or the connection is lost,
-     * all of it is done again, unless it stands. What comes next is put once the transaction has ended.
+     * The function's effect and the word of its finish stand or fall together. Where the finish's place was taken meanwhile, or the connection is
+     * lost, all of it is done again, unless it stands. What comes next is put once the transaction has ended.
      */
     private Task inTransaction(StoredRequest request, Task task) {
         while (true) {

@@ -25,7 +25,7 @@ import java.util.concurrent.Executor;
  * }</pre>
  */
 public interface StoredContexts {
-    /** Takes from the context of the calling thread what is to go along, by names, in JSON's values. What it throws, the call throws that attaches. */
+    /** Takes from the context of the calling thread what is to go along, by names, in JSON's values. What it throws, the attaching call throws. */
     Map<String, ?> capture();
 
     /**

@@ -9,8 +9,8 @@ import java.util.TreeMap;
 
 /**
  * What happened to a request in a store, as the row tells it: in words, as an account that {@code cf_look check} judges, and as a script for
- * {@code cf run}. It stays as it is while the request goes on. The library does the words again for these texts, and tells the same in each language. A
- * row has no times. Each text takes time by the number of words.
+ * {@code cf run}. It stays as it is while the request goes on. The library does the words again for these texts, and tells the same in each
+ * language. A row has no times. Each text takes time by the number of words.
  */
 public final class StoredHistory {
     private final String name;

@@ -221,7 +221,7 @@ public final class StoredRequest {
         return new RowView.Wanted(Words.attach(0, form, of.length, first, second, function), payload);
     }
 
-    /** A stage that composes has a promise beside it, which stands for what its function gives. That promise is given back. */
+    /** A stage that composes has a promise before it, which stands for what its function gives. */
     StoredStage compose(StoredStage source, String function) {
         Map<String, Object> said = service.said(function, true);
         byte[] promise = Json.write(said("what " + function + " gives"));
@@ -232,7 +232,7 @@ public final class StoredRequest {
         });
     }
 
-    /** Puts words that attach so many stages, and gives the first of these. */
+    /** Puts words that attach so many stages, and gives the last of these. */
     private StoredStage attached(int many, RowView.Decision decision) {
         boolean mayBeClosed = view.isPlanned() || isClosed;
         if (mayBeClosed) { // (also where this call fails a thread of the service does it)
@@ -251,7 +251,7 @@ public final class StoredRequest {
         } finally {
             service.serve(this);
         }
-        return stage(done.get(0).reply[Row.NUMBER]);
+        return stage(done.get(many - 1).reply[Row.NUMBER]);
     }
 
     /** An attached stage has at most two sources; a tree of them tells what one stage of all would. */
@@ -379,8 +379,8 @@ public final class StoredRequest {
     }
 
     /**
-     * Acts while a transactional function runs. Where the store lets nobody else put meanwhile, this process's threads wait here, and not in the store
-     * with the lock of the request, which the function's finish needs.
+     * Acts while a transactional function runs. Where the store lets nobody else put meanwhile, this process's threads wait here, and not in the
+     * store with the lock of the request, which the function's finish needs.
      */
     <T> T transacting(Supplier<T> act) {
         boolean locksOut = service.store.locksOut();

@@ -64,10 +64,10 @@ public final class StoredStage {
 
     /**
      * Has a function called that attaches stages to the request, and waits for one of them without holding a thread: {@link Functions#composing}
-     * registers it. Two stages are attached: the one that calls the function, and a promise, which any process settles that sees the returned stage
-     * settled.
+     * registers it. Two stages are attached: a promise, which any process settles alike that sees the given stage settled, and one that calls the
+     * function and ends as that promise does.
      *
-     * @return the promise
+     * @return the stage that calls the function
      */
     public StoredStage compose(String function) {
         return request.compose(this, function);

@@ -55,26 +55,26 @@ public final class StoredFunctionsTest {
                     StoredStage given = request.promise("dropped");
                     given.cancel();
                     return given;
-                }).composing("other", 1, (request, number) -> StoresTest.service(place, new Functions()).request("of another").promise("p"));
-        StoredStage number, declined, left;
+                });
         try (StoreService service = StoresTest.service(place, functions)) {
+            StoredStage others = service.request("of another").promise("p");
+            functions.composing("other", 1, (request, number) -> others);
             StoredRequest request = service.request("composing");
-            number = request.promise("number");
-            StoredStage twice = number.compose("twice"), more = twice.compose("twice").then("inc");
-            declined = request.promise("declined");
-            left = declined.compose("twice");
+            StoredStage number = request.promise("number"), twice = number.compose("twice"), more = twice.compose("twice").then("inc");
+            StoredStage declined = request.promise("declined"), left = declined.compose("twice");
             is(number.complete(40), true);
             is(StoresTest.end(twice), 42L);
             is(StoresTest.end(more), 45L);
-            is(twice.name(), "what twice gives");
+            is(twice.name() + ", " + request.stage(1).name(), "twice, what twice gives");
             is(StoresTest.remote(number.compose("fails")).text(), "no stage");
             is(StoresTest.remote(number.compose("none")).kind(), "IllegalArgumentException");
             is(StoresTest.remote(number.compose("other")).kind(), "IllegalArgumentException");
             is(StoresTest.end(number.compose("late")) instanceof TimeoutException, true);
             thrown(java.util.concurrent.CancellationException.class, () -> StoresTest.end(number.compose("cancelled")));
             declined.fail(new RemoteException("Declined", "card"));
-            // Nobody gives the promise anything, so it is cancelled. So a request is never held up.
-            thrown(java.util.concurrent.CancellationException.class, () -> StoresTest.end(left));
+            is(StoresTest.remote(left).kind(), "Declined");
+            // Nobody gives its promise anything, so that is cancelled: a request is never held up.
+            thrown(java.util.concurrent.CancellationException.class, () -> StoresTest.end(request.stage(left.number() - 1)));
             thrown(IllegalArgumentException.class, () -> number.then("twice"));
             thrown(IllegalArgumentException.class, () -> number.compose("inc"));
             thrown(IllegalArgumentException.class, () -> twice.again(1));
@@ -387,7 +387,7 @@ public final class StoredFunctionsTest {
             is(lines.startsWith("history: " + history.words().length + " events, 7 stages\n"), true);
             for (String line : new String[] {"attaches 1 inc, apply behind 0 number", "completes 0 number with 41", "1 inc ends: 42",
                 "2 declined ends: IllegalStateException: card declined", "4 twice ends: 43", "6 late ends: "}) {
-                is(lines.contains(line), true);
+                is(lines.contains(line) ? line : lines, line);
             }
             is(history.line().startsWith("history"), true);
             is(request.history(Describe.NOTHING).toString().contains("ends: 42"), false);
