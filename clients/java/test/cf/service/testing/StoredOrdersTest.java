@@ -25,7 +25,7 @@ import java.util.stream.Collectors;
 
 /** What does the kit find in services over a store, what may go wrong there, and what does it say of {@code StoreService}? */
 public final class StoredOrdersTest {
-    private static final int SECONDS_ENOUGH = 100, MOST = 500;
+    private static final int SECONDS_ENOUGH = 600, MOST = 500;
     /** By which each planted fault has to be found: so many are tried in a tenth of a second. */
     private static final int MOST_TO_FIND = 20;
 
