@@ -39,7 +39,7 @@ final class ProcessHost extends Host {
 
     @Override
     public Lock lock() {
-        return new WorldLock(world.run);
+        return new WorldLock(world.run, process);
     }
 
     /** Looks are moves, and threads begin with those. */

@@ -4,14 +4,16 @@ import java.util.concurrent.TimeUnit;
 import java.util.concurrent.locks.Condition;
 import java.util.concurrent.locks.Lock;
 
-/** A lock of a process's threads. Who waits for it lets others go on. */
+/** A lock of a process's threads. Who waits for it lets others go on. Nobody waits for those of a process that was killed. */
 final class WorldLock implements Lock {
     private final Run run;
+    private final StoreProcess process;
     private Object owner;
     private int many;
 
-    WorldLock(Run run) {
+    WorldLock(Run run, StoreProcess process) {
         this.run = run;
+        this.process = process;
     }
 
     /** The thread that goes on, or the search itself. */
@@ -28,7 +30,7 @@ final class WorldLock implements Lock {
 
     @Override
     public boolean tryLock() {
-        if (owner != null && owner != me()) {
+        if (owner != null && owner != me() && !process.isDead) {
             return false;
         }
         owner = me();

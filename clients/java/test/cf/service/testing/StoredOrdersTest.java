@@ -214,8 +214,8 @@ public final class StoredOrdersTest {
             store.worker("one", functions).request("order").supply("slow");
             store.process("shop").open("order");
             return new Object[] {log, store};
-        }, made -> made[0] + " " + ((WorldStore) made[1]).outcomes().get(0).substring(0, 21)), set("[begun, ended] order: slow ends: nul",
-                "[] order: slow ends: Aba", "[] order: slow is open", "[begun] order: slow ends: Aba", "[begun, ended] order: slow ends: Aba"));
+        }, made -> made[0] + " " + ((WorldStore) made[1]).outcomes().get(0).substring(0, 19)), set("[begun, ended] order: slow ends: n",
+                "[] order: slow ends: A", "[] order: slow is open", "[begun] order: slow ends: A", "[begun, ended] order: slow ends: A"));
     }
 
     /** A process that is there may be taken for gone. */
