@@ -7,6 +7,7 @@ import java.sql.Connection;
 import java.sql.DriverManager;
 import java.sql.PreparedStatement;
 import java.sql.SQLException;
+import java.sql.Statement;
 import java.util.ArrayList;
 import java.util.List;
 import java.util.concurrent.TimeUnit;
@@ -41,7 +42,9 @@ public final class Speed {
             "create table if not exists cf_bare (n integer primary key, request integer, at integer, word integer not null, token integer not null, "
                     + "payload blob, unique (request, at))"} : new String[] {"create table if not exists cf_bare (like cf_word including all)"};
         for (String statement : made) {
-            bare.createStatement().execute(statement);
+            try (Statement make = bare.createStatement()) {
+                make.execute(statement);
+            }
         }
         insert = bare.prepareStatement("insert into cf_bare (request, at, word, token, payload) values (?, ?, ?, ?, ?) on conflict do nothing");
     }

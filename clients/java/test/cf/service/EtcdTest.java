@@ -38,6 +38,7 @@ final class EtcdTest {
             "store = connect(sys.argv[2])",
             "if sys.argv[1] == 'works':",
             "    Worker(store, functions, 2, lease=2).run()",
+            "    sys.exit()",
             "flow = Flow('sum')",
             "number = flow.promise('number')",
             "last = number.then(inc).then(inc)",
