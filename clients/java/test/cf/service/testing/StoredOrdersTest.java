@@ -147,6 +147,15 @@ public final class StoredOrdersTest {
         is(tried(store -> store.lost(1)), done);
         is(tried(store -> store.unanswered(1)), done);
         is(tried(store -> store.late(1)), done);
+        is(ends(world -> {
+            WorldStore store = world.store().lost(1);
+            List<Object> seen = new ArrayList<>();
+            StoreProcess shop = store.process("shop");
+            StoredStage stage = shop.request("order").promise("promise");
+            shop.calls("client", () -> completed(stage));
+            world.calls("another", () -> seen.add(store.left(Bound.LOST) + " " + store.isSettled("order", "promise")));
+            return new Object[] {seen};
+        }, made -> made[0].toString()), set("[1 false]", "[1 true]", "[0 false]", "[0 true]"));
         is(tried(store -> store.silent(1)), set("[true] [order: promise ends: 7]", "[unknown] [order: promise ends: 7]", "[unknown] [order: promise is open]"));
     }
 
@@ -280,16 +289,25 @@ public final class StoredOrdersTest {
         }, made -> ((WorldStore) made[0]).outcomes().get(0)), set("order: load ends: 5", "order: load ends: TimeoutException: load took longer than 2 s"));
     }
 
+    /** Two threads of a process run functions at the same time, and wait for its locks. */
     public static void threads() {
-        isSound(world -> {
+        Set<Integer> together = new HashSet<>();
+        Report report = Orders.of(world -> {
             List<Object> ran = new ArrayList<>();
-            Functions functions = new Functions().with("load", 1, number -> ran.add(number));
-            WorldStore store = world.store().touches("load", "ran");
-            StoredRequest request = store.worker("one", functions).workers(2).request("order");
+            int[] running = new int[1];
+            Functions functions = new Functions().with("load", 1, number -> {
+                running[0]++;
+                world.point();
+                together.add(running[0]--);
+                return ran.add(number);
+            });
+            StoredRequest request = world.store().worker("one", functions).workers(2).request("order");
             request.supply("load", 1);
             request.supply("load", 2);
             world.atEnd(() -> set(1L, 2L).equals(new HashSet<>(ran)), "both are run");
-        });
+        }).seconds(SECONDS_ENOUGH).most(200).run();
+        is(report.failed().toString(), "[]");
+        is(together, set(1, 2));
     }
 
     public static void faults() {
