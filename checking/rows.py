@@ -151,6 +151,8 @@ def rows_of_java(tools: Tools, made: Path) -> List[Row]:
         Row("Java's spans", needs, [[*java, "Traced"]], ("clients/java", "Traced")),
         Row("Java's order that charges twice", needs, [[*java, "Twice"]], ("docs/TESTING.md", "Twice")),
         Row("Java's orders that charge once", needs, [[*java, "Once"]], ("docs/TESTING.md", "Once")),
+        Row("Java's process that is killed in every order", needs, [[*java, "Killed"]], ("docs/TESTING.md", "Killed")),
+        Row("Java's charge with a key in every order", needs, [[*java, "Keyed"]], ("docs/TESTING.md", "Keyed")),
         Row("Java's tests of JUnit in every order", [*needs, JUNIT], [
             [javac, "-Xlint:all", "-Werror", "-encoding", "UTF-8", "-cp", f"{jar}:{made}/java/cf-service-junit.jar:{junit}", "-d", every_order,
              "clients/java/junit/test/cf/service/junit/EveryOrderTest.java"],

@@ -1,5 +1,6 @@
 package cf.service;
 
+import cf.service.watch.Watched;
 import java.sql.Connection;
 import java.util.HashMap;
 import java.util.List;
@@ -13,6 +14,10 @@ import java.util.TreeMap;
  */
 public final class Functions {
     private final Map<String, TreeMap<Integer, Known>> known = new HashMap<>();
+
+    static {
+        Watched.storesBy(new Insight());
+    }
 
     /** A function without arguments. */
     public interface Call0 {

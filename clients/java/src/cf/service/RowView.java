@@ -1,6 +1,6 @@
 package cf.service;
 
-import java.security.SecureRandom;
+import cf.service.watch.Host;
 import java.util.ArrayList;
 import java.util.Arrays;
 import java.util.Collections;
@@ -15,7 +15,6 @@ import java.util.concurrent.TimeoutException;
 
 /** What this session knows of one request's row, and how it puts words there. One thread at a time has it: its request's lock. */
 final class RowView {
-    static final SecureRandom CHANCE = new SecureRandom();
     private static final int MOST_STAGES = 4096, ROOM = 8;
     /** How long the store may be silent, in nanoseconds. */
     private static final long PATIENCE = 60_000_000_000L;
@@ -23,6 +22,7 @@ final class RowView {
     final Store.Opened opened;
     final long session;
     private final Store store;
+    private final Host host;
     private final Row row;
     private final List<Known> stages = new ArrayList<>();
     private final int planned;
@@ -91,8 +91,9 @@ final class RowView {
         }
     }
 
-    RowView(Store store, Store.Opened opened, long session) {
+    RowView(Store store, Store.Opened opened, long session, Host host) {
         this.store = store;
+        this.host = host;
         this.opened = opened;
         this.session = session;
         plan = new StoredPlan(opened.plan, opened.name);
@@ -106,7 +107,7 @@ final class RowView {
 
     private Row made() {
         // By chance: where two have one session, their tokens differ all the same; and half of all are left at least.
-        int first = CHANCE.nextInt(1 << Row.COUNT_BITS - 1);
+        int first = (int) host.chance(Row.COUNT_BITS - 1);
         while (true) {
             try {
                 return new Row(plan.rows, room, first, session);
@@ -198,7 +199,7 @@ final class RowView {
 
     /** Does what others have put. */
     void catchUp() {
-        sure(() -> store.read(opened.name, opened.number, seen)).forEach(this::take);
+        sure(host, () -> store.read(opened.name, opened.number, seen)).forEach(this::take);
     }
 
     /** Puts words behind all that is seen, and does them; what they did, which is nothing where none was wanted. */
@@ -212,7 +213,7 @@ final class RowView {
             Store.Put put = planned(wanted);
             List<Store.Entry> stands;
             try {
-                stands = sure(() -> store.append(put));
+                stands = sure(host, () -> store.append(put));
             } catch (RuntimeException | Error fault) {
                 doubts(put);
                 throw fault;
@@ -225,7 +226,11 @@ final class RowView {
             List<Done> done = new ArrayList<>();
             stands.forEach(entry -> done.add(take(entry)));
             if (landed) {
-                return done.subList(0, put.entries.size());
+                List<Done> own = done.subList(0, put.entries.size());
+                for (int k = 0; k < own.size(); k++) {
+                    host.did(opened.name, put.at + 1 + k, own.get(k).word, own.get(k).reply[Row.ANSWER]);
+                }
+                return own;
             }
         }
     }
@@ -245,7 +250,8 @@ final class RowView {
         }
         row.met(put.entries.get(0).word, put.entries.get(0).token);
         own.putAll(put.payloads);
-        put.entries.forEach(this::take);
+        Done done = take(put.entries.get(0));
+        host.did(opened.name, put.at + 1, done.word, done.reply[Row.ANSWER]);
         return true;
     }
 
@@ -313,6 +319,9 @@ final class RowView {
         remember(entry);
         int[] reply = row.told.clone();
         boolean isOwn = doubt.remove(entry.token) != null;
+        if (isOwn) {
+            host.did(opened.name, place, entry.word, reply[Row.ANSWER]);
+        }
         switch (Words.kind(entry.word)) {
             case Words.ATTACH:
                 if (reply[Row.ANSWER] == 0) {
@@ -426,6 +435,7 @@ final class RowView {
     /** What was seen of a row until some moment, which any thread may read. */
     static final class Facts {
         private final Store store;
+        private final Host host;
         private final Store.Opened opened;
         private final StoredPlan plan;
         private final long[] words, sessions;
@@ -433,6 +443,7 @@ final class RowView {
 
         Facts(RowView view, long[] words, long[] sessions, int[] attached) {
             store = view.store;
+            host = view.host;
             opened = view.opened;
             plan = view.plan;
             this.words = words;
@@ -459,12 +470,12 @@ final class RowView {
                 int stage = k, place = k < plan.said.size() ? 0 : attached[k - plan.said.size()];
                 names[k] = place == 0 ? plan.said.get(k).name : new StoredPlan.Said((Map<?, ?>) read(place), stage).name;
             }
-            Map<Long, String> named = sure(() -> store.sessionNames(opened.name, opened.number));
+            Map<Long, String> named = sure(host, () -> store.sessionNames(opened.name, opened.number));
             return new StoredHistory(opened.name, plan.rows, attached.length, words, sessions, names, values, errors, named);
         }
 
         private Object read(int place) {
-            byte[] payload = sure(() -> store.payload(opened.name, opened.number, place));
+            byte[] payload = sure(host, () -> store.payload(opened.name, opened.number, place));
             try {
                 return Json.read(payload);
             } catch (IllegalArgumentException | NullPointerException fault) {
@@ -488,7 +499,7 @@ final class RowView {
 
     private byte[] payloadIfAny(int place) {
         byte[] mine = own.get(place);
-        return mine != null || place == 0 ? mine : sure(() -> store.payload(opened.name, opened.number, place));
+        return mine != null || place == 0 ? mine : sure(host, () -> store.payload(opened.name, opened.number, place));
     }
 
     private byte[] payload(int place) {
@@ -595,17 +606,17 @@ final class RowView {
     }
 
     /** What the store answers to a call that may be made again, whatever became of it before. */
-    static <T> T sure(Callable<T> call) {
-        long until = System.nanoTime() + PATIENCE;
+    static <T> T sure(Host host, Callable<T> call) {
+        long until = host.nanoTime() + PATIENCE;
         for (long pause = 10;; pause = Math.min(pause * 2, 500)) {
             try {
                 return call.call();
             } catch (StoreException.Unknown silent) {
-                if (System.nanoTime() - until > 0) {
+                if (host.nanoTime() - until > 0) {
                     throw silent;
                 }
                 try {
-                    Thread.sleep(pause);
+                    host.sleep(pause);
                 } catch (InterruptedException interrupted) {
                     Thread.currentThread().interrupt();
                     throw silent;

@@ -149,6 +149,21 @@ public interface Store extends AutoCloseable {
             this.plan = plan;
             this.number = number;
         }
+
+        /** The request's name. */
+        public String name() {
+            return name;
+        }
+
+        /** The text of its plan. */
+        public String plan() {
+            return plan;
+        }
+
+        /** Its own number. */
+        public long number() {
+            return number;
+        }
     }
 
     /** Entries that are to stand behind the first {@code at} of a request's row, with the payloads of words that have one, by their places. */
@@ -223,6 +238,31 @@ public interface Store extends AutoCloseable {
             this.stage = stage;
             this.due = due;
             this.payload = payload;
+        }
+
+        /** The request's name. */
+        public String request() {
+            return request;
+        }
+
+        /** The request's own number. */
+        public long number() {
+            return number;
+        }
+
+        /** The number of the stage. */
+        public int stage() {
+            return stage;
+        }
+
+        /** When it is due, in seconds of the store's clock since 1970. */
+        public double due() {
+            return due;
+        }
+
+        /** What is to become of the stage. */
+        public byte[] payload() {
+            return payload.clone();
         }
     }
 }

@@ -1,5 +1,6 @@
 package cf.service;
 
+import cf.service.watch.Host;
 import java.lang.ref.WeakReference;
 import java.sql.Connection;
 import java.util.ArrayList;
@@ -10,35 +11,30 @@ import java.util.List;
 import java.util.Map;
 import java.util.Set;
 import java.util.concurrent.ConcurrentHashMap;
-import java.util.concurrent.ExecutorService;
-import java.util.concurrent.Executors;
 import java.util.concurrent.RejectedExecutionException;
 import java.util.concurrent.TimeUnit;
 import java.util.concurrent.TimeoutException;
-import java.util.concurrent.atomic.AtomicInteger;
-import java.util.logging.Level;
-import java.util.logging.Logger;
 
 /**
  * A process, or a part of one, that works on requests of a store: threads run functions, and one thread looks what is new. To close it is to begin
  * nothing more, and to wait for the functions that run. What is open stays in the store, and others go on with it.
  */
 public final class StoreService implements AutoCloseable {
-    private static final Logger LOGGER = Logger.getLogger("cf.service");
-    private static final AtomicInteger SERVICES = new AtomicInteger();
     /** How long the pump waits for news at most, and how often timers are looked for, in milliseconds. */
     private static final long LONGEST_PAUSE = 200, BETWEEN_TIMERS = 20;
 
     final Store store;
     final Functions functions;
+    final Host host;
+    final long session;
     private final int threads;
     private final long lease;
     private final boolean takesAll;
     private final StoredContexts contexts;
-    private final long session = RowView.CHANCE.nextLong() >>> 64 - Row.SESSION_BITS;
-    private final ExecutorService pool;
-    private final Thread pump;
     private final Watcher watcher;
+    private long nextBeat, nextLook;
+    private Object mark;
+    private boolean isNamed;
     private final Map<String, StoredRequest> requests = new HashMap<>();
     /** Those that were closed, and that somebody here may have. */
     private final Map<String, WeakReference<StoredRequest>> left = new HashMap<>();
@@ -67,6 +63,10 @@ public final class StoreService implements AutoCloseable {
      * @throws IllegalArgumentException a function is transactional, and the store has no transactions that it can take part in
      */
     public StoreService(Store store, Functions functions, int threads, long lease, TimeUnit unit, boolean takesAll, StoredContexts contexts) {
+        this(store, functions, threads, lease, unit, takesAll, contexts, new Host());
+    }
+
+    StoreService(Store store, Functions functions, int threads, long lease, TimeUnit unit, boolean takesAll, StoredContexts contexts, Host host) {
         if (threads < 0 || lease <= 0) {
             throw new IllegalArgumentException("threads must not be below 0, and the lease has to be above it");
         }
@@ -79,24 +79,17 @@ public final class StoreService implements AutoCloseable {
         this.threads = threads;
         this.lease = unit.toNanos(lease);
         this.takesAll = takesAll;
-        watcher = new Watcher(this.lease);
-        String named = "cf-store-" + SERVICES.incrementAndGet();
-        AtomicInteger number = new AtomicInteger();
-        pool = Executors.newFixedThreadPool(Math.max(threads, 1), run -> daemon(run, named + "-" + number.incrementAndGet()));
-        pump = daemon(this::pump, named + "-pump");
-        pump.start();
-    }
-
-    private static Thread daemon(Runnable run, String name) {
-        Thread made = new Thread(run, name);
-        made.setDaemon(true);
-        return made;
+        this.host = host;
+        session = host.chance(Row.SESSION_BITS);
+        watcher = new Watcher(this.lease, host);
+        nextBeat = nextLook = host.nanoTime();
+        host.begin(threads, this::pump);
     }
 
     /** Opens a request without stages, or gives the one of this name as it stands in the store. */
     public StoredRequest request(String name) {
         String plan = StoredPlan.text("", Collections.emptyList(), captured());
-        return opened(RowView.sure(() -> store.open(name, plan)));
+        return opened(RowView.sure(host, () -> store.open(name, plan)));
     }
 
     /**
@@ -117,7 +110,7 @@ public final class StoreService implements AutoCloseable {
         }
         String plan = flow.text(functions, captured());
         while (true) {
-            Store.Opened found = RowView.sure(() -> store.open(name, plan));
+            Store.Opened found = RowView.sure(host, () -> store.open(name, plan));
             if (!StoredFlow.areAlike(found.plan, plan)) {
                 throw new StoreException.Broken(name, 0, "it was begun with another plan");
             }
@@ -152,7 +145,7 @@ public final class StoreService implements AutoCloseable {
 
     /** A request that stands in the store. {@link StoreException.Gone} where there is none of this name. */
     public StoredRequest open(String name) {
-        Store.Opened found = RowView.sure(() -> store.find(name));
+        Store.Opened found = RowView.sure(host, () -> store.find(name));
         if (found == null) {
             throw new StoreException.Gone(name);
         }
@@ -162,7 +155,7 @@ public final class StoreService implements AutoCloseable {
     /** Goes on with all requests that are open in the store, as after a crash. Those that are broken are left out and logged. */
     public List<StoredRequest> resume() {
         List<StoredRequest> resumed = new ArrayList<>();
-        for (String name : RowView.sure(() -> store.news(null)).ends.keySet()) {
+        for (String name : RowView.sure(host, () -> store.news(null)).ends.keySet()) {
             try {
                 resumed.add(open(name));
             } catch (StoreException.Broken logged) {
@@ -175,12 +168,9 @@ public final class StoreService implements AutoCloseable {
     @Override
     public void close() {
         stops = true;
-        pool.shutdown();
         boolean isInterrupted = false;
         try {
-            pool.awaitTermination(Long.MAX_VALUE, TimeUnit.NANOSECONDS);
-            pump.interrupt();
-            pump.join();
+            host.end();
         } catch (InterruptedException interrupted) {
             isInterrupted = true;
         }
@@ -215,7 +205,7 @@ public final class StoreService implements AutoCloseable {
     private StoredRequest kept(Store.Opened found) {
         StoredRequest known = knownAgain(found.name);
         if (known == null || known.number != found.number) {
-            StoredRequest made = new StoredRequest(this, new RowView(store, found, session));
+            StoredRequest made = new StoredRequest(this, new RowView(store, found, session, host));
             StoredRequest before;
             synchronized (requests) {
                 before = requests.get(found.name);
@@ -268,8 +258,9 @@ public final class StoreService implements AutoCloseable {
 
     /** Leaves a request alone that can't be gone on with. Others go on. */
     private void giveUp(String name, StoredRequest request, StoreException.Broken fault) {
-        LOGGER.log(Level.WARNING, fault.getMessage());
-        if (!(fault instanceof StoreException.Gone)) { // (else another of its name may be opened)
+        boolean isDropped = fault instanceof StoreException.Gone; // (another of its name may be opened)
+        host.breaks(fault.getMessage(), isDropped);
+        if (!isDropped) {
             broken.add(name);
         }
         synchronized (requests) {
@@ -285,7 +276,7 @@ public final class StoreService implements AutoCloseable {
     /** Opens it again in the store, where it may be closed and stages were attached. */
     void reopen(StoredRequest request) {
         if (request.reopens) {
-            RowView.sure(() -> {
+            RowView.sure(host, () -> {
                 store.reopen(request.name, request.number);
                 return null;
             });
@@ -297,68 +288,77 @@ public final class StoreService implements AutoCloseable {
 
     /** Lets a thread look what is to do in a request. */
     void serve(StoredRequest request) {
-        if (!stops && request.isQueued.compareAndSet(false, true) && !submit(request.name, request, () -> work(request))) {
+        if (!stops && request.isQueued.compareAndSet(false, true) && !submit(Host.Job.WORK, request.name, request, () -> work(request))) {
             request.isQueued.set(false);
         }
     }
 
     /** Hands it to a thread, and says whether one takes it. */
-    private boolean submit(String name, StoredRequest request, Runnable job) {
+    private boolean submit(Host.Job job, String name, StoredRequest request, Runnable act) {
         try {
-            pool.execute(() -> guarded(name, request, job));
+            host.execute(job, name, () -> guarded(name, request, act));
             return true;
         } catch (RejectedExecutionException | OutOfMemoryError noThread) {
             if (!stops) {
-                LOGGER.log(Level.WARNING, "request \"" + name + "\"", noThread);
+                host.warns("request \"" + name + "\"", name, noThread);
             }
             return false;
         }
     }
 
-    private void guarded(String name, StoredRequest request, Runnable job) {
+    private void guarded(String name, StoredRequest request, Runnable act) {
         try {
-            job.run();
+            act.run();
         } catch (StoreException.Broken fault) {
             giveUp(name, request, fault);
         } catch (Throwable fault) {
-            LOGGER.log(Level.WARNING, "request \"" + name + "\"", fault);
+            host.passes(fault);
+            host.warns("request \"" + name + "\"", name, fault);
         }
     }
 
     // The pump: what is new, who is gone, what is due.
 
     private void pump() {
-        long nextBeat = System.nanoTime(), nextLook = nextBeat;
-        Object mark = null;
-        boolean isNamed = false;
         while (!stops) {
             try {
-                long now = System.nanoTime();
-                boolean looks = now - nextBeat >= 0;
-                if (looks) {
-                    nextBeat = now + lease / 5;
-                    store.beat(session);
-                    if (!isNamed) {
-                        store.nameSession(session, "java " + processNumber());
-                        isNamed = true;
-                    }
-                    watcher.look(store);
-                }
-                if (now - nextLook >= 0) {
-                    nextLook = now + BETWEEN_TIMERS * 1_000_000;
-                    lookForTimers();
-                }
-                mark = lookForNews(looks, mark);
+                round();
                 store.changed(Math.min(LONGEST_PAUSE, Math.max(1, lease / 5_000_000)));
             } catch (InterruptedException interrupted) {
                 return;
             } catch (RuntimeException | Error fault) {
                 if (!stops) {
-                    LOGGER.log(Level.WARNING, "the store", fault);
+                    host.warns("the store", "", fault);
                     pause();
                 }
             }
         }
+    }
+
+    void round() {
+        boolean looks = beat();
+        long now = host.nanoTime();
+        if (now - nextLook >= 0) {
+            nextLook = now + BETWEEN_TIMERS * 1_000_000;
+            lookForTimers();
+        }
+        mark = lookForNews(looks, mark);
+    }
+
+    /** Says that this session is there, and looks who else is, if it is time to; whether it was. */
+    boolean beat() {
+        long now = host.nanoTime();
+        if (now - nextBeat < 0) {
+            return false;
+        }
+        nextBeat = now + lease / 5;
+        store.beat(session);
+        if (!isNamed) {
+            store.nameSession(session, "java " + processNumber());
+            isNamed = true;
+        }
+        watcher.look(store);
+        return true;
     }
 
     private static String processNumber() {
@@ -374,7 +374,7 @@ public final class StoreService implements AutoCloseable {
         Store.News news = store.news(looks ? null : mark);
         for (StoredRequest request : known) {
             if (!news.ends.containsKey(request.name) && !request.isClosed) {
-                submit(request.name, request, () -> letGo(request));
+                submit(Host.Job.LET_GO, request.name, request, () -> letGo(request));
             }
         }
         news.ends.forEach((name, end) -> {
@@ -386,9 +386,9 @@ public final class StoreService implements AutoCloseable {
         return news.mark;
     }
 
-    private static void pause() {
+    private void pause() {
         try {
-            Thread.sleep(LONGEST_PAUSE);
+            host.sleep(LONGEST_PAUSE);
         } catch (InterruptedException interrupted) {
             Thread.currentThread().interrupt();
         }
@@ -430,11 +430,15 @@ public final class StoreService implements AutoCloseable {
             synchronized (requests) {
                 isIts = takesAll && !broken.contains(timer.request) || requests.containsKey(timer.request);
             }
-            String one = timer.request + " " + timer.stage;
-            if (isIts && firing.add(one) && !submit(timer.request, null, () -> fire(timer, one))) {
+            String one = nameOf(timer);
+            if (isIts && firing.add(one) && !submit(Host.Job.FIRE, timer.request, null, () -> fire(timer, one))) {
                 firing.remove(one);
             }
         }
+    }
+
+    private static String nameOf(Store.Timer timer) {
+        return timer.request + " " + timer.stage;
     }
 
     private void fire(Store.Timer timer, String one) {
@@ -477,6 +481,7 @@ public final class StoreService implements AutoCloseable {
     /** A stage that this session has, with its function and what that is called with, or with what it ends in without a call. */
     private static final class Task {
         final int stage;
+        final String name;
         final Functions.Known function;
         final List<Object> args;
         /** Arguments by name, what goes along, and the promise for what a composing function gives, or -1. */
@@ -486,6 +491,7 @@ public final class StoreService implements AutoCloseable {
 
         Task(int stage, Functions.Known function, List<Object> args, StoredPlan.Said said, Map<String, Object> carried) {
             this.stage = stage;
+            name = said.function;
             this.function = function;
             this.args = args;
             named = said.named;
@@ -497,6 +503,7 @@ public final class StoreService implements AutoCloseable {
         Task(int stage, RemoteException ended) {
             this.stage = stage;
             this.ended = ended;
+            name = null;
             function = null;
             args = null;
             named = carried = null;
@@ -619,7 +626,7 @@ public final class StoreService implements AutoCloseable {
                 if (finish == null || stops) {
                     throw fault;
                 }
-                LOGGER.log(Level.WARNING, request + ": " + fault.getMessage());
+                host.warns(request + ": " + fault.getMessage(), request.name, null);
                 if (!(fault instanceof StoreException.Unknown)) {
                     told = new Finish(finish.stage, Json.write(new RemoteException("StoreError", String.valueOf(fault.getMessage())).written()), true);
                     pause();
@@ -676,8 +683,8 @@ public final class StoreService implements AutoCloseable {
             function = null;
         }
         if (function == null && unknown.add(said.function + " " + said.version)) {
-            LOGGER.log(Level.WARNING, "request \"" + view.opened.name + "\", stage " + stage + ": function " + said.function + ", version "
-                    + said.version + ", isn't known here");
+            host.warns("request \"" + view.opened.name + "\", stage " + stage + ": function " + said.function + ", version " + said.version
+                    + ", isn't known here", "", null);
         }
         return function;
     }
@@ -764,7 +771,7 @@ public final class StoreService implements AutoCloseable {
             if (task.ended != null) {
                 throw task.ended;
             }
-            Object value = call(task, new Functions.Given(request, connection, task.args, task.named));
+            Object value = host.call(task.name, () -> call(task, new Functions.Given(request, connection, task.args, task.named)));
             if (task.function.takes == Functions.Takes.REQUEST) {
                 if (!(value instanceof StoredStage) || ((StoredStage) value).request != request) {
                     throw new IllegalArgumentException("a function that composes has to give a stage of the request");
@@ -774,6 +781,7 @@ public final class StoreService implements AutoCloseable {
             }
             return new Finish(task.stage, value == null ? null : Json.write(value), false);
         } catch (Throwable thrown) { // (also an Error: the stage ends in it, and the thread goes on)
+            host.passes(thrown);
             return new Finish(task.stage, Json.write(RemoteException.of(thrown).written()), true);
         }
     }
@@ -820,6 +828,7 @@ public final class StoreService implements AutoCloseable {
             } catch (StoreException.Broken fault) {
                 throw fault;
             } catch (RuntimeException | Error fault) {
+                host.passes(fault);
                 boolean isUnknown = fault instanceof StoreException.Unknown;
                 if (stops && (isUnknown || !isOpen[0])) {
                     throw fault;
@@ -827,7 +836,7 @@ public final class StoreService implements AutoCloseable {
                 if (isOpen[0] && !isUnknown) { // What the function did to the connection lets no word be put, say.
                     finish = new Finish(task.stage, Json.write(RemoteException.of(fault).written()), true);
                 } else { // It was the store.
-                    LOGGER.log(Level.WARNING, request + ", stage " + task.stage + ": " + fault.getMessage());
+                    host.warns(request + ", stage " + task.stage + ": " + fault.getMessage(), request.name, null);
                     pause();
                 }
             }
@@ -859,6 +868,30 @@ public final class StoreService implements AutoCloseable {
         return request.actWithin(transaction, finish.stage, finish.wanted()) ? null : LOST;
     }
 
+    // What a search over a store looks at.
+
+    boolean isStopped() {
+        return stops;
+    }
+
+    boolean isBroken(String name) {
+        return broken.contains(name);
+    }
+
+    boolean isFiring(Store.Timer timer) {
+        return firing.contains(nameOf(timer));
+    }
+
+    boolean knows(RowView view, int stage) {
+        return function(view, stage) != null;
+    }
+
+    StoredRequest knownOf(String name) {
+        synchronized (requests) {
+            return requests.get(name);
+        }
+    }
+
     /**
      * Which sessions are gone, by this process's own clock: those whose beat stood still for a lease in which the store answered. A pause between two
      * looks counts for half of it at most, since this process, or the machine, stood still then, and others may have, too.
@@ -866,16 +899,19 @@ public final class StoreService implements AutoCloseable {
     private static final class Watcher {
         private static final long LONG_GONE = 100; // leases
         private final long lease;
+        private final Host host;
         private final Map<Long, long[]> seen = new HashMap<>(); // a count, or -1, and since when
-        private long time, last = System.nanoTime();
+        private long time, last;
 
-        Watcher(long lease) {
+        Watcher(long lease, Host host) {
             this.lease = lease;
+            this.host = host;
+            last = host.nanoTime();
         }
 
         /** Reads all beats, and drops those of sessions that are long gone. */
         synchronized void look(Store store) {
-            long now = System.nanoTime();
+            long now = host.nanoTime();
             time += Math.min(now - last, lease / 2);
             last = now;
             Map<Long, Long> beats;

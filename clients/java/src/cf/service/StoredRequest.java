@@ -1,17 +1,18 @@
 package cf.service;
 
+import cf.service.watch.Host;
 import java.util.ArrayList;
 import java.util.Arrays;
 import java.util.Collections;
 import java.util.HashMap;
-import java.util.HashSet;
 import java.util.LinkedHashMap;
+import java.util.LinkedHashSet;
 import java.util.List;
 import java.util.Map;
 import java.util.Set;
 import java.util.concurrent.ConcurrentHashMap;
 import java.util.concurrent.atomic.AtomicBoolean;
-import java.util.concurrent.locks.ReentrantLock;
+import java.util.concurrent.locks.Lock;
 import java.util.function.Function;
 import java.util.function.Supplier;
 
@@ -36,16 +37,18 @@ public final class StoredRequest {
     private final StoreService service;
     private final RowView view;
     /** Who puts has the first one, and then the second one, which guards the view. */
-    private final ReentrantLock writes = new ReentrantLock(), lock = new ReentrantLock();
+    private final Lock writes, lock;
     /** The threads that run a transactional function of it. */
     private final Set<Thread> transacts = ConcurrentHashMap.newKeySet();
     /** The stages that were asked for, and those of them that aren't shown to be settled. */
     private final Map<Integer, StoredStage> stages = new HashMap<>();
-    private final Set<StoredStage> open = new HashSet<>();
+    private final Set<StoredStage> open = new LinkedHashSet<>();
 
     StoredRequest(StoreService service, RowView view) {
         this.service = service;
         this.view = view;
+        writes = service.host.lock();
+        lock = service.host.lock();
         name = view.opened.name;
         number = view.opened.number;
         new Freed(this, view::close);
@@ -167,13 +170,17 @@ public final class StoredRequest {
      */
     public void end() {
         catchUp();
-        RowView.sure(() -> service.store.end(name, number, seen));
+        RowView.sure(service.host, () -> service.store.end(name, number, seen));
         isClosed = true;
     }
 
     @Override
     public String toString() {
         return "request \"" + name + "\"";
+    }
+
+    Host host() {
+        return service.host;
     }
 
     int own(StoredStage stage) {
@@ -298,7 +305,7 @@ public final class StoredRequest {
             byte[] payload = new byte[what.length + 1];
             payload[0] = (byte) kind;
             System.arraycopy(what, 0, payload, 1, what.length);
-            RowView.sure(() -> {
+            RowView.sure(service.host, () -> {
                 service.store.setTimer(new Store.Timer(name, number, stage.number, service.store.now() + seconds, payload));
                 return null;
             });
@@ -428,19 +435,26 @@ public final class StoredRequest {
         try {
             Throwable fault = view.fault(outcome, stage.number);
             Object value = fault == null ? view.value(outcome) : null;
-            tells.add(() -> {
+            tells.add(() -> service.host.tells(stage.end.getNumberOfDependents() > 0, () -> {
                 if (fault == null) {
                     stage.end.complete(value);
                 } else {
                     stage.end.completeExceptionally(fault);
                 }
-            });
+            }));
         } catch (StoreException.Unknown silent) {
             return; // It is shown later.
         } catch (StoreException broken) {
             tells.add(() -> stage.end.completeExceptionally(broken));
         }
         open.remove(stage);
+    }
+
+    // What a search over a store looks at.
+
+    /** Whether somebody here has yet to be told of a stage that is settled by all words, or a claim was granted without its being told. */
+    boolean hasUntold(RowView all) {
+        return !view.found.isEmpty() || open.stream().anyMatch(stage -> all.isSettled(stage.number));
     }
 
     /** Has those who wait told that it can't be gone on with. */

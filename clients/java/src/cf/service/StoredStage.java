@@ -1,5 +1,6 @@
 package cf.service;
 
+import cf.service.watch.Host;
 import java.util.Arrays;
 import java.util.Objects;
 import java.util.concurrent.CompletableFuture;
@@ -138,22 +139,28 @@ public final class StoredStage {
      * @throws java.util.concurrent.CancellationException it was cancelled
      */
     public Object get() throws InterruptedException, ExecutionException {
+        host().waits(this::name, end::isDone, -1);
         return end.get();
     }
 
     /** The same, for so long at most. */
     public Object get(long timeout, TimeUnit unit) throws InterruptedException, ExecutionException, TimeoutException {
-        return end.get(timeout, unit);
+        return end.get(host().waits(this::name, end::isDone, Math.max(0, unit.toNanos(timeout))) ? 0 : timeout, unit);
     }
 
     /** Whether it is settled, by what this process has read. */
     public boolean isDone() {
+        host().looked();
         return end.isDone();
     }
 
     /** A future that ends as the stage does. To settle the future does nothing to the stage. */
     public CompletableFuture<Object> toFuture() {
         return end.thenApply(Function.identity());
+    }
+
+    Host host() {
+        return request.host();
     }
 
     @Override

@@ -1,6 +1,7 @@
 package cf.service;
 
 import cf.service.testing.OrdersTest;
+import cf.service.testing.StoredOrdersTest;
 import java.util.Arrays;
 import java.util.LinkedHashSet;
 import java.util.Set;
@@ -123,6 +124,24 @@ public final class AllTests {
         test("cancels at any moment", OrdersTest::cancelled);
         test("points within functions", OrdersTest::points);
         test("flows in a world", OrdersTest::flows);
+        test("services over a store with a fault of order", StoredOrdersTest::plantedFaults);
+        test("sound services over a store in every order", StoredOrdersTest::soundServices);
+        test("what a failing order over a store tells", StoredOrdersTest::stories);
+        test("answers of a store that go wrong", StoredOrdersTest::answers);
+        test("how often answers go wrong", StoredOrdersTest::bounds);
+        test("puts that come late", StoredOrdersTest::late);
+        test("moves between an answer and the next line", StoredOrdersTest::between);
+        test("killed processes in every order", StoredOrdersTest::killed);
+        test("processes taken for gone in every order", StoredOrdersTest::slow);
+        test("clocks of processes", StoredOrdersTest::clocks);
+        test("waits for stages of a store in every order", StoredOrdersTest::waits);
+        test("limits in a store at any moment", StoredOrdersTest::limits);
+        test("threads of a process in every order", StoredOrdersTest::threads);
+        test("faults of what is tried over a store", StoredOrdersTest::faults);
+        test("what hangs on stages of a store", StoredOrdersTest::heard);
+        test("what is promised of a store in every order", StoredOrdersTest::promises);
+        test("orders over a store that are left out", StoredOrdersTest::leftOut);
+        test("orders over a store by chance", StoredOrdersTest::byChance);
         test("JSON", StoresTest::json);
         if (StoresTest.hasDriver()) {
             over(StoresTest.InFile::new, "functions of requests in SQLite", StoresTest::functions);

@@ -3,6 +3,7 @@ package cf.service;
 import static cf.service.Checks.is;
 import static cf.service.Checks.thrown;
 
+import cf.service.watch.Host;
 import java.io.BufferedReader;
 import java.io.File;
 import java.io.IOException;
@@ -87,7 +88,7 @@ final class EtcdTest {
 
         @Override
         public Store open() {
-            return RowView.sure(() -> EtcdStore.open("127.0.0.1:" + port));
+            return RowView.sure(new Host(), () -> EtcdStore.open("127.0.0.1:" + port));
         }
 
         @Override
@@ -299,7 +300,7 @@ final class EtcdTest {
             thrown(StoreException.Unknown.class, proxy::open);
             store.changed(10); // (it says nothing, as long as nobody answers)
             server.start();
-            is(RowView.sure(() -> store.append(put(opened, 0, -1, 1, 1))), null);
+            is(RowView.sure(new Host(), () -> store.append(put(opened, 0, -1, 1, 1))), null);
             is(told(store.read("a", opened.number, 0)), "1 1 ");
         }
         for (String address : new String[] {"", "host", "host:port", "a:1,", "etcd://a"}) {

@@ -15,6 +15,8 @@ import java.util.Set;
 final class Chance {
     /** A fault that so many moves in the right order make; and moves, which a row has at first by guess. */
     private static final int DEPTH = 3, SHORT = 20;
+    /** A priority below all others. */
+    private static final double NEVER = -1e9;
 
     private final Runner runner;
     private final Report report;
@@ -52,23 +54,28 @@ final class Chance {
             return null;
         }
         for (Move move : moves) {
-            if (!levels.containsKey(move.actor())) {
-                levels.put(move.actor(), random.nextDouble());
+            if (!levels.containsKey(who(move))) {
+                levels.put(who(move), !move.goesWrong() ? random.nextDouble() : random.nextDouble() * longest < 1 ? 1 : NEVER); // (about once in an order)
             }
         }
         Move best = best(moves);
         if (changes.contains(place)) {
-            levels.put(best.actor(), -place - 1.0);
+            levels.put(who(best), -place - 1.0);
             best = best(moves);
         }
         return best;
     }
 
+    /** Whose priority decides on a move. */
+    private static Object who(Move move) {
+        return move.goesWrong() ? move : move.actor();
+    }
+
     /** The one of the highest priority. Of the ways of one and the same, any. */
     private Move best(List<Move> moves) {
-        double highest = moves.stream().mapToDouble(move -> levels.get(move.actor())).max().getAsDouble();
+        double highest = moves.stream().mapToDouble(move -> levels.get(who(move))).max().getAsDouble();
         List<Move> best = new ArrayList<>(moves);
-        best.removeIf(move -> levels.get(move.actor()) != highest);
+        best.removeIf(move -> levels.get(who(move)) != highest);
         return best.size() == 1 ? best.get(0) : best.get(random.nextInt(best.size()));
     }
 }

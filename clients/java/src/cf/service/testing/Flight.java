@@ -1,7 +1,10 @@
 package cf.service.testing;
 
 import cf.service.watch.Watch;
+import java.util.Collections;
+import java.util.List;
 import java.util.function.BooleanSupplier;
+import java.util.function.Supplier;
 
 /** A thread of a run: an executor's, with a function that it has claimed; whoever settled a stage, with the functions that became ready by that; a caller; the test itself. */
 final class Flight {
@@ -24,21 +27,41 @@ final class Flight {
     /** Whether the time is over for which it waits. */
     boolean isLate;
     Object chosen;
+    /** What it touches with each move behind a wait. */
+    List<Object> touches = Collections.singletonList(Footprint.USER);
+    /** The process of a store whose thread it is, or null. */
+    StoreProcess process;
+    /** What a test has a process call; it hasn't asked the store for anything yet. */
+    boolean isCaller, isFresh;
+    /** How often it asked the store for something, or was about to call a function. */
+    int asked;
 
     /** What a function waits for. */
     static final class Wait {
         final String name;
-        /** The stage, or null. */
-        final Long place;
+        /** The stage, or what else is read then, or null. */
+        final Object thing;
         final BooleanSupplier isOver;
         /** Of which one is chosen, where it waits for that; else null. */
         final Object[] ways;
+        /** Which of them are possible, where it asks a store; else null. */
+        final Supplier<List<Integer>> possible;
 
-        Wait(String name, Long place, BooleanSupplier isOver, Object[] ways) {
+        Wait(String name, Object thing, BooleanSupplier isOver, Object[] ways) {
+            this(name, thing, isOver, ways, null);
+        }
+
+        private Wait(String name, Object thing, BooleanSupplier isOver, Object[] ways, Supplier<List<Integer>> possible) {
             this.name = name;
-            this.place = place;
+            this.thing = thing;
             this.isOver = isOver;
             this.ways = ways;
+            this.possible = possible;
+        }
+
+        /** That for what a store answers. */
+        static Wait asks(String name, Answer[] ways, Supplier<List<Integer>> possible) {
+            return new Wait(name, null, () -> true, ways, possible);
         }
     }
 

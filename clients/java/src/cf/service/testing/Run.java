@@ -5,6 +5,7 @@ import cf.service.History;
 import cf.service.Request;
 import cf.service.Service;
 import cf.service.Stage;
+import cf.service.StoredStage;
 import cf.service.testing.Footprint.How;
 import cf.service.testing.Move.Word;
 import cf.service.watch.Watch;
@@ -46,6 +47,7 @@ final class Run implements Watch, Executor {
     final List<Caller> callers = new ArrayList<>();
     final List<Check> checks = new ArrayList<>(), ends = new ArrayList<>();
     final List<CompletableFuture<?>> settling = new ArrayList<>();
+    final List<StoredStage> settlingStored = new ArrayList<>();
     /** In how many ways workers could have been chosen. */
     long weight = 1;
     /** Why it fails; null where it doesn't. */
@@ -81,7 +83,9 @@ final class Run implements Watch, Executor {
     /** Whose function goes on, on its own thread. */
     private Flight current;
     private String caller = "main";
-    private boolean isInUser, isOver, isStopped, isBeginning, isOutside, needsThreads, tells;
+    private boolean isInUser, isOver, isStopped, isBeginning, isOutside, needsThreads, tells, isClosing;
+    /** What processes share, or null. */
+    private WorldStore store;
     private int jobs;
 
     /** What has to hold, and how that is said. */
@@ -125,6 +129,9 @@ final class Run implements Watch, Executor {
             }
         }
         addLimits(moves);
+        if (store != null) {
+            moves.addAll(store.moves(!moves.isEmpty()));
+        }
         if (settings.isClockFree && mayStop(moves)) {
             moves.add(new Move(Word.STOP, 0, 0, 0));
         }
@@ -135,6 +142,8 @@ final class Run implements Watch, Executor {
         Flight.Wait wait = flight.wait;
         if (wait == null) {
             moves.add(new Move(flight.word, flight.place));
+        } else if (wait.possible != null) {
+            wait.possible.get().forEach(k -> moves.add(new Move(Word.ASK, (int) (flight.place >> 32), (int) flight.place, flight.asked, k)));
         } else if (wait.ways != null) {
             for (int k = 0; k < wait.ways.length; k++) {
                 moves.add(new Move(Word.CHOOSE, (int) (flight.place >> 32), (int) flight.place, k));
@@ -197,6 +206,18 @@ final class Run implements Watch, Executor {
     Footprint make(Move move) {
         footprint = new Footprint();
         told.clear();
+        if (move.word.isOfStore()) {
+            store.make(move);
+        } else {
+            makeOwn(move);
+        }
+        Footprint made = footprint;
+        footprint = null;
+        look(made);
+        return made;
+    }
+
+    private void makeOwn(Move move) {
         switch (move.word) {
             case BEGIN:
                 begin(move.place());
@@ -211,6 +232,13 @@ final class Run implements Watch, Executor {
                 Flight flight = of(move);
                 flight.chosen = flight.wait.ways[move.c];
                 goOn(flight);
+                break;
+            case ASK:
+                Flight asking = of(move);
+                touch(asking.process.thing, How.CHANGES);
+                asking.asked++;
+                asking.chosen = asking.wait.ways[move.d];
+                goOn(asking);
                 break;
             case END:
                 end(of(move));
@@ -228,10 +256,6 @@ final class Run implements Watch, Executor {
                 timers.forEach(timer -> touch(clock(timer.request()), How.CHANGES));
                 isStopped = true;
         }
-        Footprint made = footprint;
-        footprint = null;
-        look(made);
-        return made;
     }
 
     private Flight of(Move move) {
@@ -298,9 +322,9 @@ final class Run implements Watch, Executor {
     }
 
     private void goOn(Flight flight) {
-        touch(Footprint.USER, How.CHANGES);
-        if (flight.wait != null && flight.wait.place != null) {
-            touch(flight.wait.place, How.READS);
+        flight.touches.forEach(thing -> touch(thing, How.CHANGES));
+        if (flight.wait != null && flight.wait.thing != null) {
+            touch(flight.wait.thing, How.READS);
         }
         flight.wait = null;
         on(flight, false);
@@ -363,6 +387,11 @@ final class Run implements Watch, Executor {
         }
         touch(Footprint.USER, How.CHANGES);
         Flight flight = new Flight(Move.place(Move.CALLER, move.a), by.name, by.name, null, false, () -> act(call.act, by.name));
+        begin(flight);
+    }
+
+    /** Begins a thread that is no stage's. */
+    void begin(Flight flight) {
         flights.add(flight);
         carry(flight);
         endOf(flight);
@@ -475,23 +504,40 @@ final class Run implements Watch, Executor {
                 fail((future instanceof Stage<?> ? ((Stage<?>) future).name() : "what the test waits for") + " is never settled");
             }
         }
+        for (StoredStage stage : settlingStored) {
+            if (!store.isOfDead(stage) && !stage.isDone()) {
+                fail(stage.name() + " is never settled");
+            }
+        }
         ends.forEach(this::look);
     }
 
     /** Ends functions that wait. */
     void close() {
+        isClosing = true;
         for (Flight flight : flights) {
             if (flight.carrier != null) {
                 flight.carrier.end();
             }
         }
+        if (store != null) {
+            store.close();
+        }
+        isClosing = false;
         requests.forEach(Request::close);
         if (outside != null) {
             outside.close();
         }
     }
 
-    /** The history of each request. */
+    /** All words of requests, and of what stands in a store. */
+    String words() {
+        StringBuilder words = new StringBuilder(store == null ? "" : store.words());
+        requests.forEach(request -> words.append(Arrays.toString(request.history().words())));
+        return words.toString();
+    }
+
+    /** The history of each request in memory. */
     List<History> histories() {
         List<History> histories = new ArrayList<>();
         requests.forEach(request -> histories.add(request.history()));
@@ -503,6 +549,9 @@ final class Run implements Watch, Executor {
         for (Request request : requests) {
             Arrays.stream(request.history().report().split("\n")).filter(line -> line.startsWith("stage ")).forEach(outcomes::add);
         }
+        if (store != null) {
+            outcomes.addAll(store.outcomes());
+        }
         return outcomes;
     }
 
@@ -512,7 +561,7 @@ final class Run implements Watch, Executor {
         fail(reason, null);
     }
 
-    private void fail(String reason, Throwable thrown) {
+    void fail(String reason, Throwable thrown) {
         if (why == null) {
             why = reason;
             cause = thrown;
@@ -557,7 +606,7 @@ final class Run implements Watch, Executor {
     }
 
     /** Does what somebody does, whose exception fails the order. */
-    private void act(World.Act act, String name) {
+    void act(World.Act act, String name) {
         try {
             act.run();
         } catch (Leaving leaving) {
@@ -567,7 +616,7 @@ final class Run implements Watch, Executor {
         }
     }
 
-    private void touch(Object thing, How how) {
+    void touch(Object thing, How how) {
         if (footprint != null) {
             footprint.touch(thing, how);
         }
@@ -591,6 +640,34 @@ final class Run implements Watch, Executor {
     }
 
     // What a test says.
+
+    /** What processes share. Their threads are carriers. */
+    WorldStore store() {
+        if (!settings.hasThreads) {
+            needsThreads = true;
+            throw new Leaving(Leaving.Why.NEEDS_THREADS);
+        }
+        if (store == null) {
+            store = new WorldStore(this);
+            if (tells) {
+                store.rows.tells(told::add);
+            }
+        }
+        return store;
+    }
+
+    /** Whose function goes on, on its own thread, or null. */
+    Flight current() {
+        return current;
+    }
+
+    List<Flight> flights() {
+        return flights;
+    }
+
+    boolean isClosing() {
+        return isClosing;
+    }
 
     @SuppressWarnings("unchecked")
     <T> Stage<T> arrival(String name, List<Arrival.Way> ways) {
@@ -809,7 +886,15 @@ final class Run implements Watch, Executor {
 
     /** Lets others go on until something is so, or one of several ways is chosen, which is given then. */
     Object waitFor(String name, Long place, BooleanSupplier isOver, long nanos, Object[] ways) {
-        if (this.isOver) {
+        return waitFor(new Flight.Wait(name, place, isOver, ways), nanos);
+    }
+
+    Object waitFor(Flight.Wait wait, long nanos) {
+        String name = wait.name;
+        if (isClosing) {
+            throw new Leaving(Leaving.Why.GONE);
+        }
+        if (isOver) {
             fail(name + " is never settled");
         }
         if (!settings.hasThreads) {
@@ -821,12 +906,11 @@ final class Run implements Watch, Executor {
             fail("a callback waits for " + name + ", in the thread that settled its stage");
             return null;
         }
-        Flight.Wait wait = new Flight.Wait(name, place, isOver, ways);
         flight.wait = wait;
         flight.isLate = false;
         flight.word = Word.GO;
         if (nanos >= 0) {
-            addTimer(place == null ? Move.place(Move.MAIN, 0) : place, nanos, () -> flight.isLate = true,
+            addTimer(wait.thing instanceof Long ? (Long) wait.thing : Move.place(Move.MAIN, 0), nanos, () -> flight.isLate = true,
                     () -> flight.wait != wait || wait.isOver.getAsBoolean(), flight.name + " has waited " + nanos / 1e9 + " s for " + name);
         }
         flight.carrier.pause();
@@ -862,6 +946,9 @@ final class Run implements Watch, Executor {
 
     /** What a move is called. It is asked before the move is made. */
     String text(Move move) {
+        if (move.word.isOfStore()) {
+            return store.text(move);
+        }
         switch (move.word) {
             case COME:
                 Arrival.Way way = arrivals.get(move.a).ways.get(move.b);
@@ -889,6 +976,9 @@ final class Run implements Watch, Executor {
                 return flight.name + " goes on";
             case CHOOSE:
                 return flight.name + " gets " + text(flight.wait.ways[move.c]);
+            case ASK:
+                Answer answer = (Answer) flight.wait.ways[move.d];
+                return flight.name + " " + flight.wait.name + (answer.text.isEmpty() ? "" : "; " + answer.text);
             default:
                 return flight.name + (flight.turn.thrown() == null ? " returns" : " throws");
         }

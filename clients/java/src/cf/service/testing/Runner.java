@@ -1,8 +1,6 @@
 package cf.service.testing;
 
-import cf.service.History;
 import java.util.ArrayList;
-import java.util.Arrays;
 import java.util.HashSet;
 import java.util.LinkedList;
 import java.util.List;
@@ -114,7 +112,7 @@ final class Runner {
     void same(Ran ran) {
         Ran again = go((place, moves) -> place < ran.row.size() && moves.contains(ran.row.get(place)) ? ran.row.get(place) : null, null, false);
         if (!again.row.equals(ran.row) || again.how != ran.how || !String.valueOf(again.run.why).equals(String.valueOf(ran.run.why))
-                || !words(again.run).equals(words(ran.run))) {
+                || !again.run.words().equals(ran.run.words())) {
             throw new NotDeterministicError("done again, the order\n    " + Move.row(ran.row) + "\nwas\n    " + Move.row(again.row) + "\nand came to "
                     + end(again) + ", before to " + end(ran));
         }
@@ -124,11 +122,4 @@ final class Runner {
         return ran.run.why != null ? ran.run.why : ran.how.toString();
     }
 
-    private static String words(Run run) {
-        StringBuilder words = new StringBuilder();
-        for (History history : run.histories()) {
-            words.append(Arrays.toString(history.words()));
-        }
-        return words.toString();
-    }
 }

@@ -2,6 +2,7 @@ package cf.service.testing;
 
 import cf.service.Service;
 import cf.service.Stage;
+import cf.service.StoredStage;
 import java.util.ArrayList;
 import java.util.Arrays;
 import java.util.Collections;
@@ -109,6 +110,19 @@ public final class World {
     /** These have to be settled once nothing comes any more. */
     public void settles(CompletableFuture<?>... futures) {
         run.settling.addAll(Arrays.asList(futures));
+    }
+
+    /** These have to be settled once nothing comes any more, as their processes see them. One that was killed sees nothing more. */
+    public void settles(StoredStage... stages) {
+        run.settlingStored.addAll(Arrays.asList(stages));
+    }
+
+    /**
+     * Rows in memory that processes share, as {@link cf.service.StoreService} has them. It says what may go wrong, and makes the processes. A world
+     * has one.
+     */
+    public WorldStore store() {
+        return run.store();
     }
 
     /** Within a function: others may go on here. Without it a function is one move up to where it waits. */

@@ -1,12 +1,14 @@
 package cf.service.watch;
 
+import cf.service.Functions;
 import cf.service.Service;
 import java.util.concurrent.Executor;
 import java.util.function.BiFunction;
 
-/** Makes services that are watched. */
+/** Makes services that are watched, and those over stores that a search leads. */
 public final class Watched {
     private static volatile BiFunction<Executor, Watch, Service> maker;
+    private static volatile Stores stores;
 
     private Watched() {}
 
@@ -21,5 +23,18 @@ public final class Watched {
             new Service(executor);
         }
         return maker.apply(executor, watch);
+    }
+
+    /** {@code Functions} tells how those over stores are made. */
+    public static void storesBy(Stores by) {
+        stores = by;
+    }
+
+    /** What makes them. */
+    public static Stores stores() {
+        if (stores == null) {
+            new Functions();
+        }
+        return stores;
     }
 }

@@ -1,0 +1,135 @@
+package cf.service.testing;
+
+import cf.service.Store;
+import cf.service.testing.Footprint.How;
+import cf.service.watch.Reader;
+import cf.service.watch.Watched;
+import java.util.ArrayList;
+import java.util.LinkedHashMap;
+import java.util.List;
+import java.util.Map;
+import java.util.function.Consumer;
+import java.util.function.BiConsumer;
+
+/** What stands. Each call touches what it reads or changes. */
+final class Rows {
+    /** Which requests there are. */
+    static final String ROWS = "rows";
+
+    final Memory memory = new Memory();
+    /** Of requests, in the order in which they were opened. */
+    final List<String> names = new ArrayList<>();
+    /** With the number of each, by its stage. */
+    final Map<String, Due> timers = new LinkedHashMap<>();
+    private final Map<String, Reader> readers = new LinkedHashMap<>();
+    private final BiConsumer<Object, How> touch;
+    /** Is told what a put settles, in words; null where nobody asks. */
+    private Consumer<String> tells;
+    private int timersMade;
+
+    /** A timer, and which one it is. */
+    static final class Due {
+        final int number;
+        final Store.Timer timer;
+
+        Due(int number, Store.Timer timer) {
+            this.number = number;
+            this.timer = timer;
+        }
+    }
+
+    Rows(BiConsumer<Object, How> touch) {
+        this.touch = touch;
+    }
+
+    void tells(Consumer<String> told) {
+        tells = told;
+    }
+
+    /** What is known of a request by all its words, or null where there is none. */
+    Reader reader(String name) {
+        return readers.get(name);
+    }
+
+    /** What a stage is called. */
+    String name(String request, int stage) {
+        Reader reader = reader(request);
+        return reader == null || stage >= reader.size() ? "stage " + stage : reader.name(stage);
+    }
+
+    static String row(String name) {
+        return "row " + name;
+    }
+
+    Store.Opened open(String name, String plan) {
+        boolean isNew = memory.find(name) == null;
+        touch.accept(ROWS, isNew ? How.CHANGES : How.READS);
+        Store.Opened opened = memory.open(name, plan);
+        if (isNew) {
+            touch.accept(row(name), How.CHANGES);
+            readers.put(name, Watched.stores().reader(memory, opened));
+            names.add(name);
+        }
+        return opened;
+    }
+
+    List<Store.Entry> append(Store.Put put) {
+        List<Store.Entry> stands = memory.append(put);
+        touch.accept(row(put.request()), stands == null ? How.CHANGES : How.READS);
+        if (stands != null) {
+            tell("another's word stands there");
+            return stands;
+        }
+        Reader reader = reader(put.request());
+        for (int stage : reader.catchUp()) {
+            if (tells != null) {
+                tell(reader.name(stage) + " " + reader.ended(stage));
+            }
+        }
+        return null;
+    }
+
+    private void tell(String text) {
+        if (tells != null) {
+            tells.accept(text);
+        }
+    }
+
+    List<Store.Entry> read(String name, long number, int at) {
+        touch.accept(row(name), How.READS);
+        return memory.read(name, number, at);
+    }
+
+    boolean end(String name, long number, int at) {
+        touch.accept(row(name), How.CHANGES);
+        boolean did = memory.end(name, number, at);
+        if (!memory.isOpen(name)) {
+            timers.values().removeIf(it -> it.timer.request().equals(name));
+        }
+        return did;
+    }
+
+    void reopen(String name, long number) {
+        touch.accept(row(name), How.CHANGES);
+        memory.reopen(name, number);
+    }
+
+    void setTimer(Store.Timer timer) {
+        touch.accept(row(timer.request()), How.CHANGES);
+        timers.put(key(timer), new Due(++timersMade, timer));
+    }
+
+    void dropTimer(Store.Timer timer) {
+        touch.accept(row(timer.request()), How.CHANGES);
+        timers.remove(key(timer));
+    }
+
+    /** The timer of a request's stage. */
+    Store.Timer timer(int request, int stage) {
+        return timers.get(names.get(request) + " " + stage).timer;
+    }
+
+    private static String key(Store.Timer timer) {
+        return timer.request() + " " + timer.stage();
+    }
+}

@@ -1,0 +1,42 @@
+package cf.service.testing;
+
+import cf.service.Store;
+import cf.service.testing.Answer.Bound;
+import java.util.HashSet;
+import java.util.Set;
+
+/** What has to hold of a store in all orders, whatever goes wrong. */
+final class StoredChecks {
+    private StoredChecks() {}
+
+    /** Lets one thing go wrong once. */
+    static void with(WorldStore store, Bound fault) {
+        switch (fault) {
+            case LOST: store.lost(1); break;
+            case UNANSWERED: store.unanswered(1); break;
+            case LATE: store.late(1); break;
+            case SILENT: store.silent(1); break;
+            case KILLED: store.killed(1); break;
+            default: store.slow(1);
+        }
+    }
+
+    /** Whether each word stands as its process was told, and no put stands twice. */
+    static boolean standsOnce(WorldStore store) {
+        Set<Long> tokens = new HashSet<>();
+        for (String name : store.rows.names) {
+            for (Store.Entry entry : store.rows.memory.read(name)) {
+                if (!tokens.add(entry.token())) {
+                    return false;
+                }
+            }
+        }
+        return store.answered().stream().allMatch(it -> store.rows.memory.read(it.request()).get(it.place() - 1).word() == it.word());
+    }
+
+    /** Whether no claim is granted twice. */
+    static boolean grantedOnce(WorldStore store) {
+        Set<String> granted = new HashSet<>();
+        return store.granted().stream().allMatch(it -> granted.add(it.request() + " " + it.stage()));
+    }
+}

@@ -1,0 +1,213 @@
+package cf.service.testing;
+
+import cf.service.Functions;
+import cf.service.StoreException;
+import cf.service.StoredRequest;
+import cf.service.StoredStage;
+import cf.service.testing.Answer.Bound;
+import java.util.ArrayList;
+import java.util.Arrays;
+import java.util.HashSet;
+import java.util.List;
+import java.util.Random;
+import java.util.Set;
+import java.util.concurrent.CancellationException;
+import java.util.concurrent.ExecutionException;
+import java.util.concurrent.TimeUnit;
+import java.util.concurrent.TimeoutException;
+
+/**
+ * Random programs over a store, which the kit has to bring to the same ends with and without what it leaves out. In each of their orders no claim
+ * may be granted twice, and each put stands as its process was told.
+ */
+public final class StoredPrograms {
+    private static final int SHARED = 2, SECONDS = 60;
+
+    private final Random random;
+    private final int workers;
+    private final List<Act> acts = new ArrayList<>();
+    private final List<Object[]> stages = new ArrayList<>();
+    private final List<Object[]> calls = new ArrayList<>();
+    /** What may go wrong once, or null; the variable that is checked, or -1. */
+    private final Bound fault;
+    private final int check;
+    private final boolean hasLimit;
+
+    /** What a function does. */
+    private static final class Act {
+        final String kind, mark;
+        final int variable;
+
+        Act(String kind, int variable, String mark) {
+            this.kind = kind;
+            this.variable = variable;
+            this.mark = mark;
+        }
+    }
+
+    private StoredPrograms(long seed) {
+        random = new Random(seed);
+        workers = one(1, 1, 1, 2);
+        for (int k = 0; k < 2; k++) {
+            acts.add(new Act(one("set", "add", "copy", "throw", "none"), random.nextInt(SHARED), one("", "", "pure", "touches")));
+        }
+        for (int k = one(1, 1, 2), n = 0; n < k; n++) {
+            String kind = n == 0 ? one("supply", "supply", "promise") : one("supply", "promise", "then", "handle", "again", "combine", "recover");
+            stages.add(new Object[] {kind, random.nextInt(2), random.nextInt(Math.max(n, 1))});
+        }
+        for (int k = one(0, 1, 1); k > 0; k--) {
+            calls.add(new Object[] {one("cancel", "abandon", "complete", "attach", "wait", "done", "open"), random.nextInt(stages.size()), random.nextInt(SHARED)});
+        }
+        fault = random.nextInt(5) < 4 ? one(Bound.values()) : null;
+        check = random.nextInt(10) < 3 ? random.nextInt(SHARED) : -1;
+        hasLimit = random.nextInt(100) < 15;
+    }
+
+    @SafeVarargs
+    private final <T> T one(T... of) {
+        return of[random.nextInt(of.length)];
+    }
+
+    /** One run of it. */
+    private final class Now {
+        private final int[] shared = new int[SHARED];
+        private final List<Object> log = new ArrayList<>();
+        private final List<StoredStage> made = new ArrayList<>();
+        private final WorldStore store;
+        private final StoreProcess shop;
+
+        Now(World world) {
+            Functions functions = new Functions();
+            store = world.store();
+            for (int k = 0; k < acts.size(); k++) {
+                Act act = acts.get(k);
+                String name = "f" + k;
+                functions.with(name, 1, () -> called(act, 0)).with(name + " of one", 1, a -> called(act, 1)).with(name + " of two", 1, (a, b) -> called(act, 2));
+                for (String each : Arrays.asList(name, name + " of one", name + " of two")) {
+                    if (act.mark.equals("pure")) {
+                        store.pure(each);
+                    } else if (act.mark.equals("touches")) {
+                        store.touches(each, "log");
+                    }
+                }
+            }
+            if (fault != null) {
+                StoredChecks.with(store, fault);
+            }
+            for (int number = 0; number < workers; number++) {
+                store.worker("worker " + number, functions);
+            }
+            shop = store.process("shop", functions).workers(0);
+            StoredRequest request = shop.request("order");
+            stages.forEach(stage -> made.add(made(request, (String) stage[0], "f" + stage[1], (int) stage[2])));
+            if (hasLimit) {
+                made.get(0).orTimeout(2, TimeUnit.SECONDS);
+            }
+            calls.forEach(call -> shop.calls("a client", () -> call((String) call[0], made.get((int) call[1]), (int) call[2])));
+            if (check >= 0) {
+                world.check(() -> shared[check] < 2 || !made.get(0).isDone(), "checked");
+            }
+            world.atEnd(() -> StoredChecks.grantedOnce(store) && StoredChecks.standsOnce(store), "no claim twice, no word twice, each as it was told");
+        }
+
+        private Object called(Act act, int given) {
+            if (act.mark.equals("pure")) {
+                return given;
+            }
+            if (act.mark.equals("touches")) {
+                return log.add(given);
+            }
+            int[] its = shared;
+            switch (act.kind) {
+                case "set": its[act.variable] = 1; break;
+                case "add": its[act.variable]++; break;
+                case "copy": its[act.variable] = its[1 - act.variable] + 1; break;
+                case "throw":
+                    if (its[act.variable] % 2 == 0) {
+                        its[act.variable]++;
+                        throw new IllegalStateException("of " + act.variable);
+                    }
+                    break;
+                default:
+            }
+            return its[act.variable];
+        }
+
+        private StoredStage made(StoredRequest request, String kind, String function, int of) {
+            switch (kind) {
+                case "promise": return request.promise("promise");
+                case "supply": return request.supply(function);
+                case "then": return made.get(of).then(function + " of one");
+                case "handle": return made.get(of).handle(function + " of two");
+                case "again": return made.get(of).again(1);
+                case "recover": return made.get(of).recover(function + " of one");
+                default: return made.get(of).combine(made.get(of), function + " of two");
+            }
+        }
+
+        /** What a client does, and what it was told. */
+        private void call(String word, StoredStage stage, int variable) throws InterruptedException {
+            try {
+                switch (word) {
+                    case "cancel": log.add(stage.cancel()); break;
+                    case "abandon": log.add(stage.abandon()); break;
+                    case "complete": log.add(stage.complete(7)); break;
+                    case "attach": made.add(stage.handle("f0 of two")); break;
+                    case "open": shop.request("another order").supply("f0"); break;
+                    case "done": shared[variable] = stage.isDone() ? 1 : 0; break;
+                    default:
+                        stage.get(5, TimeUnit.SECONDS);
+                        log.add("there");
+                }
+            } catch (StoreException | TimeoutException | ExecutionException | CancellationException fault) {
+                log.add(fault.getClass().getSimpleName());
+            }
+        }
+
+        String end() {
+            return store.outcomes() + Arrays.toString(shared) + log;
+        }
+    }
+
+    private static Report report(StoredPrograms program, boolean isReduced, int most) {
+        Now[] now = new Now[1];
+        Orders orders = Orders.of(world -> now[0] = program.new Now(world)).asFound().seconds(SECONDS).most(most).ends(world -> now[0].end());
+        return (isReduced ? orders : orders.unreduced()).run();
+    }
+
+    private static Set<String> whys(Report report) {
+        Set<String> whys = new HashSet<>();
+        report.failed().forEach(failure -> whys.add(failure.why()));
+        return whys;
+    }
+
+    /** Compares the programs of so many seeds from the first one on, of at most so many orders: FIRST COUNT MOST. */
+    public static void main(String[] args) {
+        int first = Integer.parseInt(args[0]), count = Integer.parseInt(args[1]), most = Integer.parseInt(args[2]);
+        long plainOrders = 0, tried = 0;
+        int programs = 0, tooLarge = 0, wrong = 0;
+        for (int seed = first; seed < first + count; seed++) {
+            StoredPrograms program = new StoredPrograms(seed);
+            Report plain = report(program, false, most);
+            if (!plain.whole() && plain.failed().isEmpty()) {
+                tooLarge++;
+                continue;
+            }
+            Report reduced = report(program, true, Integer.MAX_VALUE);
+            programs++;
+            plainOrders += plain.orders();
+            tried += reduced.orders() + reduced.cut();
+            boolean isAlike = whys(plain).equals(whys(reduced)) && (!plain.failed().isEmpty() || plain.ends().keySet().equals(reduced.ends().keySet()));
+            if (!isAlike || reduced.failed().isEmpty() && !reduced.whole()) {
+                wrong++;
+                Set<Object> missed = new HashSet<>(plain.ends().keySet());
+                missed.removeAll(reduced.ends().keySet());
+                System.out.println("program " + seed + " over a store: " + plain.ends().size() + " ends and " + whys(plain) + ", and with orders left out "
+                        + reduced.ends().size() + " and " + whys(reduced) + (reduced.whole() ? "" : ", not whole") + "; missed " + missed);
+            }
+        }
+        System.out.println(programs + " programs over a store of " + plainOrders + " orders have the same ends in " + tried + " runs; " + tooLarge
+                + " were too large; " + wrong + " otherwise");
+        System.exit(wrong == 0 ? 0 : 1);
+    }
+}
