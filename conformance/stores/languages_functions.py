@@ -37,6 +37,7 @@ def fields(error):
     return [error["error"], error["text"]] if error else [None, None]
 
 
+ANY = {"error": "any", "text": ""}  # each language has its own where lists are added, and another value was put in the place of one
 # What each function comes to: a value, or an error.
 RESULTS = {
     ("give", 1): lambda it: (it, None),
@@ -49,7 +50,7 @@ RESULTS = {
     ("told", 1): lambda value, error: ([number_of(value), *fields(error)], None),
     ("rescue", 1): lambda error: (fields(error), None),
     ("cf.gather", 1): lambda it: ([it], None),
-    ("cf.add", 1): lambda one, other: (one + other, None)}
+    ("cf.add", 1): lambda one, other: (one + other, None) if isinstance(one, list) and isinstance(other, list) else (None, ANY)}
 
 
 def registered(name, version):

@@ -9,7 +9,7 @@ import collections
 import json
 import sys
 
-from languages_functions import RESULTS
+from languages_functions import ANY, RESULTS
 from mixed_judge import MixedJudge
 
 from cf.service.words import CANCEL
@@ -65,7 +65,7 @@ class LanguagesJudge(MixedJudge):
         value, error = (None, passes) if passes else RESULTS[said["fn"], said["version"]](*args)
         found, wanted = self.thing(place) if tag else None, error or value
         if tag == 2:
-            found = {"error": found["error"], "text": found["text"]}
+            found = ANY if wanted is ANY else {"error": found["error"], "text": found["text"]}
         if found != wanted or (tag == 2) != bool(error):
             self.misfit(place, f"{label_of(said['fn'], said['version'], args or ())} came to {found}, and had to come to {wanted}")
 

@@ -258,7 +258,8 @@ class MixedJudge(Judge):
             args = tuple(self.thing(it) for it in words[1:])
         passes, again = None, said.get("again")
         if again is not None:
-            passes = args[0] if args[0]["error"] != "Abandoned" else None
+            is_abandoned = args[0]["error"] == "Abandoned" and words[-1] == "raw"  # itself, and not a stage that it hangs on
+            passes = None if is_abandoned else args[0]
             said, args = self.stages[again], None if passes else self.args_again(again)
             self.count["further tries that ran"] += passes is None
         self.claimed.append((stage, session, said, passes))

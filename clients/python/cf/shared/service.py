@@ -617,8 +617,9 @@ class DurableService(concurrent.futures.Executor):
         again = tried_again(said)
         if again is not None:
             error = args[0]
-            # the sources of what is tried again may be open: it was settled by hand
-            if not isinstance(error, Abandoned):
+            # Wrapped, it is a source's: what hangs on an abandoned stage fails, too. The sources of what is tried again
+            # may be open: it was settled by hand.
+            if not isinstance(error, Abandoned) or Told(*done.reply[OUTCOME]).wrapped:
                 return Claimed(stage, known, (), {}, error, {})
             said, args = view.said(again), self._args_again(request, again)
         return Claimed(stage, known, tuple(said.get("args", ())) or args, said.get("kwargs", {}), None,

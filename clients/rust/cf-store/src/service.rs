@@ -5,7 +5,7 @@ use crate::plan::{self, Said};
 use crate::request::{finish, fired, Inner, Request};
 use crate::store::{Mark, Opened, Store, Timer};
 use crate::view::{by_chance, bytes_of, sure, View, Wanted, SESSION_BITS};
-use cf_graph::{Args, Call, Claimed, Form, Reply};
+use cf_graph::{Args, Call, Claimed, Form, Outcome, Reply};
 use serde_json::Value as Json;
 use std::collections::{BTreeMap, HashSet, VecDeque};
 use std::fmt;
@@ -609,7 +609,7 @@ impl Shared {
         let mut given = arguments(view, stage, args)?;
         if let Some(first) = again {
             given = match given.pop().map(serde_json::from_value::<Failed>) {
-                Some(Ok(failed)) if failed.kind == ABANDONED => again_with(view, first)?,
+                Some(Ok(failed)) if failed.kind == ABANDONED && is_its_own(args) => again_with(view, first)?,
                 Some(Ok(failed)) => return Ok(Task { stage, name: String::new(), version: 0, given: Err(failed) }),
                 _ => Vec::new(),
             };
@@ -647,6 +647,11 @@ fn arguments(view: &mut View, stage: u16, args: Args) -> Result<Vec<Json>, Store
             }
         }
     })
+}
+
+/// Whether what a further try is told of was ended itself. Else the fault is a source's, and what hangs on an abandoned stage fails, too.
+fn is_its_own(args: Args) -> bool {
+    matches!(args, Args::Got(Outcome::Fault { wrapped: false, .. }))
 }
 
 /// What a stage's function was called with before, by what its sources hold.

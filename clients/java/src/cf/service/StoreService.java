@@ -604,7 +604,8 @@ public final class StoreService implements AutoCloseable {
             int again = view.said(stage).again;
             if (again >= 0) {
                 RemoteException thrown = (RemoteException) args.get(0);
-                if (!thrown.kind().equals(RemoteException.ABANDONED)) {
+                // Wrapped, it is a source's: what hangs on an abandoned stage fails, too.
+                if (!thrown.kind().equals(RemoteException.ABANDONED) || reply[Row.OUTCOME + Row.WRAPPED] != 0) {
                     return new Task(stage, null, null, thrown);
                 }
                 args = argumentsAgain(view, again);

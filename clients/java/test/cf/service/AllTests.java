@@ -130,6 +130,7 @@ public final class AllTests {
             test("timers in SQLite", StoresTest::timers);
             test("stages in SQLite, settled once", StoresTest::settled);
             test("a process that dies", StoresTest::dies);
+            test("what hangs on an abandoned stage", StoresTest::hangs);
             test("rows that can't be gone on with", StoresTest::broken);
         } else {
             System.out.println("left out requests in SQLite: the class path has no driver, as sqlite-jdbc.jar of Debian's libxerial-sqlite-jdbc-java");

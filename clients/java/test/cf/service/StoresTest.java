@@ -251,6 +251,20 @@ public final class StoresTest {
         }
     }
 
+    static void hangs() throws Exception {
+        Functions functions = new Functions().with("null", 1, value -> 1L).with("nulls", 1, (one, other) -> 1L);
+        try (InFile file = new InFile(); StoreService service = service(file.path, functions)) {
+            StoredRequest request = service.request("hangs");
+            StoredStage one = request.promise("one"), two = request.promise("two");
+            StoredStage[] tries = {one.then("null").again(2), one.either(two, "null").again(2), one.combine(two, "nulls").again(2)};
+            is(one.fail(new RemoteException(RemoteException.ABANDONED, "gone")), true);
+            is(two.complete(1), true);
+            for (StoredStage last : tries) {
+                is(end(last).toString().contains("Abandoned: gone"), true);
+            }
+        }
+    }
+
     static void broken() throws Exception {
         try (InFile file = new InFile(); JdbcStore store = JdbcStore.open("jdbc:sqlite:" + file.path);
                 StoreService service = service(file.path, new Functions())) {
