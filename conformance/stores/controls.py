@@ -24,7 +24,8 @@ ENGINES = {
     "keeps another's payload":
         "after insert on cf_word when new.payload is not null and new.at % 11 = 5 begin update cf_word set payload = "
         "(select payload from cf_word where payload is not null and n < new.n order by n desc limit 1) where n = new.n; end"}
-ANY = r"lost|goes back|told|no word|no payload|nobody meant|came to|was run|can't be done|can't be read|showed"
+# What the judge itself finds by rows and accounts, and not what processes wrote down as their errors.
+ANY = r"^(request |\(|\[|\d+: (place|session|stage)).*(lost|goes back|told|no word|no payload|nobody meant|came to|was run|can't be|showed)"
 EXPECTED = r"stages are left|the run had no"  # of a run that isn't ended
 
 

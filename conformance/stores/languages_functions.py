@@ -65,6 +65,7 @@ def registered(name, version):
         if error:
             raise ValueError(error["text"])
         return "another" if spoils("gives") else value
+    called.__qualname__ = name
     return called
 
 

@@ -3,7 +3,7 @@
 It judges as mixed_judge.py does. A process in Rust or Java writes down which of its words stand, what calls were answered, with what functions were
 called and what stages showed. Where its service alone was replied, the account has `unknown`. Functions don't know where they stand: for each claim
 that a session was granted, its process runs one function once, of that name and version and with just those arguments, and the finish has what
-the function gives. A run that lacks a language, or one of the kinds of WANTED, fails.
+the function gives. A run that lacks a language, or one of the kinds of WANTED and RARE, fails.
 """
 import collections
 import json
@@ -15,8 +15,10 @@ from mixed_judge import MixedJudge
 from cf.service.words import CANCEL
 
 LANGUAGES = ("python", "rust", "java")
-WANTED = ["calls that complete", "calls that attach", "calls that cancel", "timers fired", "outcomes shown", "abandoned", "further tries that ran",
-          "late finishes", "stages run in another language", "requests of all languages",
+RARE = ["abandoned", "further tries that ran", "late finishes"]  # wanted where a run has MANY kills
+MANY = 20
+WANTED = ["calls that complete", "calls that attach", "calls that cancel", "timers fired", "outcomes shown", "stages run in another language",
+          "requests of all languages",
           *(f"{what}, {it}" for it in LANGUAGES for what in ("requests", "words", "answers judged", "functions run"))]
 
 
@@ -118,7 +120,8 @@ class LanguagesJudge(MixedJudge):
                     self.wrong.append(f"{label} was run {many} times by {process}, for {most} claims")
 
     def kinds(self):
-        missing = [it for it in WANTED if not self.count[it]]
+        killed = self.count["sessions"] - self.count["sessions that ended by themselves"]
+        missing = [it for it in WANTED + (RARE if killed >= MANY else []) if not self.count[it]]
         if missing:
             self.wrong.append(f"the run had no {', no '.join(missing)}")
 

@@ -156,7 +156,7 @@ class MixedJudge(Judge):
                 elif key in self.rows:
                     try:
                         out.write(self.request(key) + "\n")
-                    except (AssertionError, LookupError, TypeError, ValueError) as error:  # as of a word that can't be done
+                    except (AssertionError, AttributeError, LookupError, TypeError, ValueError) as error:  # as of a word that can't be done
                         self.wrong.append(f"{key}: its row can't be judged: {error!r}")
                 elif key[0] not in dropped:
                     self.count["lost words"] += sum(it[0] == "did" for it in self.said[key])
