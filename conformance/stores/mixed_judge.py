@@ -258,14 +258,21 @@ class MixedJudge(Judge):
             args = tuple(self.thing(it) for it in words[1:])
         passes, again = None, said.get("again")
         if again is not None:
-            is_abandoned = args[0]["error"] == "Abandoned" and words[-1] == "raw"  # itself, and not a stage that it hangs on
-            passes = None if is_abandoned else args[0]
+            passes = self.passed_on(again, args[0], words[-1] == "wrapped")
             said, args = self.stages[again], None if passes else self.args_again(again)
             self.count["further tries that ran"] += passes is None
         self.claimed.append((stage, session, said, passes))
         self.open[stage] = (session, said, args, passes)
         if passes is None and "where" in said.get("kwargs", {}):
             self.place_of(stage)
+
+    def passed_on(self, first, error, is_wrapped):
+        """What a further try passes on, or None where it calls the function of the first stage: its process is gone. What hangs on an abandoned
+        stage fails, too; and a try whose process is gone is done once more."""
+        if error["error"] != "Abandoned" or is_wrapped:
+            return error
+        own = self.outcome(first)[1]
+        return None if own["error"] == "Abandoned" and not self.graph.told[first][2] else own
 
     def args_again(self, stage):
         form, of = self.graph.form[stage], self.graph.of[stage]

@@ -136,6 +136,18 @@ class DurableStages(Case):
             self.assertTrue(two.complete(1))
             self.assertIsInstance(tries[1].exception(20), Abandoned)
 
+    def test_a_further_try_whose_process_is_gone(self):
+        """It is done once more: it passes on what the stage itself ended in, whose function wasn't called."""
+        store = Memory()
+        asks = DurableService(store, 0, functions=f.functions)
+        durable = asks.request("r")
+        one = durable.promise()
+        last = one.then(f.both).again(2)
+        one.fail(PermissionError("no"))
+        durable[last.number - 1].fail(Abandoned("gone"))
+        self.services += [asks, DurableService(store, 1, functions=f.functions, takes_all=True)]
+        self.assertIsInstance(last.exception(20), PermissionError)
+
     def test_what_a_finish_makes_ready(self):
         """Its process goes on with it at once, also where it has two sources, or came of what was composed."""
         service = DurableService(Memory(), 1, functions=f.functions, lease=1000)

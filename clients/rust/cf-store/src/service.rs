@@ -5,7 +5,7 @@ use crate::plan::{self, Said};
 use crate::request::{finish, fired, Inner, Request};
 use crate::store::{Mark, Opened, Store, Timer};
 use crate::view::{by_chance, bytes_of, sure, View, Wanted, SESSION_BITS};
-use cf_graph::{Args, Call, Claimed, Form, Outcome, Reply};
+use cf_graph::{Args, Call, Claimed, Form, Outcome, Reply, State};
 use serde_json::Value as Json;
 use std::collections::{BTreeMap, HashSet, VecDeque};
 use std::fmt;
@@ -609,8 +609,10 @@ impl Shared {
         let mut given = arguments(view, stage, args)?;
         if let Some(first) = again {
             given = match given.pop().map(serde_json::from_value::<Failed>) {
-                Some(Ok(failed)) if failed.kind == ABANDONED && is_its_own(args) => again_with(view, first)?,
-                Some(Ok(failed)) => return Ok(Task { stage, name: String::new(), version: 0, given: Err(failed) }),
+                Some(Ok(failed)) => match passed_on(view, first, args, failed)? {
+                    None => again_with(view, first)?,
+                    Some(failed) => return Ok(Task { stage, name: String::new(), version: 0, given: Err(failed) }),
+                },
                 _ => Vec::new(),
             };
         }
@@ -649,9 +651,16 @@ fn arguments(view: &mut View, stage: u16, args: Args) -> Result<Vec<Json>, Store
     })
 }
 
-/// Whether what a further try is told of was ended itself. Else the fault is a source's, and what hangs on an abandoned stage fails, too.
-fn is_its_own(args: Args) -> bool {
-    matches!(args, Args::Got(Outcome::Fault { wrapped: false, .. }))
+/// What a further try passes on, or nothing where it calls the function of the first stage: that stage's process is gone. Where an error is wrapped
+/// it is a source's, and what hangs on an abandoned stage fails, too. A try whose process is gone is done once more.
+fn passed_on(view: &mut View, first: u16, args: Args, failed: Failed) -> Result<Option<Failed>, StoreError> {
+    let is_lost = |outcome: Outcome, failed: &Failed| matches!(outcome, Outcome::Fault { wrapped: false, .. }) && failed.kind == ABANDONED;
+    if !matches!(args, Args::Got(outcome) if is_lost(outcome, &failed)) {
+        return Ok(Some(failed));
+    }
+    let (State::Settled(outcome), Some(Err(error))) = (view.state(first), view.end_of(first)?) else { return Ok(None) };
+    let own: Failed = serde_json::from_value(failure(error)?).map_err(|error| StoreError::Refused(error.to_string()))?;
+    Ok(if is_lost(outcome, &own) { None } else { Some(own) })
 }
 
 /// What a stage's function was called with before, by what its sources hold.

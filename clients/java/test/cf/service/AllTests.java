@@ -131,6 +131,7 @@ public final class AllTests {
             test("stages in SQLite, settled once", StoresTest::settled);
             test("a process that dies", StoresTest::dies);
             test("what hangs on an abandoned stage", StoresTest::hangs);
+            test("a further try whose process is gone", StoresTest::onceMore);
             test("rows that can't be gone on with", StoresTest::broken);
         } else {
             System.out.println("left out requests in SQLite: the class path has no driver, as sqlite-jdbc.jar of Debian's libxerial-sqlite-jdbc-java");

@@ -265,6 +265,19 @@ public final class StoresTest {
         }
     }
 
+    static void onceMore() throws Exception {
+        Functions functions = new Functions().with("null", 1, value -> 1L);
+        try (InFile file = new InFile(); StoreService planner = service(file.path, functions, 0, false)) {
+            StoredRequest request = planner.request("once more");
+            StoredStage one = request.promise("one"), last = one.then("null").again(2);
+            is(one.fail(new RemoteException("Closed", "we are closed")), true);
+            is(request.stage(last.number() - 1).fail(new RemoteException(RemoteException.ABANDONED, "gone")), true);
+            try (StoreService service = service(file.path, functions)) {
+                is(end(service.open("once more").stage(last.number())).toString().contains("we are closed"), true);
+            }
+        }
+    }
+
     static void broken() throws Exception {
         try (InFile file = new InFile(); JdbcStore store = JdbcStore.open("jdbc:sqlite:" + file.path);
                 StoreService service = service(file.path, new Functions())) {
