@@ -32,9 +32,9 @@ EXPECTED = r"stages are left|the run had no"  # of a run that isn't ended
 class Control(LanguagesRun):
     """A short run whose workers are killed at the end, as those of a spoilt store may never end by themselves."""
 
-    between = (0.5, 1.0)
+    between = (3.0, 4.0)
 
-    def __init__(self, folder, spoilt="", language="", trigger="", seconds=12):
+    def __init__(self, folder, spoilt="", language="", trigger="", seconds=20):
         self.spoilt, self.spoils, self.trigger = spoilt, language, trigger
         super().__init__("sqlite", folder, 1000, workers=6, seconds=seconds)
 

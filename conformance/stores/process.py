@@ -20,8 +20,8 @@ SPOILT, _at = os.environ.get("SPOILT"), itertools.count(1)
 
 
 def spoils(how):
-    """Whether this is one of each forty times at which a process that is spoilt so does what it must not."""
-    return SPOILT == how and next(_at) % 40 == 0
+    """Whether this is one of each two times at which a process that is spoilt so does what it must not."""
+    return SPOILT == how and next(_at) % 2 == 0
 
 
 def sure(call, seconds=math.inf, pause=0.05):

@@ -99,9 +99,9 @@ public final class Faults {
             }
         }
 
-        /** Whether this is one of each forty times at which a spoilt worker does so. */
+        /** Whether this is one of each two times at which a spoilt worker does so. */
         boolean spoils(String how) {
-            return how.equals(spoilt) && count.getAndIncrement() % 40 == 39;
+            return how.equals(spoilt) && count.getAndIncrement() % 2 == 1;
         }
 
         /** The words of a row that this process put, and of which it is told that they stand. */

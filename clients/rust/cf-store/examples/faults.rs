@@ -77,9 +77,9 @@ impl Notes {
         (&self.file).write_all(format!("{said}\n").as_bytes()).expect("the log can be written");
     }
 
-    /// Whether this is one of each forty times at which a spoilt worker does so.
+    /// Whether this is one of each two times at which a spoilt worker does so.
     fn spoils(&self, how: &str) -> bool {
-        self.spoilt == how && self.count.fetch_add(1, Ordering::Relaxed) % 40 == 39
+        self.spoilt == how && self.count.fetch_add(1, Ordering::Relaxed) % 2 == 1
     }
 
     /// The words of a row that this process put, and of which it is told that they stand.
@@ -439,7 +439,9 @@ impl Worker {
         for stage in &open {
             match stage.name()?.as_str() {
                 "promise" => promises.push(stage.clone()),
-                "alarm" if !self.kept.get(&number).map_or(true, |kept| kept.timed.contains(&stage.number())) => self.set_timer(number, &request, stage)?,
+                "alarm" if !self.kept.get(&number).map_or(true, |kept| kept.timed.contains(&stage.number())) => {
+                    self.set_timer(number, &request, stage)?
+                }
                 _ => {}
             }
         }
