@@ -20,7 +20,7 @@ SPOILT, _at = os.environ.get("SPOILT"), itertools.count(1)
 
 
 def spoils(how):
-    """Whether this is one of each two times at which a process that is spoilt so does what it must not."""
+    """Whether this is every second time, at which a process that is spoilt so does what it must not."""
     return SPOILT == how and next(_at) % 2 == 0
 
 

@@ -99,7 +99,7 @@ public final class Faults {
             }
         }
 
-        /** Whether this is one of each two times at which a spoilt worker does so. */
+        /** Whether this is every second time, at which a spoilt worker does so. */
         boolean spoils(String how) {
             return how.equals(spoilt) && count.getAndIncrement() % 2 == 1;
         }

@@ -77,7 +77,7 @@ impl Notes {
         (&self.file).write_all(format!("{said}\n").as_bytes()).expect("the log can be written");
     }
 
-    /// Whether this is one of each two times at which a spoilt worker does so.
+    /// Whether this is every second time, at which a spoilt worker does so.
     fn spoils(&self, how: &str) -> bool {
         self.spoilt == how && self.count.fetch_add(1, Ordering::Relaxed) % 2 == 1
     }
