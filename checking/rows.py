@@ -164,6 +164,18 @@ def rows_of_java(tools: Tools, made: Path) -> List[Row]:
     ]
 
 
+def rows_of_languages(tools: Tools, made: Path) -> List[Row]:
+    """Requests that processes in three languages share. The jar is built once more, since rows of Java's may run at the same time."""
+    python, javac, jar, classes = tools["python3"], tools["JDK of 17 or later"], str(made / "languages/cf-service.jar"), str(made / "languages/classes")
+    java = f"{Path(javac).parent / 'java'} -Xmx64m -XX:+UseSerialGC -XX:TieredStopAtLevel=1 -cp {jar}:{classes}:{SQLITE_JDBC} Faults"
+    workers = [f"CF_RUST_FAULTS={made / 'cargo/debug/examples/faults'}", *([f"CF_JAVA_FAULTS={java}"] if Path(SQLITE_JDBC).is_file() else [])]
+    return [Row("requests in SQLite that three languages share", ["library", "C compiler", "cargo", DEBIANS, "JDK of 17 or later", "python3", "cf_look"], [
+        [python, "clients/rust/offline", "--debian", "build", "-q", "-p", "cf-store", "--features", "sqlite", "--example", "faults"],
+        ["env", "JAVAC=" + javac, "clients/java/build", "--quick", str(made / "languages")],
+        [javac, "-Xlint:all", "-Werror", "-encoding", "UTF-8", "-cp", jar, "-d", classes, "clients/java/example/Faults.java"],
+        ["env", *workers, python, "conformance/stores/engines", "languages", str(made / "languages/run"), tools["cf_look"]]])]
+
+
 def edited() -> List[str]:
     """The crates whose wrong bodies are tried together."""
     return sorted(path.name for path in (TOP / "sweeps/must-fail").iterdir())
@@ -213,4 +225,5 @@ def rows(tools: Tools, made: Path, is_gate: bool) -> List[Row]:
         *rows_of_requests(tools, made),
         *rows_of_rust(tools, made),
         *rows_of_java(tools, made),
+        *rows_of_languages(tools, made),
     ]

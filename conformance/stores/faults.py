@@ -13,8 +13,9 @@ from pathlib import Path
 import servers
 from jobs import tables
 from judge import Judge
+from languages_judge import LANGUAGES, LanguagesJudge
 from mixed_judge import KEPT, MixedJudge
-from process import HERE, sure
+from process import HERE, sure, workers_of
 
 from cf.shared import connect
 
@@ -28,11 +29,15 @@ def answered(call):
 
 
 def in_write(pid):
-    """The writing call in which a process stands at this moment, or None."""
-    try:
-        return WRITES.get(Path(f"/proc/{pid}/syscall").read_text().split()[0])
-    except (OSError, IndexError):
-        return None
+    """The writing call in which a thread of a process stands at this moment, or None."""
+    for it in glob.glob(f"/proc/{pid}/task/*/syscall"):
+        try:
+            call = WRITES.get(Path(it).read_text().split()[0])
+        except (OSError, IndexError):
+            continue
+        if call:
+            return call
+    return None
 
 
 class Run:
@@ -62,15 +67,29 @@ class Run:
     def prepare(self):
         """What has to be in the engine before workers begin."""
 
-    def start(self):
+    def command(self, k):
+        """What starts the worker of a number."""
+        return [sys.executable, HERE / self.program]
+
+    def language(self, k):
+        return ""
+
+    def counted(self, what, k):
+        self.done[what] += 1
+        if self.language(k):
+            self.done[f"{what}, {self.language(k)}"] += 1
+
+    def environment_of(self, k):
+        return dict(os.environ, **self.environment)
+
+    def start(self, k):
         where = self.address
         if self.address.startswith("etcd"):  # each starts at another node
             nodes = where[7:].split(",")
-            k = self.rng.randrange(len(nodes))
-            where = "etcd://" + ",".join(nodes[k:] + nodes[:k])
+            first = self.rng.randrange(len(nodes))
+            where = "etcd://" + ",".join(nodes[first:] + nodes[:first])
         with open(f"{self.folder}/stderr", "a") as errors:
-            return subprocess.Popen([sys.executable, HERE / self.program, where, self.folder, str(self.rng.randrange(1 << 30))], stderr=errors,
-                                    env=dict(os.environ, **self.environment))
+            return subprocess.Popen([*self.command(k), where, self.folder, str(self.rng.randrange(1 << 30))], stderr=errors, env=self.environment_of(k))
 
     def break_server(self):
         rng = random.Random(self.rng.random())
@@ -90,7 +109,7 @@ class Run:
         if self.rng.random() < self.pauses and len(paused) < 2 and workers[k] not in paused:
             workers[k].send_signal(19)  # SIGSTOP: it is thought to be gone, and then goes on where it was
             paused[workers[k]] = time.monotonic() + 2
-            self.done["workers stopped for 2 s"] += 1
+            self.counted("workers stopped for 2 s", k)
             return
         until = time.monotonic() + 10
         while not self.works(workers[k]) and workers[k] not in paused and time.monotonic() < until:
@@ -99,12 +118,13 @@ class Run:
             until = time.monotonic() + (1 if self.done["kills"] % 2 else 0)
             while time.monotonic() < until and not in_write(workers[k].pid):
                 time.sleep(0.0002)
-            self.done["killed in a write"] += in_write(workers[k].pid) is not None
+            if in_write(workers[k].pid):
+                self.counted("killed in a write", k)
         paused.pop(workers[k], None)
         workers[k].kill()
         workers[k].wait()
-        workers[k] = self.start()
-        self.done["kills"] += 1
+        workers[k] = self.start(k)
+        self.counted("kills", k)
 
     def __call__(self):
         """Does it: the counts, and what is wrong."""
@@ -112,14 +132,14 @@ class Run:
         breaker = threading.Thread(target=self.break_server)
         if self.breaks:
             breaker.start()
-        workers = [self.start() for _ in range(self.many)]
+        workers = [self.start(k) for k in range(self.many)]
         try:
             while self.goes_on(began):
                 time.sleep(self.rng.uniform(*self.between))
                 for j, it in enumerate(workers):
                     if it.poll() is not None:
                         self.died(it)
-                        workers[j] = self.start()
+                        workers[j] = self.start(j)
                 self.kill_one(workers, paused)
             for it in paused:
                 it.send_signal(18)
@@ -183,3 +203,15 @@ class MixedRun(Run):
         if self.engine in KEPT:
             for statement in ("create table effect (name text)", *KEPT[self.engine]):
                 tables(self.judged, statement)
+
+
+class LanguagesRun(MixedRun):
+    """A run whose processes are in three languages by turns (languages.py, and the examples of the clients for Rust and Java)."""
+
+    judge, program = LanguagesJudge, "languages.py"
+
+    def language(self, k):
+        return LANGUAGES[k % len(LANGUAGES)]
+
+    def command(self, k):
+        return workers_of(self.language(k)) or super().command(k)

@@ -143,8 +143,8 @@ class Judge:
                     self.count["lost words"] += 1
                     continue
                 answered.add(place)
-                reply = reply_text(event_of(word), reply)
-                if replies[place] != reply:
+                reply = self.reply_told(place, word, reply)
+                if reply not in (replies[place], "unknown"):
                     self.wrong.append(f"{name}: place {place}: told {reply}, is {replies[place]}")
                 records[session, word >> 48 & 0xFF].append(["did", place, str(word), reply])
             elif kind == "saw":
@@ -161,6 +161,9 @@ class Judge:
         for (_, who), own in records.items():  # one that only looked has no number, and any will do
             callers[who]["sessions"].append(own)
         return callers
+
+    def reply_told(self, place, word, reply):
+        return reply_text(event_of(word), reply)
 
     def saw(self, name, own, entries, states, place, stage, outcome):
         if place > len(entries):

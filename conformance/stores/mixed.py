@@ -62,18 +62,23 @@ class Errors(logging.Handler):
 
 
 class Client(Process):
+    label, functions = "mixed", functions
+
     def __init__(self, address, folder, seed):
-        super().__init__(folder, seed, f"mixed-{os.getpid()}")
+        super().__init__(folder, seed, f"{self.label}-{os.getpid()}")
         self.hang = open(f"{folder}/hang-{os.getpid()}", "w")
         self.arm()
-        stores = [sure(lambda: connect(address)) for _ in range(1 + (self.rng.random() < 0.4))]
+        stores = [self.connected(address) for _ in range(1 + (self.rng.random() < 0.4))]
         shared_service.RowView, mixed_functions.note = NotedView, self.note
-        self.services = [DurableService(store, self.rng.choice([1, 2, 3]), functions=functions, lease=GONE, takes_all=not k or self.rng.random() < 0.5,
+        self.services = [DurableService(store, self.rng.choice([1, 2, 3]), functions=self.functions, lease=GONE, takes_all=not k or self.rng.random() < 0.5,
                                         groups=self.rng.random() < 0.3, note=self.note) for k, store in enumerate(stores)]
         logging.getLogger("cf.shared").addHandler(Errors(self.note))
         logging.getLogger("cf.shared").propagate = False
         self.store, self.kinds = stores[0], kinds_of(stores[0].is_transactional)
         self.kept, self.known, self.timed, self.count = {}, set(), set(), 0
+
+    def connected(self, address):
+        return sure(lambda: connect(address))
 
     def arm(self):
         faulthandler.dump_traceback_later(HANG, exit=True, file=self.hang)
@@ -100,10 +105,17 @@ class Client(Process):
         self.kept[number] = request
         return request
 
+    @staticmethod
+    def is_flow(number):
+        return is_flow(number)
+
+    def flow(self, number, mark):
+        return flow_of(number, mark, functions, self.kinds)
+
     def begun(self, number, name, service, rng):
-        if not is_flow(number):
+        if not self.is_flow(number):
             return service.request(name)
-        flow = flow_of(number, f"{rng.getrandbits(32):x}", functions, self.kinds)
+        flow = self.flow(number, f"{rng.getrandbits(32):x}")
         given = [{"token": self.token()} for _ in flow._promises][:rng.randint(0, 2)]
         for stage, it in zip(flow._promises, given):
             self.note("means", name, None, stage, it["token"])
@@ -189,8 +201,7 @@ class Client(Process):
             own = random.Random(seed)
             try:
                 error = None if future.cancelled() else future.exception(0)
-                told = ["cancelled"] if future.cancelled() else ["error", said_of(error)] if error else ["value", future.result(0)]
-                self.note("shown", *said, told)
+                self.shown(said, ["cancelled"] if future.cancelled() else ["error", said_of(error)] if error else ["value", future.result(0)])
                 self.put_back(what, request, to, own)
                 self.note("called back", *said, what)
             except TOLD as refused:
@@ -201,6 +212,9 @@ class Client(Process):
             except BaseException as error:
                 self.note("error", request.name, repr(error))
         request[stage].add_done_callback(called)
+
+    def shown(self, said, told):
+        self.note("shown", *said, told)
 
     def put_back(self, what, request, to, rng):
         request = to if what == "put elsewhere" else request
@@ -254,7 +268,7 @@ class Client(Process):
         elif pick < 0.7:
             self.tell(request)
         else:
-            if not is_flow(number):
+            if not self.is_flow(number):
                 request.end()
             self.finished(number)
 

@@ -24,6 +24,7 @@ from judge import Judge
 from mixed_functions import given_by, raises
 
 from cf.service.words import ATTACH, CANCEL, CLAIM, COMPLETE, FAIL, FAIL_AS, FINISH, LINKS
+from cf.shared import Broken
 
 KEPT = {  # what keeps the rows of requests that are dropped
     "sqlite": ["create table kept_request (id integer, name text, plan text)",
@@ -54,6 +55,8 @@ WANTED = [  # what each run has to have had, but for transactions where the engi
 
 
 class MixedJudge(Judge):
+    of_request = ("answered", "shown", "history", "timer", "called back", "again", "closed behind", "closed")  # notes of one request
+
     def __init__(self, address, folder):
         super().__init__(address, folder)
         self.address = address
@@ -110,7 +113,12 @@ class MixedJudge(Judge):
     def read_rows(self):
         self.rows, self.names = {}, collections.Counter()
         for it in self.store.listing():
-            found, entries = self.store.find(it.name), self.store.read(it.name)
+            found = self.store.find(it.name)
+            try:
+                entries = self.store.read(it.name)
+            except Broken as error:
+                self.wrong.append(str(error))
+                continue
             payloads = self.store.payloads(it.name, list(range(1, len(entries) + 1)))
             self.rows[it.name, found.number] = entries, json.loads(found.plan), payloads
         self.live = set(self.rows)
@@ -136,7 +144,7 @@ class MixedJudge(Judge):
         dropped, labels = {it[0] for it in self.notes["drops"]}, set()
         self.names.update(name for name, _ in set(self.rows) | set(self.said))
         self.told = collections.defaultdict(list)
-        for kind in ("answered", "shown", "history", "timer", "called back", "again", "closed behind", "closed"):
+        for kind in self.of_request:
             for name, number, *rest in self.notes[kind]:
                 self.told[kind, name, number].append(rest)
         with open(f"{self.folder}/histories", "w") as out:
@@ -146,7 +154,10 @@ class MixedJudge(Judge):
                     labels |= {it for it in self.calls if it.startswith(key[0] + ".")}
                     self.labels = set()
                 elif key in self.rows:
-                    out.write(self.request(key) + "\n")
+                    try:
+                        out.write(self.request(key) + "\n")
+                    except (AssertionError, AttributeError, LookupError, TypeError, ValueError) as error:  # as of a word that can't be done
+                        self.wrong.append(f"{key}: its row can't be judged: {error!r}")
                 elif key[0] not in dropped:
                     self.count["lost words"] += sum(it[0] == "did" for it in self.said[key])
                     self.wrong.append(f"{key}: the request is lost")
@@ -169,7 +180,7 @@ class MixedJudge(Judge):
         self.came = [(0, None)] * len(self.stages)  # where each was attached, and by which session
         self.places, self.failed = {}, {}  # where each was settled, and by which word each timed out, itself or what it has it from
         self.claimed, self.finished, self.open, self.links = [], {}, {}, {}
-        self.tokens, self.labels = {}, {it["kwargs"]["where"] for it in self.stages if "kwargs" in it}
+        self.tokens, self.put_at, self.labels = {}, {}, {it["kwargs"]["where"] for it in self.stages if "kwargs" in it}
         self.has = {kind for kind, note in (("timed", "timer"), ("called back", "called back"), ("opened again", "again")) if self.told[(note, *key)]}
         left = self.count["stages left"]
         account = super().request(key)
@@ -247,13 +258,21 @@ class MixedJudge(Judge):
             args = tuple(self.thing(it) for it in words[1:])
         passes, again = None, said.get("again")
         if again is not None:
-            passes = args[0] if args[0]["error"] != "Abandoned" else None
+            passes = self.passed_on(again, args[0], words[-1] == "wrapped")
             said, args = self.stages[again], None if passes else self.args_again(again)
             self.count["further tries that ran"] += passes is None
         self.claimed.append((stage, session, said, passes))
         self.open[stage] = (session, said, args, passes)
         if passes is None and "where" in said.get("kwargs", {}):
             self.place_of(stage)
+
+    def passed_on(self, first, error, is_wrapped):
+        """What a further try passes on, or None where it calls the function of the first stage: its process is gone. What hangs on an abandoned
+        stage fails, too; and a try whose process is gone is done once more."""
+        if error["error"] != "Abandoned" or is_wrapped:
+            return error
+        own = self.outcome(first)[1]
+        return None if own["error"] == "Abandoned" and not self.graph.told[first][2] else own
 
     def args_again(self, stage):
         form, of = self.graph.form[stage], self.graph.of[stage]
@@ -345,7 +364,7 @@ class MixedJudge(Judge):
             return
         if reply == "true" and (timed or str(token).startswith("timer ")):
             self.count["timers fired"] += 1
-        self.tokens[stage, token] = reply
+        self.tokens[stage, token], self.put_at[stage, token] = reply, place
 
     def misfit(self, place, why):
         self.wrong.append(f"{self.key}: place {place}: {why}")
@@ -388,10 +407,7 @@ class MixedJudge(Judge):
                 if self.key in self.live:
                     self.wrong.append(f"{self.key}: stage {stage} showed that the request is gone, and it stands")
                 continue
-            now = self.graph.told[stage] if stage < self.graph.stages else None
-            is_cancelled = now == ("fault", "cancelled", False)
-            wanted = None if now is None else ["cancelled"] if is_cancelled else ["error", self.outcome(stage)[1]] if now[0] == "fault" else [
-                "value", self.outcome(stage)[0]]
+            wanted = self.shows(stage, told)
             if told != wanted:
                 self.wrong.append(f"{self.key}: stage {stage} showed {told}, and is {wanted}")
         for many, words, values in self.told[("history", *self.key)]:
@@ -403,6 +419,13 @@ class MixedJudge(Judge):
                 self.wrong.append(f"{self.key}: a history of {many} words is another's")
             elif zlib.crc32(json.dumps(said).encode()) != values:
                 self.wrong.append(f"{self.key}: a history of {many} words has other values")
+
+    def shows(self, stage, told):
+        """What a stage shows that is settled; `told` is what it showed."""
+        now = self.graph.told[stage] if stage < self.graph.stages else None
+        if now is None or now == ("fault", "cancelled", False):
+            return now and ["cancelled"]
+        return ["error", self.outcome(stage)[1]] if now[0] == "fault" else ["value", self.outcome(stage)[0]]
 
     def closed_of(self):
         """Whether it was closed with stages left, by how many words stood there. Who attaches may be killed before it opens it again."""

@@ -1,7 +1,8 @@
 """Loss of power: what an engine has answered has to be on its disk, and what was only in the machine's memory is gone.
 
 The engine writes to a small disk of its own, a file with ext4 in it. At a random moment all processes are stopped, and the disk is copied as
-it is. What no sync had sent to the disk isn't in the copy, as if the power had failed. A new server starts from the copy.
+it is. What no sync had sent to the disk isn't in the copy, as if the power had failed. A new server starts from the copy. A process in Python puts
+words, and one in Rust and one in Java attach stages, if CF_RUST_FAULTS and CF_JAVA_FAULTS have the commands that start them.
 """
 import contextlib
 import os
@@ -13,8 +14,9 @@ import sys
 import time
 from pathlib import Path
 
-import process  # noqa: F401 (for the path)
 import servers
+from languages_judge import LANGUAGES
+from process import workers_of
 
 from cf.shared import Put, Unknown, connect
 
@@ -109,7 +111,20 @@ def write(address, log):
             time.sleep(0.05)
 
 
-def cut(engine, lax, folder, number):
+def kept_in(store):
+    """How many words are there, or -1 where a row isn't whole, or can't be gone on with."""
+    many = 0
+    for name in [it.name for it in store.listing()]:
+        entries = store.read(name)
+        places = list(range(1, len(entries) + 1))
+        is_numbered = name != "r" or [word for word, _ in entries] == places
+        if not is_numbered or len(store.payloads(name, places)) != len(entries) or store.append(Put(name, len(entries), [(7, 7)], {})) is not None:
+            return -1
+        many += len(entries)
+    return many
+
+
+def cut(engine, lax, folder, number, language="python"):
     """One loss of power: how many words were answered, and how many of them are there afterwards."""
     name = f"{MEMORY}/cf-{os.getpid()}-{engine}-{number}"
     first, second = Disk(name, f"{folder}/disk"), Disk(name + "-after", f"{folder}/disk-after")
@@ -120,7 +135,7 @@ def cut(engine, lax, folder, number):
     run, after, writer, log, answered = Engine(engine, first, lax, folder), Engine(engine, second, False, folder), None, f"{folder}/answered", 0
     try:
         run.start(True)
-        writer = subprocess.Popen([sys.executable, __file__, "write", run.address, log])
+        writer = subprocess.Popen([*(workers_of(language) or [sys.executable, __file__]), "write", run.address, log])
         until = time.monotonic() + 60
         while not os.path.exists(log) and time.monotonic() < until:
             time.sleep(0.05)
@@ -135,14 +150,9 @@ def cut(engine, lax, folder, number):
             return answered, 0
         after.start(False)
         store = connect(after.address)
-        if store.find("r") is None:
-            return answered, 0
-        kept = [word for word, _ in store.read("r")]
-        places = list(range(1, len(kept) + 1))
-        is_whole = kept == places and len(store.payloads("r", places)) == len(kept)
-        goes_on = store.append(Put("r", len(kept), [(7, 7)], {})) is None
+        kept = kept_in(store)
         store.close()
-        return answered, len(kept) if is_whole and goes_on else -1
+        return answered, kept
     except (OSError, subprocess.CalledProcessError, RuntimeError, Unknown):
         if lax and answered:
             return answered, 0  # it doesn't even start
@@ -165,19 +175,21 @@ def run(folder, times=3):
         if servers.missing(engine):
             told.append(f"{engine} left out")
             continue
-        for lax in (False, True):
+        others = [it for it in LANGUAGES if workers_of(it) and engine != "etcd"]
+        for lax, language in ((False, "python"), *((False, it) for it in others), (True, "python")):
             done = []
             for number in range(times if not lax else 1):
-                where = f"{folder}/{engine}-{lax}-{number}"
+                where = f"{folder}/{engine}-{language}-{lax}-{number}"
                 os.makedirs(where)
                 os.chmod(where, 0o755)
-                done.append(cut(engine, lax, where, f"{lax}-{number}"))
+                done.append(cut(engine, lax, where, f"{language}-{lax}-{number}", language))
             if None in done:
                 return None, "no disk in a file can be mounted here"
             answered, lost = sum(it for it, _ in done), sum(max(0, it - kept) for it, kept in done)
             bad = any(kept < 0 for _, kept in done)
             is_right = is_right and not bad and (lost > 0 if lax else lost == 0 and answered > 0)
-            told.append(f"{engine}{' without syncs' if lax else ''}: {answered} answered, {lost} lost" + (", and the row is broken" if bad else ""))
+            by = "" if language == "python" else f" by {language}"
+            told.append(f"{engine}{by}{' without syncs' if lax else ''}: {answered} answered, {lost} lost" + (", and the row is broken" if bad else ""))
     return is_right, "; ".join(told)
 
 

@@ -16,6 +16,14 @@ sys.path[:0] = [str(CLIENT), str(HERE.parent / "common")]
 from cf.shared import Unknown  # noqa: E402
 
 
+SPOILT, _at = os.environ.get("SPOILT"), itertools.count(1)
+
+
+def spoils(how):
+    """Whether this is every second time, at which a process that is spoilt so does what it must not."""
+    return SPOILT == how and next(_at) % 2 == 0
+
+
 def sure(call, seconds=math.inf, pause=0.05):
     """What an engine answers that may be away for a while."""
     until = time.monotonic() + seconds
@@ -26,6 +34,11 @@ def sure(call, seconds=math.inf, pause=0.05):
             if time.monotonic() > until:
                 raise
             time.sleep(pause)
+
+
+def workers_of(language):
+    """The command that starts a worker in another language than Python, or nothing."""
+    return os.environ.get(f"CF_{language.upper()}_FAULTS", "").split()
 
 
 def database_of(address):

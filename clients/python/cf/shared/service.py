@@ -615,9 +615,13 @@ class DurableService(concurrent.futures.Executor):
         said, args = view.said(stage), self._args(request, stage, done.reply)
         again = tried_again(said)
         if again is not None:
-            error = args[0]
-            # the sources of what is tried again may be open: it was settled by hand
-            if not isinstance(error, Abandoned):
+            # Wrapped, it is a source's: what hangs on an abandoned stage fails, too. A try whose process is gone is done
+            # once more. The sources of what is tried again may be open: it was settled by hand.
+            told, error = Told(*done.reply[OUTCOME]), args[0]
+            if isinstance(error, Abandoned) and not told.wrapped and view.is_settled(again):
+                told = view.told[again]
+                error = request._outcome(told, (again,))[1] or error
+            if not isinstance(error, Abandoned) or told.wrapped:
                 return Claimed(stage, known, (), {}, error, {})
             said, args = view.said(again), self._args_again(request, again)
         return Claimed(stage, known, tuple(said.get("args", ())) or args, said.get("kwargs", {}), None,

@@ -13,7 +13,7 @@ from case import Case, Watched
 import shared_functions as f
 from cf.service import Flow, RequestFull
 from cf.service.words import CLAIM, VALUE
-from cf.shared import Broken, DurableService, Memory
+from cf.shared import Abandoned, Broken, DurableService, Memory
 
 
 class DurableStages(Case):
@@ -136,6 +136,30 @@ class DurableStages(Case):
                 last = stage.again(2)
                 self.assertTrue(stage.fail(PermissionError("by hand")))
                 self.assertIsInstance(last.exception(20), PermissionError)
+
+    def test_no_further_try_behind_what_was_abandoned(self):
+        """What hangs on an abandoned stage fails, too: its own function wasn't called, and so isn't called again."""
+        for service, name in self.each():
+            durable = service.request(name)
+            one, two = durable.promise(), durable.promise()
+            tries = [it.again(2) for it in (one.then(f.both), one.combine(two, f.nothing), one.either(two, f.nothing))]
+            self.assertTrue(one.fail(Abandoned("gone")))
+            for last in tries[::2]:
+                self.assertIsInstance(last.exception(20), Abandoned)
+            self.assertTrue(two.complete(1))
+            self.assertIsInstance(tries[1].exception(20), Abandoned)
+
+    def test_a_further_try_whose_process_is_gone(self):
+        """It is done once more: it passes on what the stage itself ended in, whose function wasn't called."""
+        store = Memory()
+        asks = DurableService(store, 0, functions=f.functions)
+        durable = asks.request("r")
+        one = durable.promise()
+        last = one.then(f.both).again(2)
+        one.fail(PermissionError("no"))
+        durable[last.number - 1].fail(Abandoned("gone"))
+        self.services += [asks, DurableService(store, 1, functions=f.functions, takes_all=True)]
+        self.assertIsInstance(last.exception(20), PermissionError)
 
     def test_what_a_finish_makes_ready(self):
         """Its process goes on with it at once, also where it has two sources, or came of what was composed."""

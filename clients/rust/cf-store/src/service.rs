@@ -7,7 +7,7 @@ use crate::plan::{self, Said};
 use crate::request::{finish, fired, payload_of, Given, Inner, Request};
 use crate::store::{Mark, Opened, Store, Timer, Transaction};
 use crate::view::{by_chance, bytes_of, sure, View, Wanted, SESSION_BITS};
-use cf_graph::{Args, Call, Claimed, Form, Reply};
+use cf_graph::{Args, Call, Claimed, Form, Outcome, Reply, State};
 use serde_json::{Map, Value as Json};
 use std::any::Any;
 use std::collections::{BTreeMap, HashSet, VecDeque};
@@ -668,11 +668,13 @@ impl Shared {
         let mut ends = None;
         if let Some(first) = again {
             given = match given.pop().map(serde_json::from_value::<Failed>) {
-                Some(Ok(failed)) if failed.kind == ABANDONED => again_with(view, first)?,
-                Some(Ok(failed)) => {
-                    ends = Some(failed);
-                    Vec::new()
-                }
+                Some(Ok(failed)) => match passed_on(view, first, args, failed)? {
+                    None => again_with(view, first)?,
+                    Some(failed) => {
+                        ends = Some(failed);
+                        Vec::new()
+                    }
+                },
                 _ => Vec::new(),
             };
         }
@@ -786,6 +788,18 @@ fn arguments(view: &mut View, stage: u16, args: Args) -> Result<Vec<Json>, Store
             }
         }
     })
+}
+
+/// What a further try passes on, or nothing where it calls the function of the first stage: that stage's process is gone. Where an error is wrapped
+/// it is a source's, and what hangs on an abandoned stage fails, too. A try whose process is gone is done once more.
+fn passed_on(view: &mut View, first: u16, args: Args, failed: Failed) -> Result<Option<Failed>, StoreError> {
+    let is_lost = |outcome: Outcome, failed: &Failed| matches!(outcome, Outcome::Fault { wrapped: false, .. }) && failed.kind == ABANDONED;
+    if !matches!(args, Args::Got(outcome) if is_lost(outcome, &failed)) {
+        return Ok(Some(failed));
+    }
+    let (State::Settled(outcome), Some(Err(error))) = (view.state(first), view.end_of(first)?) else { return Ok(None) };
+    let own: Failed = serde_json::from_value(failure(error)?).map_err(|error| StoreError::Refused(error.to_string()))?;
+    Ok(if is_lost(outcome, &own) { None } else { Some(own) })
 }
 
 /// What a stage's function was called with before, by what its sources hold.

@@ -203,6 +203,38 @@ fn a_process_dies() {
 }
 
 #[test]
+fn what_hangs_on_an_abandoned_stage_is_not_tried_again() {
+    let file = File::new("hangs");
+    let functions = Functions::new().with("null", 1, |_: Option<i64>| Ok::<_, String>(1)).with("nulls", 1, |_: Value, _: Value| Ok::<_, String>(1));
+    let service = Service::new(file.store(), functions).unwrap();
+    let request = service.request("hangs").unwrap();
+    let (one, two) = (request.promise("one").unwrap(), request.promise("two").unwrap());
+    let tries = [one.then("null").unwrap(), one.either(&two, "null").unwrap(), one.combine(&two, "nulls").unwrap()].map(|it| it.again(2).unwrap());
+    assert!(one.fail(&Failed::new("Abandoned", "gone")).unwrap());
+    assert!(two.complete(&1).unwrap());
+    for last in tries {
+        assert_eq!(patient::<i64>(&last), Err(Error::Abandoned("gone".into())));
+    }
+}
+
+#[test]
+fn a_try_whose_process_is_gone_is_done_once_more() {
+    let file = File::new("once more");
+    let functions = || Functions::new().with("null", 1, |_: Option<i64>| Ok::<_, String>(1));
+    let mut nobody = quick();
+    nobody.threads = 0;
+    let planner = Service::with(file.store(), functions(), nobody).unwrap();
+    let request = planner.request("once more").unwrap();
+    let one = request.promise("one").unwrap();
+    let last = one.then("null").unwrap().again(2).unwrap();
+    assert!(one.fail(&Failed::new("Closed", "we are closed")).unwrap());
+    assert!(request.stage(last.number() - 1).unwrap().fail(&Failed::new("Abandoned", "gone")).unwrap());
+    let service = Service::with(file.store(), functions(), quick()).unwrap();
+    let told = patient::<i64>(&service.open("once more").unwrap().stage(last.number()).unwrap());
+    assert_eq!(told, Err(Error::Failed(Failed::new("Closed", "we are closed"))));
+}
+
+#[test]
 fn what_is_no_row_is_told() {
     let file = File::new("broken");
     let store = file.store();

@@ -709,8 +709,8 @@ public final class StoreService implements AutoCloseable {
             List<Object> args = arguments(view, stage, reply);
             int again = view.said(stage).again;
             if (again >= 0) {
-                RemoteException thrown = (RemoteException) args.get(0);
-                if (!thrown.kind().equals(RemoteException.ABANDONED)) {
+                RemoteException thrown = passedOn(view, again, reply, (RemoteException) args.get(0));
+                if (thrown != null) {
                     return new Task(stage, thrown);
                 }
                 args = argumentsAgain(view, again);
@@ -718,6 +718,22 @@ public final class StoreService implements AutoCloseable {
             boolean isGiven = said.args != null && !said.args.isEmpty();
             return new Task(stage, function(view, stage), isGiven ? new ArrayList<>(said.args) : args, said, view.carried(stage));
         });
+    }
+
+    /**
+     * What a further try passes on, or null where it calls the function of the first stage: that stage's process is gone. Where an exception is
+     * wrapped it is a source's, and what hangs on an abandoned stage fails, too. A try whose process is gone is done once more.
+     */
+    private static RemoteException passedOn(RowView view, int first, int[] reply, RemoteException thrown) {
+        if (!isLost(Arrays.copyOfRange(reply, Row.OUTCOME, reply.length), thrown)) {
+            return thrown;
+        }
+        Throwable fault = view.isSettled(first) ? view.fault(view.outcome(first), first) : null;
+        return fault == null || isLost(view.outcome(first), remote(fault)) ? null : remote(fault);
+    }
+
+    private static boolean isLost(int[] outcome, RemoteException thrown) {
+        return outcome[Row.WRAPPED] == 0 && thrown.kind().equals(RemoteException.ABANDONED);
     }
 
     /** What a claim says that the function is called with. */
@@ -761,7 +777,7 @@ public final class StoreService implements AutoCloseable {
         }
         List<Object> args = new ArrayList<>();
         for (int source : of) {
-            args.add(view.value(view.outcome(source)));
+            args.add(view.isSettled(source) ? view.value(view.outcome(source)) : null); // (open: it was settled by hand)
         }
         return args;
     }

@@ -150,6 +150,8 @@ public final class AllTests {
             over(StoresTest.InFile::new, "timers in SQLite", StoresTest::timers);
             over(StoresTest.InFile::new, "stages in SQLite, settled once", StoresTest::settled);
             test("a process that dies", StoresTest::dies);
+            test("what hangs on an abandoned stage", StoresTest::hangs);
+            test("a further try whose process is gone", StoresTest::onceMore);
             test("rows that can't be gone on with", StoresTest::broken);
             over(StoresTest.InFile::new, "functions that compose in SQLite", StoredFunctionsTest::composing);
             over(StoresTest.InFile::new, "arguments by name", StoredFunctionsTest::named);
