@@ -1,7 +1,6 @@
 """A stage of a request: a future whose state the request's machine decides."""
 import asyncio
 import concurrent.futures
-import functools
 import logging
 from concurrent.futures import InvalidStateError
 from typing import TYPE_CHECKING, Any, Callable, Generator, Generic, Optional, TypeVar
@@ -9,6 +8,7 @@ from typing import TYPE_CHECKING, Any, Callable, Generator, Generic, Optional, T
 from ..values import BadAnswer, Form
 from ._core import StageCore, use
 from .history import escaped
+from .waits import Waited
 from .words import CANCEL, COMPLETE, FAIL, THIS_THREAD, RequestFull, name_of
 
 if TYPE_CHECKING:
@@ -21,15 +21,14 @@ LOGGER = logging.getLogger("concurrent.futures")
 
 if TYPE_CHECKING:
 
-    class _Future(StageCore, concurrent.futures.Future[T]):
+    class _Future(Waited, StageCore, concurrent.futures.Future[T]):
         request: "Request"
-        _shown: bool
 
         def result(self, timeout: Optional[float] = None) -> T: ...
         def add_done_callback(self, fn: Callable[[concurrent.futures.Future[T]], object]) -> None: ...
 else:
 
-    class _Future(StageCore, concurrent.futures.Future, Generic[T]):
+    class _Future(Waited, StageCore, concurrent.futures.Future, Generic[T]):
         """Python 3.8 has futures without a parameter."""
 
 
@@ -279,23 +278,7 @@ class Stage(_Future[T]):
         """What it fails with by a time limit."""
         return TimeoutError(f"{escaped(self.name)} took longer than {seconds} s")
 
-    _told = 0  # of those who wait
     _relays: Optional[object] = None  # of other requests, that end as it does
-
-    def _wait(self, timeout: Optional[float]) -> None:
-        """Waits until it is shown, or so many seconds."""
-        with self._condition:
-            self._condition.wait_for(functools.partial(getattr, self, "_shown"), timeout)
-
-    def _show(self) -> None:
-        """Tells those who wait. It is settled. Where this ends by an interrupt, it is called once more, and goes on."""
-        with self._condition:
-            self._condition.notify_all()  # (they look once the condition is free)
-            note = "add_cancelled" if self.cancelled() else "add_result" if self._exception is None else "add_exception"
-            while self._told < len(self._waiters):
-                self._told += 1
-                getattr(self._waiters[self._told - 1], note)(self)
-            self._shown = True
 
     def _log(self, error: BaseException) -> None:
         LOGGER.error("exception calling callback for %r", self, exc_info=error)
