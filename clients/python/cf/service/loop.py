@@ -3,6 +3,7 @@ clock."""
 import asyncio
 import inspect
 import itertools
+from types import CoroutineType
 from typing import Any, Awaitable, Callable, List, Optional, Set, Type, TypeVar, cast
 
 from .contexts import ContextRequest, ended, Within
@@ -96,8 +97,12 @@ class _LoopWorks(LoopWakes):
     def refusal(self) -> RuntimeError:
         return RuntimeError("Event loop is closed")
 
-    def put(self, request: Request) -> bool:
-        return self._soon(self._run, request)
+    def put(self, turn: Request) -> bool:
+        """To a watch, each turn is a call of the loop's."""
+        return super().put(turn) if self.watch is None else self._soon(self.use, turn)
+
+    def use(self, turn: Request) -> None:
+        self._run(turn)
 
     def _run(self, request: Request, goes_on: bool = True) -> None:
         while goes_on:
@@ -111,7 +116,7 @@ class _LoopWorks(LoopWakes):
             except BaseException as error:
                 goes_on = self._raised(stage, error)
             else:
-                if inspect.isawaitable(given) and not isinstance(given, Stage):
+                if type(given) is CoroutineType or inspect.isawaitable(given) and not isinstance(given, Stage):
                     within.func(self._await, stage, given)
                     return
                 goes_on = ended(stage, FIRST_WORKER, given)
@@ -127,13 +132,16 @@ class _LoopWorks(LoopWakes):
         raise error
 
     def _await(self, stage: "Stage[Any]", given: Awaitable[Any]) -> None:
-        """Lets a coroutine go on, in a copy of this context."""
+        """Lets a coroutine go on, in a copy of this context. The stage keeps its task."""
         running: "List[asyncio.Task[None]]" = []  # until it ends by itself
-        task = self._loop.create_task(self._awaited(stage, given, running))
-        running.append(task)
+        running.append(self._loop.create_task(self._awaited(stage, given, running)))
+        stage.add_done_callback(lambda _: self._soon(self._cancel, running[0]) if running else None)
+
+    def _cancel(self, task: "asyncio.Task[None]") -> None:
+        """Cancels a task that the stage keeps no longer."""
         self._tasks.add(task)
         task.add_done_callback(self._tasks.discard)
-        stage.add_done_callback(lambda _: self._soon(task.cancel) if running else None)
+        task.cancel()
 
     async def _awaited(self, stage: "Stage[Any]", given: Awaitable[Any], running: "List[asyncio.Task[None]]") -> None:
         try:

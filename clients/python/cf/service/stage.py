@@ -3,7 +3,7 @@ import asyncio
 import concurrent.futures
 import logging
 from concurrent.futures import InvalidStateError
-from typing import TYPE_CHECKING, Any, Callable, Generator, Generic, Optional, TypeVar
+from typing import TYPE_CHECKING, Any, Callable, Dict, Generator, Generic, Optional, Type, TypeVar
 
 from ..values import BadAnswer, Form
 from ._core import StageCore, use
@@ -18,6 +18,9 @@ T = TypeVar("T")
 U = TypeVar("U")
 V = TypeVar("V")
 LOGGER = logging.getLogger("concurrent.futures")
+# What an `await` raises where futures of threads have an exception of their own.
+ASYNCIOS: Dict[Type[BaseException], Type[BaseException]] = {
+    concurrent.futures.CancelledError: asyncio.CancelledError, concurrent.futures.TimeoutError: asyncio.TimeoutError}
 
 if TYPE_CHECKING:
 
@@ -267,9 +270,13 @@ class Stage(_Future[T]):
     def __await__(self) -> Generator[Any, None, T]:
         """Awaits the stage on the running loop. If the awaiting task is cancelled, `cancel` is called on the stage: it
         cancels this stage alone, and not while its function runs. What has a value or an exception is given at once."""
-        if not self.done() or self.cancelled():  # (asyncio has another CancelledError)
-            value: T = yield from asyncio.wrap_future(self).__await__()
-            return value
+        if not self.done():
+            yield from self._wait_on(asyncio.get_running_loop())
+            error = None if self.cancelled() else self.exception()
+            if error is not None and type(error) in ASYNCIOS:
+                raise ASYNCIOS[type(error)](*error.args)
+        if self.cancelled():
+            raise asyncio.CancelledError
         return self.result()
 
     # For what stands below.

@@ -17,7 +17,7 @@ import threading
 import time
 from collections import deque
 from queue import Empty, SimpleQueue
-from typing import TYPE_CHECKING, Any, Callable, Deque, Dict, List, Optional, Sequence, Set, Tuple
+from typing import TYPE_CHECKING, Any, Callable, Deque, Dict, Generator, List, Optional, Sequence, Set, Tuple
 
 if TYPE_CHECKING:
     from .request import Request
@@ -178,7 +178,7 @@ class Threads:
         if not self._is_full:
             with self._lock:
                 self._idle += 1
-        turn = self._turns.get()
+        turn: "Optional[Request]" = self._turns.get()
         if turn is None:
             with self._lock:
                 turn = self._next()
@@ -192,7 +192,7 @@ class Threads:
         """A turn of the queue, if there is one. What lets threads end is taken out."""
         with contextlib.suppress(Empty):  # (threads take from it without the lock)
             while True:
-                turn = self._turns.get_nowait()
+                turn: "Optional[Request]" = self._turns.get_nowait()
                 if turn is not None:
                     return turn
         return None
@@ -376,7 +376,8 @@ class Aside(_Alone):
 
 
 class Waited:
-    """A future as others wait for it: by its condition, or by `wait` and `as_completed`, which have waiters there."""
+    """A future as others wait for it: by its condition, by `wait` and `as_completed`, which have waiters there, or on a
+    loop."""
 
     if TYPE_CHECKING:
         _condition: threading.Condition
@@ -385,6 +386,8 @@ class Waited:
         _exception: Optional[BaseException]
 
         def cancelled(self) -> bool: ...
+        def cancel(self) -> bool: ...
+        def add_done_callback(self, fn: Callable[[Any], object]) -> None: ...
 
     _told = 0  # of those who wait
 
@@ -404,17 +407,72 @@ class Waited:
             self._shown = True
 
 
+    def _wait_on(self, loop: asyncio.AbstractEventLoop) -> Generator[Any, None, None]:
+        """Waits on a loop, which runs, until it is settled. If whoever waits is cancelled, `cancel` is called."""
+        end = loop.create_future()
+
+        def tell() -> None:
+            if not end.done():
+                end.set_result(None)
+
+        def settled(_future: object) -> None:
+            if asyncio._get_running_loop() is loop:
+                tell()
+            else:
+                with contextlib.suppress(RuntimeError):  # the loop is closed, and nobody waits there
+                    loop.call_soon_threadsafe(tell)
+        self.add_done_callback(settled)
+        try:
+            yield from end
+        except asyncio.CancelledError:
+            self.cancel()
+            raise
+
+
 class LoopWakes:
-    """What wakes an event loop: a function that is to be called, or a time that is to pass. Any thread may ask for it;
-    what is kept here is changed by the loop alone."""
+    """What wakes an event loop: turns that it is to use, or a time that is to pass. Any thread may ask for it. Alarms are
+    changed by the loop alone."""
 
     def __init__(self, loop: asyncio.AbstractEventLoop) -> None:
         self._loop = loop
+        self._turns: "Deque[Request]" = deque()
+        self._is_woken = False  # (it is set before the loop is woken, and taken back before turns are looked for)
         self._alarms: "Dict[Request, asyncio.TimerHandle]" = {}
+
+    def use(self, turn: "Request") -> None:
+        """Uses a turn, on the loop. It raises only what leaves a loop."""
+        raise NotImplementedError
 
     @property
     def closed(self) -> bool:
         return self._loop.is_closed()
+
+    def put(self, turn: "Request") -> bool:
+        """Has the loop use a turn, and says whether it will. If this raises, it may all the same."""
+        self._turns.append(turn)
+        if self._is_woken and not self.closed:
+            return True
+        self._is_woken = True
+        try:
+            self._call(self._use_all)
+        except RuntimeError:  # it is closed, and calls nothing any more
+            self._turns.clear()
+            return False
+        except BaseException:  # an interrupt
+            self._is_woken = False
+            raise
+        return True
+
+    def _use_all(self) -> None:
+        """Uses the turns that are there. Those that come meanwhile wait for what else the loop has to do."""
+        self._is_woken = False
+        try:
+            for _ in range(len(self._turns)):
+                self.use(self._turns.popleft())
+        finally:
+            if self._turns and not self._is_woken:
+                self._is_woken = True
+                self._call(self._use_all)
 
     def _call(self, act: Callable[..., object], *given: object) -> None:
         """Has the loop call a function."""
@@ -422,7 +480,7 @@ class LoopWakes:
         (self._loop.call_soon if is_here else self._loop.call_soon_threadsafe)(act, *given)
 
     def _soon(self, act: Callable[..., object], *given: object) -> bool:
-        """The same, and says whether it will; once the loop is closed, it calls nothing any more."""
+        """The same, and says whether it will, as a loop that is closed doesn't."""
         try:
             self._call(act, *given)
         except RuntimeError:

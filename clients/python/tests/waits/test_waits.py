@@ -562,21 +562,71 @@ class Loop:
         self.is_shut = True
 
 
+class LedWakes(waits.LoopWakes):
+    """Those of a loop that writes down which turns it uses. A function is called, and may leave the loop."""
+
+    _is_woken, _lock = Looked(), None
+
+    def __init__(self, loop):
+        super().__init__(loop)
+        self._lock, self.used = loop.led.lock(), []
+
+    def use(self, turn):
+        self.used.append(turn)
+        if callable(turn):
+            turn()
+
+
 class Loops(Case):
-    def test_each_call_is_done_or_refused(self):
+    def test_each_turn_is_used_once(self):
         def world(led):
-            loop, done, said = Loop(led), [], {}
-            wakes = waits.LoopWakes(loop)
+            loop = Loop(led)
+            wakes = LedWakes(loop)
             led.plays(loop.run, is_main=False)
-            for turn in "ab":
-                led.plays(lambda turn=turn: said.update({turn: wakes._soon(done.append, turn)}))
-            led.plays(lambda: wakes._soon(loop.close))
+            led.plays(lambda: self.assertTrue(wakes.put("a") and wakes.put("b")))
+            led.plays(lambda: self.assertTrue(wakes.put("c")))
+            led.at_end(lambda: self.assertEqual(sorted(wakes.used), ["a", "b", "c"]))
+        self.in_every_order(world)
+
+    def test_none_is_lost_by_an_interrupt_or_what_leaves_the_loop(self):
+        def world(led):
+            loop = Loop(led)
+            wakes = LedWakes(loop)
+
+            def leaves():
+                raise KeyboardInterrupt
+
+            def runs():
+                try:
+                    loop.run()
+                except KeyboardInterrupt:
+                    loop.run()
+            led.plays(runs, is_main=False)
+            led.plays(lambda: (surely(lambda: wakes.put(leaves)), surely(lambda: wakes.put("a"))))
+            led.plays(lambda: wakes.put("b"), is_main=False)
+            led.at_end(lambda: self.assertTrue({"a", "b"} <= set(map(str, wakes.used))))
+        self.in_every_order(world)
+        self.in_every_order(lambda led: self.interrupted(led), interrupts=1)
+
+    def interrupted(self, led):
+        loop = Loop(led)
+        wakes = LedWakes(loop)
+        led.plays(loop.run, is_main=False)
+        led.plays(lambda: surely(lambda: wakes.put("a")))
+        led.plays(lambda: wakes.put("b"), is_main=False)
+        led.at_end(lambda: self.assertTrue({"a", "b"} <= set(wakes.used)))
+
+    def test_what_comes_behind_the_end_of_a_loop_is_refused(self):
+        def world(led):
+            loop, said = Loop(led), []
+            wakes = LedWakes(loop)
+            led.plays(loop.run, is_main=False)
+            led.plays(lambda: wakes.put("a"))
+            led.plays(lambda: (wakes._soon(loop.close), said.append(loop.is_shut), said.append(wakes.put("b"))))
 
             def ended():
-                for turn in "ab":
-                    is_left = any(given == (turn,) for _, given in loop.calls)
-                    self.assertEqual(done.count(turn) + is_left, said[turn])
-                    self.assertTrue(loop.is_shut or not is_left)
+                self.assertTrue(said[1] or said[0] or loop.is_shut)
+                self.assertTrue(not said[0] or not said[1])
             led.at_end(ended)
         self.in_every_order(world)
 
@@ -584,14 +634,13 @@ class Loops(Case):
         def world(led):
             loop = Loop(led)
             wakes = waits.LoopWakes(loop)
-            request, other = Limited(wakes), Limited(wakes)
-
+            request = Limited(wakes)
             led.plays(loop.run, is_main=False)
-            led.plays(lambda: (request.limit(2000), other.limit(3000)))
-            led.plays(lambda: (request.limit(1000), other.limit(1500), other.settle(1500)))
+            led.plays(lambda: request.limit(3000))
+            led.plays(lambda: (request.limit(1500), request.settle(1500)))
 
             def ended():
-                self.assertEqual((sorted(request.rung), 3000 in other.rung, loop.timers), ([1000, 2000], True, []))
+                self.assertEqual((request.rung in ([3000], [1500, 3000]), dict(request._limits), loop.timers), (True, {}, []))
             led.at_end(ended)
         self.in_every_order(world)
 
