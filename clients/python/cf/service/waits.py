@@ -85,12 +85,12 @@ class Threads:
 
     # What a pool says.
 
-    def begin(self) -> bool:
-        """Called by each thread before it uses turns. False if it is to use none."""
-        return True
+    def begin(self, number: int) -> bool:
+        """Called by each thread, which has this number, before it uses turns. False if it is to use none."""
+        raise NotImplementedError
 
     def use(self, turn: "Request", number: int) -> None:
-        """Uses a turn in a thread, which has this number. It raises nothing."""
+        """Uses a turn in the thread of this number. It raises nothing."""
         raise NotImplementedError
 
     def refuse(self, turns: "Sequence[Request]") -> None:
@@ -158,7 +158,7 @@ class Threads:
             raise error
 
     def _work(self, number: int) -> None:
-        if not self.begin():
+        if not self.begin(number):
             with self._lock:
                 self.broken = True
                 self._alive -= 1

@@ -41,7 +41,8 @@ class Works(Threads):
             return BrokenThreadPool(BROKEN)
         return RuntimeError("cannot schedule new futures after shutdown" if self.closed else "can't start new thread")
 
-    def begin(self) -> bool:
+    def begin(self, number: int) -> bool:
+        be(_who(number))
         if self._initializer is None:
             return True
         try:
@@ -52,10 +53,8 @@ class Works(Threads):
         return True
 
     def use(self, turn: "Request", number: int) -> None:
-        who = FIRST_WORKER + number % (MOST_CALLERS - FIRST_WORKER)
-        be(who)
         try:
-            turn._run(who)
+            turn._run(_who(number))
         except BaseException:  # a callback's, such as SystemExit
             LOGGER.critical("Exception in worker", exc_info=True)
 
@@ -72,6 +71,11 @@ class Works(Threads):
         self.clock._reset()
         if self.closed:
             self.close()
+
+
+def _who(number: int) -> int:
+    """Which caller a thread is."""
+    return FIRST_WORKER + number % (MOST_CALLERS - FIRST_WORKER)
 
 
 def _cancel_ready(request: "Request") -> None:

@@ -27,7 +27,7 @@ class Pool(waits.Threads):
         self._lock, self.used, self.refused, self.begins = None, [], [], begins
         super().__init__(most, "pool")
 
-    def begin(self):
+    def begin(self, number):
         return self.begins()
 
     def use(self, turn, number):
