@@ -144,34 +144,40 @@ class Threads:
     # What threads do.
 
     def _start(self) -> None:
-        """Starts one more thread. If there are no more for now, or the interpreter ends, the next turn tries again. The
-        lock is held."""
-        number = len(self.threads)
+        """Starts one more thread, which has a turn from the start. If there are no more for now, or the interpreter
+        ends, the next turn tries again. The lock is held."""
+        number, first = len(self.threads), self._next()
+        if self.closed:
+            self._turns.put(None)
+        if first is None:  # another thread has taken it
+            return
         self._alive += 1
-        thread, error = _begun(functools.partial(self._work, number), f"{self.name}_{number}")
+        self._idle += 1
+        thread, error = _begun(functools.partial(self._work, number, [first]), f"{self.name}_{number}")
         if thread is None:
             self._alive -= 1
+            self._idle -= 1
+            self._turns.put(first)
         else:
             self.threads.add(thread)
             self._is_full = self._alive == self.most
         if error is not None and not isinstance(error, Exception):
             raise error
 
-    def _work(self, number: int) -> None:
+    def _work(self, number: int, first: "List[Request]") -> None:
         if not self.begin(number):
             with self._lock:
                 self.broken = True
                 self._alive -= 1
                 left = self._drained()
             self.close()
-            self.refuse(left)
+            self.refuse(left + first)
             return
-        while True:
-            turn = self._take()
-            if turn is None:
-                return
+        turn: "Optional[Request]" = first.pop()
+        while turn is not None:
             self.use(turn, number)
-            del turn  # nothing is held while it waits
+            turn = None  # nothing is held while it waits
+            turn = self._take()
 
     def _take(self) -> "Optional[Request]":
         """Waits for a turn. None where this thread is to end."""
