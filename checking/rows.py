@@ -69,6 +69,8 @@ def rows_of_python(tools: Tools, made: Path) -> List[Row]:
             [["env", "CF_NO_MODULE=1", python, "conformance/clients/python-orders", "short", "0", "100", tools["cf_look"]]]),
         Row("Python's service by ctypes", ["library", "python3"],
             [["env", "CF_NO_MODULE=1", "CF_REQUESTS=2000", python, "-m", "unittest", "discover", "-s", "clients/python/tests/service"]]),
+        Row("what waits in Python's service, in every order", ["library", "python3"],
+            [["env", "CF_NO_MODULE=1", python, "clients/python/tests/waits/test_waits.py"]]),
         Row("Python's service over the C module, installed", ["library", builds],
             [[tools[builds], "clients/python/tests/installed.py", str(installed)]]),
         Row("random requests of Python's service by ctypes", ["library", "python3", "cf", "cf_look"],

@@ -203,15 +203,16 @@ static void note(Request *self, size_t words, size_t n, News *news) {
     else self->rows[news->last_settled].next_settled = told->stage;
     news->last_settled = told->stage;
   }
-  news->error = 0;
   news->is_ready |= n > 0;
 }
 
-/* Does a word, and adds what it settled to the news. The code of the library. */
+/* Does a word, and adds what it settled to the news. The code of the library. If the word came too late for the stage
+ * `own`, that has no exception by it, though it may be told now what it was settled with before. */
 static uint32_t apply(Request *self, uint64_t word, cf_reply *reply, News *news) {
   cf_applied applied;
   uint32_t code = cf_request_apply(self->machine, word, 0, &applied, self->state->told, MOST);
   if (code) return code;
+  if (!applied.reply.answer) news->error = 0;
   note(self, 1, applied.told, news);
   *reply = applied.reply;
   return CF_OK;

@@ -340,14 +340,16 @@ class RequestCore(Calls):
 
     def _apply(self, word: int, settled: "List[Stage[Any]]", error: Optional[int] = None) -> memoryview:
         """Does a word, and shows what came of it. `error` is the number of the exception that its stage times out with
-        by it, or has a bad answer with."""
+        by it, or has a bad answer with; it has not if the word came too late, though it may be told now what it was
+        settled with before."""
         machine = self._machine
         code = _apply(machine.at, word, 0, machine.applied, machine.told, ROWS)
         if code:
             check(code)
         self._stamp(1)
         if machine.numbers[_APPLIED_TOLD]:
-            self._note(machine.numbers[_APPLIED_TOLD], settled, word >> 36 & 4095, error)
+            self._note(machine.numbers[_APPLIED_TOLD], settled, word >> 36 & 4095,
+                       error if machine.numbers[_REPLY + ANSWER] else None)
         return machine.numbers
 
     def _add(self, row: _Row, word: int, settled: "List[Stage[Any]]") -> None:

@@ -8,14 +8,13 @@ import contextvars
 import itertools
 import logging
 import os
-import threading
 import weakref
-from collections import deque
 from functools import partial
-from typing import Any, Callable, Deque, Dict, Tuple
+from typing import Any, Callable, Dict
 
 from .contexts import ContextRequest
 from .history import History
+from .waits import Aside
 
 LOGGER = logging.getLogger("concurrent.futures")
 MOST = 2048  # histories that wait for a hook
@@ -34,46 +33,20 @@ class Ends:
         _open.add(self)
 
     def _reset(self) -> None:
-        """No thread is there, and nothing is left to tell."""
+        """Nothing is left to tell."""
         self.requests: "Dict[int, weakref.ref[EndingRequest]]" = {}  # of which nobody was told yet, by their `id`
-        self._changed = threading.Condition()  # (which the thread that has it may take again, as in a `__del__`)
-        self._left: "Deque[Tuple[Callable[[], History], contextvars.Context]]" = deque()
-        self._is_there = self._is_losing = False
+        self._aside = Aside(self._name, MOST)
 
     def tell(self, make: Callable[[], History], context: contextvars.Context) -> None:
         """Has the hook called with the history that this gives, or drops that where too many wait."""
-        with self._changed:
-            is_full, was_losing = len(self._left) >= MOST, self._is_losing
-            self._is_losing = is_full
-            if not is_full:
-                self._left.append((make, context))
-            starts = not (self._is_there or is_full)
-            self._is_there = self._is_there or starts
-        if is_full and not was_losing:
-            LOGGER.warning("%d ended requests wait for the hook of %s: further ones aren't told", MOST, self._name)
-        if starts:
-            self._start()
+        self._aside.put(partial(self._call, make, context), lambda: LOGGER.warning(
+            "%d ended requests wait for the hook of %s: further ones aren't told", MOST, self._name))
 
-    def _start(self) -> None:
+    def _call(self, make: Callable[[], History], context: contextvars.Context) -> None:
         try:
-            threading.Thread(target=self._run, name=self._name, daemon=True).start()
-        except RuntimeError:  # there are no more threads for now, and the next call tries again
-            with self._changed:
-                self._is_there = False
-
-    def _run(self) -> None:
-        while True:
-            with self._changed:
-                if not self._left:
-                    self._is_there = False
-                    self._changed.notify_all()
-                    return
-                make, context = self._left.popleft()
-            try:
-                context.run(self._hook, make())
-            except BaseException:
-                LOGGER.warning("exception in the hook of an ended request", exc_info=True)
-            del make, context
+            context.run(self._hook, make())
+        except BaseException:
+            LOGGER.warning("exception in the hook of an ended request", exc_info=True)
 
     def end_all(self) -> None:
         """Ends all requests as they are, and waits until the hook was told."""
@@ -81,13 +54,8 @@ class Ends:
             request = known()
             if request is not None:
                 request._tell_end()
-        with self._changed:
-            is_told = self._changed.wait_for(lambda: not self._is_there, SECONDS)
-            runs = self._is_there = not is_told or bool(self._left)
-        if not is_told:
+        if not self._aside.wait(SECONDS):
             LOGGER.warning("the hook of %s takes longer than %d s", self._name, SECONDS)
-        elif runs:
-            self._run()  # no thread could be started for these
 
 
 class EndingRequest(ContextRequest):

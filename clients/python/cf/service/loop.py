@@ -3,7 +3,8 @@ clock."""
 import asyncio
 import inspect
 import itertools
-from typing import Any, Awaitable, Callable, Dict, List, Optional, Set, Type, TypeVar, cast
+from types import CoroutineType
+from typing import Any, Awaitable, Callable, List, Optional, Set, Type, TypeVar, cast
 
 from .contexts import ContextRequest, ended, Within
 from .ending import EndingRequest, Ends, Hook
@@ -12,6 +13,7 @@ from .history import Describe, describe_all
 from .request import Request
 from .service import ROOM
 from .stage import Stage
+from .waits import LoopWakes
 from .watch import Watch, WatchedRequest
 from .words import FIRST_WORKER, THROWS
 
@@ -77,76 +79,30 @@ class _WatchedRequest(WatchedRequest, ContextRequest):
     """One that tells a watch what is done to it."""
 
 
-class _LoopWorks:
+class _LoopWorks(LoopWakes):
     """What `Works` is to a request."""
 
     is_parents = False
 
     def __init__(self, loop: asyncio.AbstractEventLoop, describe: Describe, ends: Optional[Ends],
                  watch: Optional[Watch]) -> None:
-        self._loop, self.describe, self.ends, self.watch = loop, describe, ends, watch
+        super().__init__(loop)
+        self.describe, self.ends, self.watch = describe, ends, watch
         self._tasks: "Set[asyncio.Task[None]]" = set()
-        self._alarms: Dict[Request, asyncio.TimerHandle] = {}
 
     @property
     def clock(self) -> "_LoopWorks":
         return self
 
-    @property
-    def closed(self) -> bool:
-        return self._loop.is_closed()
-
     def refusal(self) -> RuntimeError:
         return RuntimeError("Event loop is closed")
 
-    def put(self, request: Request) -> bool:
-        try:
-            self._call(self._run, request)
-        except RuntimeError:
-            return False
-        return True
+    def put(self, turn: Request) -> bool:
+        """To a watch, each turn is a call of the loop's."""
+        return super().put(turn) if self.watch is None else self._soon(self.use, turn)
 
-    def _call(self, act: Callable[..., object], *given: object) -> None:
-        """Has the loop call a function. Any thread may."""
-        is_here = asyncio._get_running_loop() is self._loop  # (then the loop needn't be woken)
-        (self._loop.call_soon if is_here else self._loop.call_soon_threadsafe)(act, *given)
-
-    def now(self, _request: Optional[Request] = None) -> int:
-        """In nanoseconds."""
-        return int(self._loop.time() * 1e9)
-
-    def ask(self, request: Request, moment: int) -> None:
-        """Has the loop ring a request that has limits at a moment, if it isn't rung before. Any thread may."""
-        self._call(self._ask, request, moment)
-
-    def drop(self, request: Request) -> None:
-        """Doesn't ring a request that has no limits. Any thread may."""
-        self._soon(self._drop, request)
-
-    def _ask(self, request: Request, moment: int) -> None:
-        alarm = self._alarms.get(request)
-        if request._limits and (alarm is None or moment / 1e9 < alarm.when()):
-            self._forget(request)
-            self._alarms[request] = self._loop.call_at(moment / 1e9, self._ring, request, moment)
-
-    def _drop(self, request: Request) -> None:
-        if not request._limits:
-            self._forget(request)
-
-    def _forget(self, request: Request) -> None:
-        alarm = self._alarms.pop(request, None)
-        if alarm is not None:
-            alarm.cancel()
-
-    def _ring(self, request: Request, moment: int) -> None:
-        del self._alarms[request]
-        request._ring(max(moment, self.now()))
-
-    def _soon(self, act: Callable[..., object], *given: object) -> None:
-        try:
-            self._call(act, *given)
-        except RuntimeError:  # the loop is closed, and calls nothing any more
-            pass
+    def use(self, turn: Request) -> None:
+        self._run(turn)
 
     def _run(self, request: Request, goes_on: bool = True) -> None:
         while goes_on:
@@ -160,7 +116,7 @@ class _LoopWorks:
             except BaseException as error:
                 goes_on = self._raised(stage, error)
             else:
-                if inspect.isawaitable(given) and not isinstance(given, Stage):
+                if type(given) is CoroutineType or inspect.isawaitable(given) and not isinstance(given, Stage):
                     within.func(self._await, stage, given)
                     return
                 goes_on = ended(stage, FIRST_WORKER, given)
@@ -176,13 +132,16 @@ class _LoopWorks:
         raise error
 
     def _await(self, stage: "Stage[Any]", given: Awaitable[Any]) -> None:
-        """Lets a coroutine go on, in a copy of this context."""
+        """Lets a coroutine go on, in a copy of this context. The stage keeps its task."""
         running: "List[asyncio.Task[None]]" = []  # until it ends by itself
-        task = self._loop.create_task(self._awaited(stage, given, running))
-        running.append(task)
+        running.append(self._loop.create_task(self._awaited(stage, given, running)))
+        stage.add_done_callback(lambda _: self._soon(self._cancel, running[0]) if running else None)
+
+    def _cancel(self, task: "asyncio.Task[None]") -> None:
+        """Cancels a task that the stage keeps no longer."""
         self._tasks.add(task)
         task.add_done_callback(self._tasks.discard)
-        stage.add_done_callback(lambda _: self._soon(task.cancel) if running else None)
+        task.cancel()
 
     async def _awaited(self, stage: "Stage[Any]", given: Awaitable[Any], running: "List[asyncio.Task[None]]") -> None:
         try:

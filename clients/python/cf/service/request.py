@@ -17,7 +17,8 @@ What is kept where
       refusals, words.
     - `Request` and `Stage` are below the cores, and have what isn't hot either: the methods that users call, and relays
       of futures that stand elsewhere.
-    - `Works` (works.py) has the threads and the clock of a `Service`, `_LoopWorks` (loop.py) the event loop of a
+    - All that waits and wakes stands in waits.py: threads, a clock, who waits for a stage, what wakes a loop. Of it
+      `Works` (works.py) has the threads and the clock of a `Service`, `_LoopWorks` (loop.py) the event loop of a
       `LoopService`. To a request both are the protocol `Works` below.
 
 What guards what
@@ -27,7 +28,8 @@ What guards what
     - In C there is no such lock: one call of the machine with all that is written down of it runs no Python code, and
       keeps the interpreter's lock, so it is one step for all threads.
     - Either way no function and no callback of a user runs within that step.
-    - `Works._lock` is taken to start and to end threads.
+    - `Threads._lock` is taken to start and to end threads, and around nothing that calls back; no request's lock is
+      held meanwhile.
     - Relays (relays.py) need no lock: whoever takes a relay out of its row settles it.
 
 What happens at a change (`_change`: complete, fail, cancel; also `_attach`, `_gather` and `_end`)
@@ -78,8 +80,8 @@ Contexts and ends
     `EndingRequest` (ending.py). Other requests know nothing of either.
 
 Which methods call a user's code
-    `_run` and `_LoopWorks._run` (functions), `_let_go` (callbacks), `Works._work` (the initializer of threads),
-    `history` (`describe`), `Ends._run` (the hook, and `describe` before it), and relays, which add a callback to
+    `_run` and `_LoopWorks._run` (functions), `_let_go` (callbacks), `Works.begin` (the initializer of threads),
+    `history` (`describe`), `Ends._call` (the hook, and `describe` before it), and relays, which add a callback to
     somebody's future and ask for its result.
 """
 import concurrent.futures

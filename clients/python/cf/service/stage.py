@@ -1,14 +1,14 @@
 """A stage of a request: a future whose state the request's machine decides."""
 import asyncio
 import concurrent.futures
-import functools
 import logging
 from concurrent.futures import InvalidStateError
-from typing import TYPE_CHECKING, Any, Callable, Generator, Generic, Optional, TypeVar
+from typing import TYPE_CHECKING, Any, Callable, Dict, Generator, Generic, Optional, Type, TypeVar
 
 from ..values import BadAnswer, Form
 from ._core import StageCore, use
 from .history import escaped
+from .waits import Waited
 from .words import CANCEL, COMPLETE, FAIL, THIS_THREAD, RequestFull, name_of
 
 if TYPE_CHECKING:
@@ -18,18 +18,20 @@ T = TypeVar("T")
 U = TypeVar("U")
 V = TypeVar("V")
 LOGGER = logging.getLogger("concurrent.futures")
+# What an `await` raises where futures of threads have an exception of their own.
+ASYNCIOS: Dict[Type[BaseException], Type[BaseException]] = {
+    concurrent.futures.CancelledError: asyncio.CancelledError, concurrent.futures.TimeoutError: asyncio.TimeoutError}
 
 if TYPE_CHECKING:
 
-    class _Future(StageCore, concurrent.futures.Future[T]):
+    class _Future(Waited, StageCore, concurrent.futures.Future[T]):
         request: "Request"
-        _shown: bool
 
         def result(self, timeout: Optional[float] = None) -> T: ...
         def add_done_callback(self, fn: Callable[[concurrent.futures.Future[T]], object]) -> None: ...
 else:
 
-    class _Future(StageCore, concurrent.futures.Future, Generic[T]):
+    class _Future(Waited, StageCore, concurrent.futures.Future, Generic[T]):
         """Python 3.8 has futures without a parameter."""
 
 
@@ -268,9 +270,13 @@ class Stage(_Future[T]):
     def __await__(self) -> Generator[Any, None, T]:
         """Awaits the stage on the running loop. If the awaiting task is cancelled, `cancel` is called on the stage: it
         cancels this stage alone, and not while its function runs. What has a value or an exception is given at once."""
-        if not self.done() or self.cancelled():  # (asyncio has another CancelledError)
-            value: T = yield from asyncio.wrap_future(self).__await__()
-            return value
+        if not self.done():
+            yield from self._wait_on(asyncio.get_running_loop())
+            error = None if self.cancelled() else self.exception()
+            if error is not None and type(error) in ASYNCIOS:
+                raise ASYNCIOS[type(error)](*error.args)
+        if self.cancelled():
+            raise asyncio.CancelledError
         return self.result()
 
     # For what stands below.
@@ -279,23 +285,7 @@ class Stage(_Future[T]):
         """What it fails with by a time limit."""
         return TimeoutError(f"{escaped(self.name)} took longer than {seconds} s")
 
-    _told = 0  # of those who wait
     _relays: Optional[object] = None  # of other requests, that end as it does
-
-    def _wait(self, timeout: Optional[float]) -> None:
-        """Waits until it is shown, or so many seconds."""
-        with self._condition:
-            self._condition.wait_for(functools.partial(getattr, self, "_shown"), timeout)
-
-    def _show(self) -> None:
-        """Tells those who wait. It is settled. Where this ends by an interrupt, it is called once more, and goes on."""
-        with self._condition:
-            self._condition.notify_all()  # (they look once the condition is free)
-            note = "add_cancelled" if self.cancelled() else "add_result" if self._exception is None else "add_exception"
-            while self._told < len(self._waiters):
-                self._told += 1
-                getattr(self._waiters[self._told - 1], note)(self)
-            self._shown = True
 
     def _log(self, error: BaseException) -> None:
         LOGGER.error("exception calling callback for %r", self, exc_info=error)

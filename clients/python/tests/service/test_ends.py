@@ -103,7 +103,7 @@ class Ends(unittest.TestCase):
                         self.assertEqual(request.supply(inc, 1).result(20), 2)
                         self.assertEqual(request.promise().complete_on_timeout(1, 0.001).result(20), 1)
                     if not k:
-                        self.assertTrue(until(lambda: not service._works.ends._left))
+                        self.assertTrue(until(lambda: not service._works.ends._aside._left))
             gate.set()
         self.assertEqual((seen, len(logs.records)), ([str(k) for k in range(6)], 1))
 
@@ -120,7 +120,7 @@ class Ends(unittest.TestCase):
         stage = self.service.submit(inc, 1)
         self.assertEqual(stage.result(20), 2)
         del stage
-        self.assertTrue(until(lambda: self.told and not self.service._works.ends._is_there))
+        self.assertTrue(until(lambda: self.told and not self.service._works.ends._aside._is_there))
         with starting(no_thread):
             self.service.request("a").end()
             self.assertEqual(len(self.told), 1)

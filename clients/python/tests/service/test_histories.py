@@ -24,7 +24,7 @@ class Histories(Case):
         for part in ("order 17: 6 events, 2 stages", "caller attaches 0 price, supply",
                      "caller attaches 1 total, apply behind 0 price", "worker 0 claims 0 price and calls it\n",
                      "worker 0 finishes 0 price, which gave 49", "0 price ends: 49",
-                     "worker 0 claims 1 total and calls it with 49", "finishes 1 total, which failed with Oops('x')",
+                     " claims 1 total and calls it with 49", "finishes 1 total, which failed with Oops('x')",
                      "1 total ends: Oops('x')"):
             self.assertIn(part, text)
         self.assertRegex(recorded.history().line(), r"^order 17: 6 events, 2 stages in \d+\.\d{3} ms; "

@@ -64,7 +64,7 @@ class Loops(unittest.TestCase):
             service, real = LoopService(loop), loop.call_soon_threadsafe
 
             def wakes(call, *given, **more):
-                woken.append(call == service._works._run)
+                woken.append(call == service._works._use_all)
                 return real(call, *given, **more)
             with unittest.mock.patch.object(loop, "call_soon_threadsafe", wakes):
                 on_loop = service.request()

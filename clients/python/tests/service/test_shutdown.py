@@ -11,7 +11,6 @@ import queue
 import threading
 import time
 import unittest
-import unittest.mock
 
 from case import fails, inc, leaves, no_thread, program, starting, until
 from cf.service import Service
@@ -79,28 +78,6 @@ class Shutdown(unittest.TestCase):
         self.assertFalse(hangs)
         lets_end.set()
         self.assertFalse(concurrent.futures.wait(handed_in, 20).not_done)
-
-    def test_shutdowns_at_once(self):
-        """Two threads find the service open, and end it."""
-        ending, both, lets_end = Service(1), threading.Barrier(2), threading.Event()
-        running = ending.submit(lets_end.wait, 20)
-
-        def look(works):
-            was = works.__dict__["closed"]
-            if threading.current_thread() in threads:
-                with contextlib.suppress(threading.BrokenBarrierError):
-                    both.wait(5)
-            return was
-        threads = [threading.Thread(target=ending.shutdown, kwargs={"wait": False}) for _ in range(2)]
-        looked = property(look, lambda works, is_closed: works.__dict__.update(closed=is_closed))
-        with unittest.mock.patch.object(type(ending._works), "closed", looked, create=True):
-            for thread in threads:
-                thread.start()
-            for thread in threads:
-                thread.join(20)
-        lets_end.set()
-        self.assertTrue(running.result(20))
-        self.assertTrue(ends(ending))
 
     def test_shutdown_with_cancel_goes_on_after_a_callback(self):
         ending, lets_end = Service(1), threading.Event()

@@ -53,26 +53,6 @@ class Threads(unittest.TestCase):
             self.assertEqual(promise.complete_on_timeout(1, 0.01).result(20), 1)
             self.assertFalse(late.done())
 
-    def test_stages_that_are_put_while_a_start_fails(self):
-        """A second caller leaves its stage to the only thread, which then can't be started."""
-        entered, goes_on = threading.Event(), threading.Event()
-
-        def fails_late(*_):
-            entered.set()
-            goes_on.wait(20)
-            no_thread()
-        with Service(1) as pooled:
-            with starting(fails_late):
-                first, stages = threading.Thread(target=lambda: stages.append(pooled.submit(str))), []
-                first.start()
-                self.assertTrue(entered.wait(20))
-                stages.append(pooled.submit(str))
-                goes_on.set()
-                first.join(20)
-            for stage in stages:
-                self.assertIsInstance(stage.exception(20), RuntimeError)
-            self.assertEqual(pooled.submit(str, 1).result(20), "1")
-
     def test_functions_have_the_context_of_their_thread(self):
         """As those of ThreadPoolExecutor."""
         name = contextvars.ContextVar("name", default="-")

@@ -180,6 +180,14 @@ class Causes(Case):
         self.assertEqual((before["cf"], json.loads(late_history.account())["plan"]["cf"]), (2, 2))
         self.assertEqual(cf.run_script(late_history.script()), late_history.report())
 
+    def test_a_timeout_that_comes_too_late_changes_no_exception(self):
+        """Of a stage whose limit is over, before that was told."""
+        late = self.request.promise("late").or_timeout(1000)
+        with unittest.mock.patch.object(type(self.request), "_take_told", lambda _: None):
+            self.request._ring(time.monotonic_ns() + 10**15)
+        self.assertFalse(self.request._change(FAIL_AS, CLIENT, late, TimeoutError("another")))
+        self.assertIn("took longer than 1000", str(late.exception(20)))
+
     def test_a_limit_that_comes_as_its_stage_is_told(self):
         """It changes nothing of a stage that is settled, also before that has let go of it."""
         timed = self.request

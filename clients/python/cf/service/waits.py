@@ -1,0 +1,525 @@
+"""All that waits and wakes in `cf.service`: threads that use turns (`Threads`), the clock (`Clock`), the thread of a hook
+(`Aside`), whoever waits for a stage (`Waited`), and what wakes an event loop (`LoopWakes`).
+
+Locks, conditions, queues, threads and the time come from `by` alone. So a test can lead all that runs here through
+every order, with starts of threads that fail, interrupts, and objects that are collected at each step: tests/waits.
+
+Each lock may be taken again by the thread that has it, as a `__del__` does that comes up meanwhile. Nothing of a user's
+is called under one.
+"""
+import asyncio
+import contextlib
+import functools
+import heapq
+import itertools
+import logging
+import threading
+import time
+from collections import deque
+from queue import Empty, SimpleQueue
+from typing import TYPE_CHECKING, Any, Callable, Deque, Dict, Generator, List, Optional, Sequence, Set, Tuple
+
+if TYPE_CHECKING:
+    from .request import Request
+
+LOGGER = logging.getLogger("concurrent.futures")
+
+
+class By:
+    """Where locks, threads, queues and the time come from. A test has another one."""
+
+    lock: Callable[[], Any] = staticmethod(threading.RLock)
+    condition: Callable[[], threading.Condition] = staticmethod(threading.Condition)
+    queue: Callable[[], Any] = staticmethod(SimpleQueue)
+    thread: Callable[..., threading.Thread] = staticmethod(threading.Thread)
+    current: Callable[[], threading.Thread] = staticmethod(threading.current_thread)
+    now: Callable[[], int] = staticmethod(time.monotonic_ns)
+
+
+by = By()
+
+
+def _begun(run: Callable[[], object], name: str) -> "Tuple[Optional[threading.Thread], Optional[BaseException]]":
+    """Starts a thread. Gives the thread, if it runs, and what was raised: an interrupt may come before the thread runs
+    or after that, so whoever comes first, the thread or who starts it, decides."""
+    mark = [True]
+
+    def is_first() -> bool:
+        with contextlib.suppress(IndexError):
+            return mark.pop()
+        return False
+    thread = by.thread(target=lambda: is_first() and run(), name=name, daemon=True)
+    try:
+        thread.start()
+    except BaseException as error:
+        return None if is_first() else thread, error
+    return thread, None
+
+
+class Threads:
+    """Threads, started as they are needed, that use turns. A turn is a request, which is put once for each function that
+    becomes ready. The threads end once this is closed and no turn is left.
+
+    Once all threads are there, turns go through the queue without the lock. A thread ends only where it finds the
+    queue empty under the lock, and who puts a turn without the lock looks behind it whether this was closed: so each
+    turn is used or refused. Until all are there, a thread more is started if there are more turns than idle threads:
+    so a function that waits for another one doesn't keep it from being called.
+
+    Attributes:
+        closed: Whether threads end.
+        broken: Whether one couldn't begin, as its initializer failed.
+        threads: Those that were started, and that nobody has waited for."""
+
+    def __init__(self, most: int, name: str) -> None:
+        self.most, self.name, self.closed, self.broken = most, name, False, False
+        self._reset()
+
+    def _reset(self) -> None:
+        """No thread is there."""
+        self.threads: Set[threading.Thread] = set()
+        self._lock = by.lock()
+        self._turns = by.queue()  # None lets a thread end, if no turn is behind it
+        self._alive = 0
+        self._idle = 0  # the threads that wait, less the turns in the queue; it isn't kept once all are there
+        self._is_full = False  # all are there
+
+    # What a pool says.
+
+    def begin(self, number: int) -> bool:
+        """Called by each thread, which has this number, before it uses turns. False if it is to use none."""
+        raise NotImplementedError
+
+    def use(self, turn: "Request", number: int) -> None:
+        """Uses a turn in the thread of this number. It raises nothing."""
+        raise NotImplementedError
+
+    def refuse(self, turns: "Sequence[Request]") -> None:
+        """Nobody will use these turns."""
+        raise NotImplementedError
+
+    # What others call.
+
+    def put(self, turn: "Request") -> bool:
+        """Has a thread use a turn, and says whether one will. If this raises, one may all the same."""
+        if self.broken:
+            return False
+        is_put = self._is_full and not self.closed
+        if is_put:
+            self._turns.put(turn)
+            if not self.closed:
+                return True
+        with self._lock:
+            if not is_put:
+                self._turns.put(turn)
+            self._idle -= 1
+            if self._idle < 0 and self._alive < self.most and (self._alive or not self.closed) and not self.broken:
+                self._start()
+            left = [] if self._alive else self._drained()
+        if left:
+            self.refuse([it for it in left if it is not turn])
+        return turn not in left
+
+    def close(self) -> None:
+        """Lets threads end once no turn is left. It may be called again."""
+        self.closed = True
+        self._turns.put(None)
+
+    def join(self) -> None:
+        """Waits for all threads but this one."""
+        own = by.current()
+        while True:
+            with self._lock:
+                thread = next((it for it in self.threads if it is not own), None)
+            if thread is None:
+                return
+            thread.join()
+            with self._lock:
+                self.threads.discard(thread)
+
+    def take_back(self) -> "List[Request]":
+        """The turns that no thread has taken yet."""
+        with self._lock:
+            return self._drained()
+
+    # What threads do.
+
+    def _start(self) -> None:
+        """Starts one more thread, which has a turn from the start. If there are no more for now, or the interpreter
+        ends, the next turn tries again. The lock is held."""
+        number, first = len(self.threads), self._next()
+        if self.closed:
+            self._turns.put(None)
+        if first is None:  # another thread has taken it
+            return
+        self._alive += 1
+        self._idle += 1
+        thread, error = _begun(functools.partial(self._work, number, [first]), f"{self.name}_{number}")
+        if thread is None:
+            self._alive -= 1
+            self._idle -= 1
+            self._turns.put(first)
+        else:
+            self.threads.add(thread)
+            self._is_full = self._alive == self.most
+        if error is not None and not isinstance(error, Exception):
+            raise error
+
+    def _work(self, number: int, first: "List[Request]") -> None:
+        if not self.begin(number):
+            with self._lock:
+                self.broken = True
+                self._alive -= 1
+                left = self._drained()
+            self.close()
+            self.refuse(left + first)
+            return
+        turn: "Optional[Request]" = first.pop()
+        while turn is not None:
+            self.use(turn, number)
+            turn = None  # nothing is held while it waits
+            turn = self._take()
+
+    def _take(self) -> "Optional[Request]":
+        """Waits for a turn. None where this thread is to end."""
+        if not self._is_full:
+            with self._lock:
+                self._idle += 1
+        turn: "Optional[Request]" = self._turns.get()
+        if turn is None:
+            with self._lock:
+                turn = self._next()
+                if turn is None:
+                    self._alive -= 1
+                    self._idle -= 1
+                self._turns.put(None)  # for the others, or behind what is left
+        return turn
+
+    def _next(self) -> "Optional[Request]":
+        """A turn of the queue, if there is one. What lets threads end is taken out."""
+        with contextlib.suppress(Empty):  # (threads take from it without the lock)
+            while True:
+                turn: "Optional[Request]" = self._turns.get_nowait()
+                if turn is not None:
+                    return turn
+        return None
+
+    def _drained(self) -> "List[Request]":
+        """All turns of the queue. The lock is held."""
+        turns = list(iter(self._next, None))
+        self._idle += len(turns)
+        if self.closed:
+            self._turns.put(None)
+        return turns
+
+
+class _Alone:
+    """A thread that is there while there is something to do."""
+
+    def __init__(self, name: str) -> None:
+        self.name = name
+        self._reset()
+
+    def _reset(self) -> None:
+        self._changed = by.condition()
+        self._is_there = False
+        self._thread: Optional[threading.Thread] = None
+
+    def _begin(self) -> None:
+        """Starts the thread, unless it is there. Where that raises, the next call tries again. The lock is held."""
+        if not self._is_there:
+            self._is_there = True
+            self._thread, error = _begun(self._run, self.name)
+            self._is_there = self._thread is not None
+            if error is not None:
+                raise error
+
+    def _run(self) -> None:
+        raise NotImplementedError
+
+
+class Clock(_Alone):
+    """A thread that rings requests at the first of their limits."""
+
+    def __init__(self, name: str) -> None:
+        self._numbers = itertools.count()
+        super().__init__(name)
+
+    def _reset(self) -> None:
+        super()._reset()
+        self._due: List[Tuple[int, int]] = []  # the moments and numbers of alarms, also of those that nobody wants
+        self._wanted: "Dict[int, Request]" = {}  # by the numbers of alarms
+        self._is_over = False
+
+    def now(self, _request: "Optional[Request]" = None) -> int:
+        """In nanoseconds."""
+        return by.now()
+
+    def ask(self, request: "Request", moment: int) -> None:
+        """Has a request that has limits rung at a moment, if it isn't rung before."""
+        limits = request._limits
+        at, number = limits.alarm
+        if at <= moment and number in self._wanted:  # (who drops an alarm, or rings it, looks for limits behind that)
+            return
+        with self._changed:
+            at, number = limits.alarm
+            is_wanted = number in self._wanted
+            if not limits or self._is_over or (is_wanted and at <= moment):
+                return
+            self._begin()
+            if is_wanted:
+                self._forget(number)
+            number = next(self._numbers)
+            limits.alarm = alarm = moment, number
+            self._wanted[number] = request
+            heapq.heappush(self._due, alarm)
+            if self._due[0] is alarm:
+                self._changed.notify()
+
+    def drop(self, request: "Request") -> None:
+        """Doesn't ring a request that has no limits."""
+        limits = request._limits
+        with self._changed:
+            if not limits:
+                self._forget(limits.alarm[1])
+        if limits:
+            self.ask(request, min(list(limits), default=0))
+
+    def end(self) -> None:
+        """Forgets what is due later, for good, and waits for its thread: an interpreter within this process can't end
+        while there is one."""
+        with self._changed:
+            self._is_over = True
+            thread, wanted, self._wanted = self._thread, self._wanted, {}
+            self._due.clear()
+            self._changed.notify()
+        del wanted  # (not under the lock)
+        if thread is not None and thread is not by.current():
+            thread.join()
+
+    def _forget(self, number: int) -> None:
+        """Nobody wants an alarm any more. Where that goes for most of the list, they are taken out."""
+        self._wanted.pop(number, None)
+        due, many = self._due, len(self._due)
+        if many > 64 + 2 * len(self._wanted):
+            left = sorted(alarm for alarm in due if alarm[1] in self._wanted)
+            if self._due is due and len(due) == many:  # (what is collected meanwhile may have added some)
+                self._due = left
+
+    def _run(self) -> None:
+        while True:
+            with self._changed:
+                request = self._next()
+                if request is None:
+                    self._is_there = False
+                    return
+            try:
+                request._ring(self.now())
+            except BaseException:  # a callback's
+                LOGGER.critical("Exception in clock", exc_info=True)
+            del request
+
+    def _next(self) -> "Optional[Request]":
+        """Waits for the next alarm. Who wants it; None where none is left."""
+        while self._due:
+            moment, number = self._due[0]
+            left = moment - self.now() if number in self._wanted else 0
+            if left > 0:
+                self._changed.wait(min(left / 1e9, threading.TIMEOUT_MAX))
+                continue
+            heapq.heappop(self._due)
+            request = self._wanted.pop(number, None)
+            if request is not None:
+                return request
+        return None
+
+
+class Aside(_Alone):
+    """A thread that does one thing after another, which raise nothing. At most so many wait for it."""
+
+    def __init__(self, name: str, most: int) -> None:
+        self._most = most
+        super().__init__(name)
+
+    def _reset(self) -> None:
+        super()._reset()
+        self._left: Deque[Callable[[], object]] = deque()
+        self._is_losing = False
+
+    def put(self, act: Callable[[], object], lost: Callable[[], object]) -> None:
+        """Has something done. Where too much waits, it isn't, and of several such that come in a row the first is told
+        by `lost`. If no thread can be started, the next call tries again."""
+        with self._changed:
+            is_full, was_losing = len(self._left) >= self._most, self._is_losing
+            self._is_losing = is_full
+            if not is_full:
+                self._left.append(act)
+                with contextlib.suppress(Exception):
+                    self._begin()
+        if is_full and not was_losing:
+            lost()
+
+    def wait(self, seconds: float) -> bool:
+        """Waits until all is done, at most so long, and says whether it is. What no thread could be started for is done
+        here."""
+        with self._changed:
+            is_done = self._changed.wait_for(lambda: not self._is_there, seconds)
+            runs = is_done and bool(self._left)
+            self._is_there = self._is_there or runs
+        if runs:
+            self._run()
+        return is_done
+
+    def _run(self) -> None:
+        while True:
+            with self._changed:
+                if not self._left:
+                    self._is_there = False
+                    self._changed.notify_all()
+                    return
+                act = self._left.popleft()
+            act()
+            del act
+
+
+class Waited:
+    """A future as others wait for it: by its condition, by `wait` and `as_completed`, which have waiters there, or on a
+    loop."""
+
+    if TYPE_CHECKING:
+        _condition: threading.Condition
+        _waiters: List[Any]
+        _shown: bool
+        _exception: Optional[BaseException]
+
+        def cancelled(self) -> bool: ...
+        def cancel(self) -> bool: ...
+        def add_done_callback(self, fn: Callable[[Any], object]) -> None: ...
+
+    _told = 0  # of those who wait
+
+    def _wait(self, timeout: Optional[float]) -> None:
+        """Waits until it is shown, or so many seconds."""
+        with self._condition:
+            self._condition.wait_for(functools.partial(getattr, self, "_shown"), timeout)
+
+    def _show(self) -> None:
+        """Tells those who wait. It is settled. Where this ends by an interrupt, it is called once more, and goes on."""
+        with self._condition:
+            self._condition.notify_all()  # (they look once the condition is free)
+            note = "add_cancelled" if self.cancelled() else "add_result" if self._exception is None else "add_exception"
+            while self._told < len(self._waiters):
+                self._told += 1
+                getattr(self._waiters[self._told - 1], note)(self)
+            self._shown = True
+
+
+    def _wait_on(self, loop: asyncio.AbstractEventLoop) -> Generator[Any, None, None]:
+        """Waits on a loop, which runs, until it is settled. If whoever waits is cancelled, `cancel` is called."""
+        end = loop.create_future()
+
+        def tell() -> None:
+            if not end.done():
+                end.set_result(None)
+
+        def settled(_future: object) -> None:
+            if asyncio._get_running_loop() is loop:
+                tell()
+            else:
+                with contextlib.suppress(RuntimeError):  # the loop is closed, and nobody waits there
+                    loop.call_soon_threadsafe(tell)
+        self.add_done_callback(settled)
+        try:
+            yield from end
+        except asyncio.CancelledError:
+            self.cancel()
+            raise
+
+
+class LoopWakes:
+    """What wakes an event loop: turns that it is to use, or a time that is to pass. Any thread may ask for it. Alarms are
+    changed by the loop alone."""
+
+    def __init__(self, loop: asyncio.AbstractEventLoop) -> None:
+        self._loop = loop
+        self._turns: "Deque[Request]" = deque()
+        self._is_woken = False  # (it is set before the loop is woken, and taken back before turns are looked for)
+        self._alarms: "Dict[Request, asyncio.TimerHandle]" = {}
+
+    def use(self, turn: "Request") -> None:
+        """Uses a turn, on the loop. It raises only what leaves a loop."""
+        raise NotImplementedError
+
+    @property
+    def closed(self) -> bool:
+        return self._loop.is_closed()
+
+    def put(self, turn: "Request") -> bool:
+        """Has the loop use a turn, and says whether it will. If this raises, it may all the same."""
+        self._turns.append(turn)
+        if self._is_woken and not self.closed:
+            return True
+        self._is_woken = True
+        try:
+            self._call(self._use_all)
+        except RuntimeError:  # it is closed, and calls nothing any more
+            self._turns.clear()
+            return False
+        except BaseException:  # an interrupt
+            self._is_woken = False
+            raise
+        return True
+
+    def _use_all(self) -> None:
+        """Uses the turns that are there. Those that come meanwhile wait for what else the loop has to do."""
+        self._is_woken = False
+        try:
+            for _ in range(len(self._turns)):
+                self.use(self._turns.popleft())
+        finally:
+            if self._turns and not self._is_woken:
+                self._is_woken = True
+                self._call(self._use_all)
+
+    def _call(self, act: Callable[..., object], *given: object) -> None:
+        """Has the loop call a function."""
+        is_here = asyncio._get_running_loop() is self._loop  # (then the loop needn't be woken)
+        (self._loop.call_soon if is_here else self._loop.call_soon_threadsafe)(act, *given)
+
+    def _soon(self, act: Callable[..., object], *given: object) -> bool:
+        """The same, and says whether it will, as a loop that is closed doesn't."""
+        try:
+            self._call(act, *given)
+        except RuntimeError:
+            return False
+        return True
+
+    def now(self, _request: "Optional[Request]" = None) -> int:
+        """In nanoseconds."""
+        return int(self._loop.time() * 1e9)
+
+    def ask(self, request: "Request", moment: int) -> None:
+        """Has the loop ring a request that has limits at a moment, if it isn't rung before."""
+        self._call(self._ask, request, moment)
+
+    def drop(self, request: "Request") -> None:
+        """Doesn't ring a request that has no limits."""
+        self._soon(self._drop, request)
+
+    def _ask(self, request: "Request", moment: int) -> None:
+        alarm = self._alarms.get(request)
+        if request._limits and (alarm is None or moment / 1e9 < alarm.when()):
+            self._forget(request)
+            self._alarms[request] = self._loop.call_at(moment / 1e9, self._ring, request, moment)
+
+    def _drop(self, request: "Request") -> None:
+        if not request._limits:
+            self._forget(request)
+
+    def _forget(self, request: "Request") -> None:
+        alarm = self._alarms.pop(request, None)
+        if alarm is not None:
+            alarm.cancel()
+
+    def _ring(self, request: "Request", moment: int) -> None:
+        del self._alarms[request]
+        request._ring(max(moment, self.now()))

@@ -1,0 +1,84 @@
+#!/usr/bin/env python3
+"""Does what the README says to write instead of what isn't there do what is wanted?
+
+    CF_LIBRARY=/path/to/libcf.so python3 clients/python/tests/service/test_instead.py [-v] [TEST ..]
+"""
+import concurrent.futures
+import contextlib
+import threading
+import unittest
+
+from case import Case, fails, inc, Oops
+
+
+class Instead(Case):
+    def test_a_deadline_for_a_whole_request(self):
+        last, other = self.request.promise(), self.request.promise()
+        last.or_timeout(0.01).add_done_callback(lambda _: self.request.cancel())
+        self.assertIsInstance(last.exception(20), TimeoutError)
+        with self.assertRaises(concurrent.futures.CancelledError):
+            other.result(20)
+
+    def test_a_scope(self):
+        with self.assertRaises(Oops), contextlib.ExitStack() as scope:
+            scope.callback(self.request.cancel)
+            is_open = self.request.promise()
+            fails()
+        self.assertTrue(is_open.cancelled())
+
+    def test_a_gather_that_fails_at_once(self):
+        parts = [self.request.promise() for _ in range(2)]
+        total = self.request.gather(*parts)
+        for part in parts:
+            part.when_done(lambda _, error: error and total.fail(error))
+        parts[1].fail(Oops("x"))
+        self.assertIsInstance(total.exception(20), Oops)
+        self.assertFalse(parts[0].done())
+
+    def test_a_gather_that_gives_errors(self):
+        parts = [self.request.supply(inc, 1), self.request.supply(fails)]
+        total = self.request.gather(*[part.handle(lambda value, error: error or value) for part in parts])
+        self.assertEqual((total.result(20)[0], type(total.result()[1])), (2, Oops))
+
+    def test_the_first_success(self):
+        won = self.request.promise()
+        for stage in (self.request.supply(fails), self.request.supply(inc, 1)):
+            stage.then(won.complete)
+        self.assertEqual(won.or_timeout(20).result(20), 2)
+
+    def test_a_delayed_start(self):
+        self.assertEqual(self.request.promise().complete_on_timeout(1, 0.01).then(inc).result(20), 2)
+
+    def test_a_further_try(self):
+        tries = iter([fails, fails, lambda: 7])
+
+        def call():
+            return self.request.supply(lambda: next(tries)())
+
+        def again(_error):
+            return self.request.promise().complete_on_timeout(None, 0.01).compose(lambda _: call())
+        self.assertEqual(call().recover_compose(again).recover_compose(again).result(20), 7)
+
+    def test_a_request_within_a_request(self):
+        inner = self.service.request("inner")
+        outer = self.request.supply(inc, 1).compose(lambda value: inner.supply(inc, value).then(inc))
+        self.assertEqual(outer.result(20), 4)
+
+    def test_something_periodic(self):
+        done, is_enough = [], threading.Event()
+
+        def tick(_):
+            done.append(1)
+            if len(done) == 3:
+                is_enough.set()
+            else:
+                wait()
+
+        def wait():
+            self.service.request("tick").promise().complete_on_timeout(None, 0.01).then(tick)
+        wait()
+        self.assertTrue(is_enough.wait(20))
+
+
+if __name__ == "__main__":
+    unittest.main()
