@@ -430,3 +430,24 @@ impl Clock for HandClock {
         }
     }
 }
+
+#[cfg(test)]
+mod tests {
+    use super::*;
+    use crate::{Inline, Request};
+
+    /// The clock finds no alarms while those that nobody wants are left out. It looks again behind that.
+    #[test]
+    fn alarms_that_are_wanted_ring_behind_a_sweep() {
+        let request = Request::new("swept", Inline);
+        let stage = request.promise::<i32>().or_timeout(Duration::from_millis(300));
+        let held = request.0.lock();
+        let sweeps = thread::spawn(sweep);
+        thread::sleep(Duration::from_millis(50));
+        ALARMS.came.notify_all();
+        thread::sleep(Duration::from_millis(50));
+        drop(held);
+        sweeps.join().unwrap();
+        assert!(stage.wait_timeout(Duration::from_secs(60)).expect("the alarm is rung").unwrap_err().is_timeout());
+    }
+}

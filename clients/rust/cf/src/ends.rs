@@ -140,3 +140,22 @@ pub(crate) struct Ending {
     pub(crate) ends: Ends,
     pub(crate) within: Context,
 }
+
+#[cfg(test)]
+mod tests {
+    use super::*;
+    use crate::{Inline, Request};
+
+    /// Where the system starts no thread, whoever waits for the function calls it.
+    #[test]
+    fn what_no_thread_could_tell_is_told_by_a_flush() {
+        let (tells, told) = std::sync::mpsc::channel();
+        let tells = Mutex::new(tells);
+        let ends = Ends::new(move |history| tells.lock().unwrap().send(history.line()).unwrap());
+        let request = Request::new("left", Inline);
+        request.supply(|| 1).wait().unwrap();
+        ends.0.lock().left.push_back((request.history(), Describe::All, Context::here()));
+        assert!(ends.flush(Duration::from_secs(60)));
+        assert!(told.try_recv().unwrap().starts_with("left: "));
+    }
+}

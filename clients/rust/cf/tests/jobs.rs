@@ -3,7 +3,7 @@ mod common;
 
 use cf::{Error, Job, Pool, Refusal, Request, Spawn, Stage};
 use common::{Keeps, LONG};
-use std::sync::atomic::{AtomicUsize, Ordering};
+use std::sync::atomic::{AtomicBool, AtomicUsize, Ordering};
 use std::sync::{Arc, Mutex};
 use std::thread;
 use std::time::{Duration, Instant};
@@ -125,4 +125,23 @@ fn what_takes_no_jobs_fails_what_is_ready() {
     let behind = source.clone().then(|n| n + 1);
     source.complete(1).unwrap();
     assert!(behind.wait().is_err());
+}
+
+/// The only job that is left rests in its function, and runs no other one meanwhile: what is ready fails.
+#[test]
+fn a_job_that_rests_is_none_for_what_is_ready() {
+    struct First(AtomicBool);
+    impl Spawn for First {
+        fn spawn(&self, job: Job) -> Result<(), Job> {
+            if self.0.swap(true, Ordering::SeqCst) {
+                return Err(job);
+            }
+            std::thread::spawn(move || job.run());
+            Ok(())
+        }
+    }
+    let request = Request::new("first", First(AtomicBool::new(false)));
+    let by = request.clone();
+    let told = request.supply(move || by.supply(|| 1).wait_timeout(Duration::from_secs(20)).map(|told| told.is_err())).wait().unwrap();
+    assert_eq!(told, Some(true));
 }

@@ -242,3 +242,13 @@ fn handles_are_send_and_sync_and_unpin() {
     all::<cf::History>();
     all::<Error>();
 }
+
+/// Relays of one stage have the same number in two requests. One that is cancelled is let go of, and not the other.
+#[test]
+fn a_relay_that_is_cancelled_takes_no_other_along() {
+    let source = Request::new("followed", Inline).promise::<i32>();
+    let [first, second] = [(); 2].map(|()| Request::new("follows", Inline).adopt(&source));
+    assert!(first.cancel());
+    source.complete(5).unwrap();
+    assert_eq!(second.peek().expect("it is told").unwrap(), 5);
+}

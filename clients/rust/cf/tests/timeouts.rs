@@ -58,6 +58,18 @@ fn the_first_limit_of_a_stage_settles_it() {
     assert!(history.comes_again());
 }
 
+/// A moment that no number tells is never reached, and keeps no other one from being.
+#[test]
+fn the_longest_limit_never_comes() {
+    let (clock, seconds) = (HandClock::new(), Duration::from_secs);
+    let timed = Request::with_clock("by hand", Arc::new(Inline), Arc::new(clock.clone()));
+    clock.turn(seconds(5));
+    let longest = timed.promise::<i32>().or_timeout(Duration::from_nanos(u64::MAX)).complete_on_timeout(1, Duration::MAX);
+    let soon = timed.promise().complete_on_timeout(2, seconds(1));
+    clock.turn(seconds(3600));
+    assert_eq!((longest.is_settled(), soon.peek().unwrap().unwrap()), (false, 2));
+}
+
 /// One alarm at a time serves all limits of a request: it is asked for where an earlier one comes, and where one was rung.
 #[test]
 fn a_request_asks_for_one_alarm_at_a_time() {

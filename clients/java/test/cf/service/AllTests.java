@@ -26,6 +26,8 @@ public final class AllTests {
         test("cancellations of one's own", RelaysTest::ownCancellations);
         test("a full request", FullRequestsTest::full);
         test("a full request that goes on", FullRequestsTest::goesOn);
+        test("a full request that goes on for many threads", FullRequestsTest::goesOnByMany);
+        test("what finds no place in a full request", FullRequestsTest::letsGoWithoutPlace);
         test("all of many, or one", GatheringTest::asJavas);
         test("room for all of many", GatheringTest::room);
         test("many in parts", GatheringTest::parts);
@@ -58,6 +60,7 @@ public final class AllTests {
         test("functions of others", FunctionsTest::elsewhere);
         test("one call", HistoriesTest::oneCall);
         test("histories", HistoriesTest::histories);
+        test("histories of many threads", HistoriesTest::manyThreads);
         test("pages", HistoriesTest::pages);
         test("what the library tells", TaleTest::told);
         test("texts of all kinds", TaleTest::texts);

@@ -25,9 +25,12 @@ final class AskingTest {
         Request asked = SERVICE.request();
         Stage<Integer> given = asked.completedFuture(3), open = asked.promise(), cancelled = asked.promise();
         Stage<Integer> failed = given.thenApply(x -> x / 0);
-        cancelled.cancel(true);
+        is(cancelled.cancel(true) && cancelled.cancel(true) && asked.failedFuture(new CancellationException()).cancel(true), true);
+        is(given.cancel(true), false);
         is(given.resultNow(), 3);
         is(asked.completedFuture(null).resultNow(), null);
+        String one = new String("equal"), other = new String("equal");
+        is(asked.completedFuture(one).join() == one && asked.completedFuture(other).join() == other, true);
         is(failed.exceptionNow() instanceof ArithmeticException, true);
         for (Stage<Integer> each : Arrays.asList(open, cancelled, failed)) {
             thrown(IllegalStateException.class, each::resultNow);

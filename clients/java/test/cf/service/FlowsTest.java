@@ -50,6 +50,14 @@ final class FlowsTest {
         open.stage(number).complete(1);
         open.stage(discount).completeExceptionally(new IllegalStateException());
         is(open.stage(safe).get(20, TimeUnit.SECONDS), "none");
+        // More steps are ready at once than one call of the machine brings.
+        Flow wide = new Flow("wide");
+        Flow.Step<?>[] many = new Flow.Step<?>[200];
+        for (int k = 0; k < many.length; k++) {
+            many[k] = wide.supplyAsync(() -> 1);
+        }
+        Flow.Step<Void> every = wide.allOf(many);
+        SERVICE.start(wide).stage(every).get(20, TimeUnit.SECONDS);
     }
 
     static void flowFaults() {

@@ -1,12 +1,15 @@
 package cf.service;
 
+import static cf.service.Checks.await;
 import static cf.service.Checks.is;
 import static cf.service.Checks.SERVICE;
 import static cf.service.Checks.thrown;
 
 import java.util.ArrayList;
+import java.util.Collections;
 import java.util.List;
 import java.util.concurrent.CompletableFuture;
+import java.util.concurrent.CountDownLatch;
 
 /** A request with no room for one more stage, and one that goes on in further requests. */
 final class FullRequestsTest {
@@ -67,5 +70,54 @@ final class FullRequestsTest {
             ofService.promise();
         }
         is(ofService.next().history().stages(), 1);
+    }
+
+    /** Threads that find a request full at the same time go on in one further request. */
+    static void goesOnByMany() throws Exception {
+        int threads = 4, each = 2100;
+        for (int round = 0; round < 20; round++) {
+            Request first = SERVICE.request().goesOn();
+            CountDownLatch ended = new CountDownLatch(threads);
+            for (int k = 0; k < threads; k++) {
+                new Thread(() -> {
+                    for (int n = 0; n < each; n++) {
+                        first.promise();
+                    }
+                    ended.countDown();
+                }).start();
+            }
+            await(ended);
+            int stages = 0;
+            for (Request at = first; at != null; at = at.next()) {
+                stages += at.history().stages();
+            }
+            is(stages, threads * each);
+        }
+    }
+
+    /** What hangs on a future for a stage that found no place, since others were quicker, is let go. */
+    static void letsGoWithoutPlace() throws Exception {
+        int threads = 4, each = 600;
+        for (int round = 0; round < 40; round++) {
+            Request first = SERVICE.request().goesOn();
+            Stage<Integer> own = first.promise();
+            List<CompletableFuture<Integer>> others = Collections.synchronizedList(new ArrayList<>());
+            CountDownLatch ended = new CountDownLatch(threads);
+            for (int k = 0; k < threads; k++) {
+                new Thread(() -> {
+                    for (int n = 0; n < each; n++) {
+                        CompletableFuture<Integer> other = new CompletableFuture<>();
+                        own.applyToEither(other, x -> x);
+                        others.add(other);
+                    }
+                    ended.countDown();
+                }).start();
+            }
+            await(ended);
+            own.complete(1);
+            for (CompletableFuture<Integer> other : others) {
+                is(other.getNumberOfDependents(), 0);
+            }
+        }
     }
 }

@@ -290,6 +290,15 @@ final class FunctionsTest {
         is(thrown(ExecutionException.class, () -> told.get(20, TimeUnit.SECONDS)).getCause(), failure);
         is(failure.getSuppressed()[0] instanceof Checks.Broken, true);
         is(after.join() + behind.join(), 5);
+        List<String> called = new ArrayList<>();
+        calling.completedFuture(1).completeAsync(() -> called.add("of a settled stage") ? 2 : 3, Runnable::run);
+        is(called.isEmpty(), true);
+        // An action that throws what it was told suppresses nothing: no exception is its own cause.
+        IllegalStateException thrownAgain = new IllegalStateException();
+        Stage<Integer> source = calling.promise(), again = source.whenComplete((x, e) -> Request.<RuntimeException>rethrow(e));
+        source.completeExceptionally(thrownAgain);
+        is(thrown(ExecutionException.class, () -> again.get(20, TimeUnit.SECONDS)).getCause(), thrownAgain);
+        is(thrownAgain.getSuppressed().length, 0);
         CompletionStage<Integer> refusing = refusing(new Checks.Broken());
         Stage<Integer> composed = ready.thenCompose(x -> refusing), next = composed.handle((x, e) -> 4);
         is(thrown(ExecutionException.class, () -> composed.get(20, TimeUnit.SECONDS)).getCause() instanceof Checks.Broken, true);

@@ -11,6 +11,7 @@ import java.util.List;
 import java.util.Random;
 import java.util.concurrent.CompletableFuture;
 import java.util.concurrent.CompletionException;
+import java.util.concurrent.CompletionStage;
 
 /** Stages that wait for all of many stages, or for one of them. */
 final class GatheringTest {
@@ -18,6 +19,13 @@ final class GatheringTest {
 
     /** They end as Java's own do over futures that end alike, in any order, also where these were settled before. */
     static void asJavas() {
+        Request refusing = SERVICE.request();
+        for (CompletionStage<?>[] none : new CompletionStage<?>[][] {{null}, {refusing.promise(), null}, {refusing.promise(), null, refusing.promise()}}) {
+            int stages = refusing.history().stages();
+            thrown(NullPointerException.class, () -> refusing.allOf(none));
+            thrown(NullPointerException.class, () -> refusing.anyOf(none));
+            is(refusing.history().stages(), stages);
+        }
         for (int seed = 0; seed < 300; seed++) {
             Random random = new Random(seed);
             int count = 1 + random.nextInt(4), mentions = 3 + random.nextInt(seed % 10 == 0 ? 400 : 6);

@@ -8,7 +8,9 @@ import static cf.service.Checks.thrown;
 import java.io.IOException;
 import java.nio.file.Files;
 import java.nio.file.Paths;
+import java.util.ArrayList;
 import java.util.Arrays;
+import java.util.List;
 
 /** What a history and a stage say in text: lines, reports, pages, and names and values that would forge a line. */
 final class HistoriesTest {
@@ -141,5 +143,22 @@ final class HistoriesTest {
         }
         INLINE.start(flow).close();
         is(thrown(IllegalStateException.class, flow::promise).getMessage().contains(ESCAPED), true);
+    }
+
+    /** A history tells 61 threads apart, this one among them, and calls all further ones the same. */
+    static void manyThreads() throws Exception {
+        Request many = SERVICE.request("many");
+        List<Stage<Integer>> promises = new ArrayList<>();
+        for (int k = 0; k < 70; k++) {
+            promises.add(many.promise());
+        }
+        for (int k = 0; k < 70; k++) {
+            Stage<Integer> promise = promises.get(k);
+            Thread thread = new Thread(() -> promise.complete(1), "writer " + k);
+            thread.start();
+            thread.join();
+        }
+        String account = many.history().account();
+        is(account.contains("\"writer 59\"") && !account.contains("\"writer 60\""), true);
     }
 }

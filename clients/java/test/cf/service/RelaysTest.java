@@ -69,6 +69,8 @@ final class RelaysTest {
         is(adopted.isCancelled(), true);
         is(thrown(CancellationException.class, adopted::join).getMessage(), "why");
         is(thrown(CompletionException.class, plain::join).getCause() instanceof CancellationException, true);
+        CancellationException given = new CancellationException();
+        is(thrown(CancellationException.class, relaying.adopt(SERVICE.request().<Integer>failedFuture(given))::join) == given, true);
         is(relaying.history().toString().contains("cancels 2 source") || relaying.history().toString().contains("cancels 1 source"), true);
     }
 

@@ -28,6 +28,11 @@ final class TimeoutsTest {
 
     /** What hangs on one timeout, or on a delay, and takes long, delays no other one. */
     static void timeouts() throws Exception {
+        Stage<Integer> longest = SERVICE.request().promise();
+        longest.orTimeout(Long.MAX_VALUE, TimeUnit.DAYS).completeOnTimeout(1, Long.MAX_VALUE, TimeUnit.NANOSECONDS);
+        thrown(TimeoutException.class, () -> longest.get(20, TimeUnit.MILLISECONDS));
+        Stage<Integer> soon = longest.request().<Integer>promise().orTimeout(1, TimeUnit.MILLISECONDS);
+        is(thrown(ExecutionException.class, () -> soon.get(20, TimeUnit.SECONDS)).getCause() instanceof TimeoutException, true);
         Request timed = SERVICE.request();
         CountDownLatch runs = new CountDownLatch(3), go = new CountDownLatch(1);
         Runnable slow = () -> {
