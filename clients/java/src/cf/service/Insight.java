@@ -99,8 +99,7 @@ final class Insight implements Stores {
 
         OfRow(RowView view) {
             this.view = view;
-            new Freed(this, view::close);
-            Freed.some();
+            view.freedWith(this);
         }
 
         @Override

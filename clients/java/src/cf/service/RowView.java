@@ -120,8 +120,10 @@ final class RowView {
         }
     }
 
-    void close() {
-        row.close();
+    /** What frees the memory outside the heap once this owner can't be reached any more. It doesn't reach who runs the view. */
+    void freedWith(Object owner) {
+        new Freed(owner, row::close);
+        Freed.some();
     }
 
     int seen() {

@@ -51,8 +51,7 @@ public final class StoredRequest {
         lock = service.host.lock();
         name = view.opened.name;
         number = view.opened.number;
-        new Freed(this, view::close);
-        Freed.some();
+        view.freedWith(this);
     }
 
     /** The request's name, by which other processes find it. */

@@ -265,7 +265,7 @@ public final class StoresTest {
 
     static void hangs() throws Exception {
         Functions functions = new Functions().with("null", 1, value -> 1L).with("nulls", 1, (one, other) -> 1L);
-        try (InFile file = new InFile(); StoreService service = service(file.path, functions)) {
+        try (InFile file = new InFile(); StoreService service = service(file, functions)) {
             StoredRequest request = service.request("hangs");
             StoredStage one = request.promise("one"), two = request.promise("two");
             StoredStage[] tries = {one.then("null").again(2), one.either(two, "null").again(2), one.combine(two, "nulls").again(2)};
@@ -279,12 +279,12 @@ public final class StoresTest {
 
     static void onceMore() throws Exception {
         Functions functions = new Functions().with("null", 1, value -> 1L);
-        try (InFile file = new InFile(); StoreService planner = service(file.path, functions, 0, false)) {
+        try (InFile file = new InFile(); StoreService planner = service(file, functions, 0, false)) {
             StoredRequest request = planner.request("once more");
             StoredStage one = request.promise("one"), last = one.then("null").again(2);
             is(one.fail(new RemoteException("Closed", "we are closed")), true);
             is(request.stage(last.number() - 1).fail(new RemoteException(RemoteException.ABANDONED, "gone")), true);
-            try (StoreService service = service(file.path, functions)) {
+            try (StoreService service = service(file, functions)) {
                 is(end(service.open("once more").stage(last.number())).toString().contains("we are closed"), true);
             }
         }
