@@ -246,9 +246,9 @@ final class EtcdTest {
             puts.start();
             began = System.nanoTime();
             for (int k = 0; k < 2 && store.news(mark).ends.getOrDefault("first", 0) == 0; k++) {
-                store.changed(2900);
+                store.changed(29_000);
             }
-            is(System.nanoTime() - began < 2_500_000_000L, true);
+            is(System.nanoTime() - began < 25_000_000_000L, true);
             puts.join();
             Store.News news = store.news(mark);
             is(news.ends.get("first"), 1);
