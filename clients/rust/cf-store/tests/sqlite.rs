@@ -213,7 +213,7 @@ fn what_hangs_on_an_abandoned_stage_is_not_tried_again() {
     assert!(one.fail(&Failed::new("Abandoned", "gone")).unwrap());
     assert!(two.complete(&1).unwrap());
     for last in tries {
-        assert_eq!(patient::<i64>(&last), Err(Error::Abandoned("gone".into())));
+        assert_eq!(settled::<i64>(&last), Err(Error::Abandoned("gone".into())));
     }
 }
 
@@ -230,7 +230,7 @@ fn a_try_whose_process_is_gone_is_done_once_more() {
     assert!(one.fail(&Failed::new("Closed", "we are closed")).unwrap());
     assert!(request.stage(last.number() - 1).unwrap().fail(&Failed::new("Abandoned", "gone")).unwrap());
     let service = Service::with(file.store(), functions(), quick()).unwrap();
-    let told = patient::<i64>(&service.open("once more").unwrap().stage(last.number()).unwrap());
+    let told = settled::<i64>(&service.open("once more").unwrap().stage(last.number()).unwrap());
     assert_eq!(told, Err(Error::Failed(Failed::new("Closed", "we are closed"))));
 }
 
