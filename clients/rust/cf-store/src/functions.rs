@@ -3,12 +3,12 @@ use crate::error::Failed;
 use serde::de::DeserializeOwned;
 use serde::Serialize;
 use serde_json::Value;
+use std::any::Any;
 use std::collections::BTreeMap;
 use std::fmt;
-use std::panic::{catch_unwind, AssertUnwindSafe};
 use std::sync::Arc;
 
-type Call = dyn Fn(Vec<Value>) -> Result<Value, Failed> + Send + Sync;
+pub(crate) type Call = dyn Fn(Vec<Value>) -> Result<Value, Failed> + Send + Sync;
 
 /// The functions that a process knows. One that it doesn't know waits for a process that does.
 #[derive(Clone, Default)]
@@ -50,12 +50,10 @@ impl Functions {
     }
 }
 
-/// Calls a function; what it panics with is a failure.
-pub(crate) fn call(function: &Call, args: Vec<Value>) -> Result<Value, Failed> {
-    catch_unwind(AssertUnwindSafe(|| function(args))).unwrap_or_else(|panic| {
-        let text = panic.downcast_ref::<&str>().map(|it| (*it).to_owned());
-        Err(Failed::new("Panic", text.or_else(|| panic.downcast_ref::<String>().cloned()).unwrap_or_else(|| "it panicked".into())))
-    })
+/// What a function comes to that panics.
+pub(crate) fn panicked(panic: &(dyn Any + Send)) -> Failed {
+    let text = panic.downcast_ref::<&str>().map(|it| (*it).to_owned());
+    Failed::new("Panic", text.or_else(|| panic.downcast_ref::<String>().cloned()).unwrap_or_else(|| "it panicked".into()))
 }
 
 fn read<T: DeserializeOwned>(args: &mut std::vec::IntoIter<Value>) -> Result<T, Failed> {
@@ -72,7 +70,7 @@ fn ended(args: &mut std::vec::IntoIter<Value>) -> Result<(), Failed> {
 
 fn written<R: Serialize, E: fmt::Display + 'static>(result: Result<R, E>) -> Result<Value, Failed> {
     let value = result.map_err(|error| {
-        let known: Option<&Failed> = (&error as &dyn std::any::Any).downcast_ref();
+        let known: Option<&Failed> = (&error as &dyn Any).downcast_ref();
         known.cloned().unwrap_or_else(|| Failed::of(&error))
     })?;
     serde_json::to_value(value).map_err(|error| Failed::new("TypeError", format!("its result can't be written: {error}")))

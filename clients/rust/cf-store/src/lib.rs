@@ -15,7 +15,9 @@
 //! | `functions.rs` | functions by name and version: [`Functions`] |
 //! | `view.rs` | what this session knows of one row, and how it puts words there |
 //! | `request.rs` | what a program has of a request: [`Request`], [`Stage`] |
+//! | `host.rs` | time, threads and chance, in whose place a search of all orders has its own |
 //! | `service.rs` | the threads that run functions, and the pump, which looks what is new: [`Service`] |
+//! | `testing` | a service's own code in every order, over rows in memory that processes share |
 //! | `error.rs` | how a stage ends without a value, and what a store refuses: [`Error`], [`StoreError`] |
 //!
 //! ```no_run
@@ -46,6 +48,7 @@
 #![warn(missing_docs, missing_debug_implementations, unreachable_pub, rust_2018_idioms)]
 mod error;
 mod functions;
+mod host;
 mod plan;
 #[cfg(feature = "postgres")]
 mod postgres;
@@ -54,6 +57,8 @@ mod service;
 #[cfg(feature = "sqlite")]
 mod sqlite;
 mod store;
+#[cfg(feature = "testing")]
+pub mod testing;
 mod view;
 
 pub use cf_graph::Entry;

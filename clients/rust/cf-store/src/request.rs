@@ -1,5 +1,6 @@
 //! What a program has of a request in a store: the request and its stages.
 use crate::error::{Error, Failed, StoreError};
+use crate::host::Host;
 use crate::plan::Said;
 use crate::service::Shared;
 use crate::store::Timer;
@@ -10,7 +11,7 @@ use serde::Serialize;
 use serde_json::Value as Json;
 use std::fmt;
 use std::sync::atomic::{AtomicBool, AtomicUsize, Ordering};
-use std::sync::{Arc, Condvar, Mutex, MutexGuard, PoisonError};
+use std::sync::{Arc, Condvar, Mutex, MutexGuard, PoisonError, TryLockError};
 use std::time::{Duration, Instant};
 
 /// A request in a store: [`Service::request`](crate::Service::request) and [`open`](crate::Service::open) give one. Any thread may use it, and
@@ -39,7 +40,8 @@ pub struct Stage {
 pub(crate) struct Inner {
     pub(crate) name: String,
     pub(crate) number: i64,
-    view: Mutex<View>,
+    host: Arc<dyn Host>,
+    view: Arc<Mutex<View>>,
     /// Told when stages were settled, and when the service ends.
     changed: Condvar,
     /// How many entries were seen.
@@ -52,24 +54,31 @@ pub(crate) struct Inner {
     pub(crate) reopens: AtomicBool,
     /// Why it can't be gone on with.
     fault: Mutex<Option<StoreError>>,
+    /// The stages that somebody was given.
+    #[cfg(feature = "testing")]
+    pub(crate) given: Mutex<std::collections::BTreeSet<u16>>,
 }
 
 impl Inner {
-    pub(crate) fn new(view: View) -> Inner {
+    pub(crate) fn new(view: View, host: &Arc<dyn Host>) -> Inner {
         Inner {
             name: view.opened.name.clone(),
             number: view.opened.number,
             seen: AtomicUsize::new(view.seen()),
-            view: Mutex::new(view),
+            host: Arc::clone(host),
+            view: Arc::new(Mutex::new(view)),
             changed: Condvar::new(),
             is_queued: AtomicBool::new(false),
             is_closed: AtomicBool::new(false),
             reopens: AtomicBool::new(false),
             fault: Mutex::new(None),
+            #[cfg(feature = "testing")]
+            given: Mutex::default(),
         }
     }
 
     pub(crate) fn view(&self) -> MutexGuard<'_, View> {
+        self.host.until_free(&self.view);
         self.view.lock().unwrap_or_else(PoisonError::into_inner)
     }
 
@@ -146,7 +155,7 @@ impl Request {
     /// The stage of a number, in the order in which they were attached, if there is one by what this process has read.
     pub fn stage(&self, number: u16) -> Option<Stage> {
         let there = usize::from(number) < self.inner.view().len();
-        there.then(|| Stage { request: self.clone(), number })
+        there.then(|| Stage::of(self, number))
     }
 
     /// The first stage of a name, if there is one.
@@ -155,7 +164,7 @@ impl Request {
         let mut view = self.inner.view();
         for number in 0..view.len() as u16 {
             if view.said(number)?.name == name {
-                return Ok(Some(Stage { request: self.clone(), number }));
+                return Ok(Some(Stage::of(self, number)));
             }
         }
         Ok(None)
@@ -197,7 +206,7 @@ impl Request {
         self.service.serve(&self.inner);
         reopened?;
         match done?.first().map(|it| it.reply) {
-            Some(Reply::Attached(Some(number))) => Ok(Stage { request: self.clone(), number }),
+            Some(Reply::Attached(Some(number))) => Ok(Stage::of(self, number)),
             _ => Err(StoreError::Full),
         }
     }
@@ -226,6 +235,12 @@ impl Request {
 }
 
 impl Stage {
+    fn of(request: &Request, number: u16) -> Stage {
+        #[cfg(feature = "testing")]
+        request.inner.given.lock().unwrap_or_else(PoisonError::into_inner).insert(number);
+        Stage { request: request.clone(), number }
+    }
+
     /// Its number in the request.
     pub fn number(&self) -> u16 {
         self.number
@@ -345,12 +360,12 @@ impl Stage {
 
     /// The same, for so long at most: nothing where the stage isn't settled by then.
     pub fn wait_timeout<T: DeserializeOwned>(&self, wait: Duration) -> Result<Option<T>, Error> {
-        self.wait_until(Some(Instant::now() + wait))
+        self.wait_until(Some(self.request.service.host.now() + wait))
     }
 
     /// What the stage has come to by what this process has read, if it is settled.
     pub fn peek<T: DeserializeOwned>(&self) -> Result<Option<T>, Error> {
-        self.wait_until(Some(Instant::now()))
+        self.wait_until(Some(self.request.service.host.now()))
     }
 
     fn wait_until<T: DeserializeOwned>(&self, until: Option<Instant>) -> Result<Option<T>, Error> {
@@ -370,13 +385,37 @@ impl Stage {
             if self.request.service.is_over() {
                 return Err(StoreError::Refused("the service is shut down".into()).into());
             }
-            let left = until.map(|it| it.saturating_duration_since(Instant::now()));
+            let left = until.map(|it| it.saturating_duration_since(inner.host.now()));
             if left == Some(Duration::ZERO) {
                 return Ok(None);
             }
-            let wait = left.unwrap_or(Duration::from_secs(3600));
-            view = inner.changed.wait_timeout(view, wait).unwrap_or_else(PoisonError::into_inner).0;
+            view = self.rest(view, left);
         }
+    }
+
+    /// Waits until something was changed, or so long.
+    fn rest<'a>(&'a self, mut view: MutexGuard<'a, View>, left: Option<Duration>) -> MutexGuard<'a, View> {
+        let inner = &self.request.inner;
+        if inner.host.has_threads() {
+            let wait = left.unwrap_or(Duration::from_secs(3600));
+            return inner.changed.wait_timeout(view, wait).unwrap_or_else(PoisonError::into_inner).0;
+        }
+        let name = view.said(self.number).map(|said| said.name).unwrap_or_default();
+        drop(view);
+        let (its, number) = (Arc::clone(inner), self.number);
+        let is_faulty = move || its.fault.lock().unwrap_or_else(PoisonError::into_inner).is_some();
+        let view = Arc::clone(&inner.view);
+        inner.host.until(&name, Arc::new(move || is_shown(&view, number) || is_faulty()), left);
+        inner.view()
+    }
+}
+
+/// Whether a view, if nobody has it, knows that a stage is settled.
+fn is_shown(view: &Mutex<View>, stage: u16) -> bool {
+    match view.try_lock() {
+        Ok(view) => view.is_settled(stage),
+        Err(TryLockError::Poisoned(view)) => view.into_inner().is_settled(stage),
+        Err(TryLockError::WouldBlock) => false,
     }
 }
 

@@ -1,0 +1,1 @@
+//! What does the search find in services over a store?
