@@ -270,7 +270,6 @@ impl Shared {
         locked(&self.firing).contains(&(timer.request.clone(), timer.stage))
     }
 
-
     fn all(&self) -> Vec<Arc<Inner>> {
         let requests = locked(&self.requests);
         let open = |kept: &Kept| match kept {

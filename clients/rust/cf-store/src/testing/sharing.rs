@@ -608,7 +608,12 @@ impl Sharing for Shared {
             Stored::Late(process, thread, _) => shop.work(process, |work| {
                 let it = work.threads.get(&thread);
                 let late = it.and_then(|it| it.late.as_ref());
-                format!("{} has waited {:?} for {}", it.map_or("", |it| &it.name), late.map_or(Duration::ZERO, |it| it.wait), late.map_or("", |it| &it.name))
+                format!(
+                    "{} has waited {:?} for {}",
+                    it.map_or("", |it| &it.name),
+                    late.map_or(Duration::ZERO, |it| it.wait),
+                    late.map_or("", |it| &it.name)
+                )
             }),
             Stored::Look(process) => format!("{} looks what is new", shop.name_of(process)),
             Stored::Due(process, row, stage, _) => {

@@ -38,10 +38,6 @@ impl<T> Clone for Shared<T> {
 }
 
 impl<T> Shared<T> {
-    pub fn of(value: T) -> Shared<T> {
-        Shared(Arc::new(Mutex::new(value)))
-    }
-
     pub fn get(&self) -> MutexGuard<'_, T> {
         self.0.lock().unwrap()
     }
@@ -226,7 +222,11 @@ pub fn own_word_for_anothers(world: &World, reads: bool) {
     shop.calls("a client", move || {
         let did = lock.complete("me").unwrap_or_else(|_| {
             let did = told_in_the_end(|| lock.complete("me"));
-            if reads { lock.wait::<String>().unwrap() == "me" } else { did }
+            if reads {
+                lock.wait::<String>().unwrap() == "me"
+            } else {
+                did
+            }
         });
         *tells.get() = if did { "mine" } else { "another's" };
     });
@@ -287,4 +287,3 @@ fn told_before_it_came(world: &World, asks_again: bool) {
     let is_so = move || *told.get() != "not cancelled" || !store.is_settled("order 17", "order");
     world.at_end("what is told not to be cancelled isn't", is_so);
 }
-

@@ -74,9 +74,9 @@ mod tree;
 mod watch;
 mod world;
 
-pub use orders::{every_order, orders, Orders};
 #[doc(hidden)]
 pub use moves::Stored;
+pub use orders::{every_order, orders, Orders};
 pub use report::{Failure, Pair, Report, Told};
 #[doc(hidden)]
 pub use stored::{Seam, Sharing, Then, Waits};

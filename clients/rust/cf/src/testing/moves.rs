@@ -242,7 +242,9 @@ mod tests {
         assert_eq!(row_of(&moves_of(row).unwrap()), row);
         let row = "job.p0.1 ask.p0.1.2.3 go.p0.1 choose.p0.1.2 late.p0.1.2 look.p4 due.p1.2.3.4 gone.p1.0 kill.p0 land.2 spare";
         assert_eq!(row_of(&moves_of(row).unwrap()), row);
-        for wrong in ["job.0.1", "kill", "kill.p", "spare.1", "go.p1", "", "begin", "begin.0", "begin.0.x", "go", "go.4", "choose.1", "stop.1", "comes.0.0"] {
+        for wrong in
+            ["job.0.1", "kill", "kill.p", "spare.1", "go.p1", "", "begin", "begin.0", "begin.0.x", "go", "go.4", "choose.1", "stop.1", "comes.0.0"]
+        {
             assert!(wrong.parse::<Move>().is_err(), "{wrong}");
         }
         assert_eq!(moves_of("stop comes.0.0"), Err("comes.0.0".into()));

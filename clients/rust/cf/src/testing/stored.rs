@@ -192,9 +192,9 @@ impl Run {
             }
             Then::Ends(process) => {
                 let mut state = self.lock();
-                let (dead, living) = std::mem::take(&mut state.flights).into_iter().partition(|it| matches!(it.0, Who::Thread(its, _) if its == process));
+                let is_its = |who: Who| matches!(who, Who::Thread(its, _) if its == process);
+                let (dead, living): (Vec<_>, Vec<_>) = std::mem::take(&mut state.flights).into_iter().partition(|it| is_its(it.0));
                 state.flights = living;
-                let dead: Vec<(Who, Flight)> = dead;
                 state.dead.extend(dead.into_iter().map(|it| it.1));
                 Ok(())
             }
