@@ -331,6 +331,15 @@ impl Shop {
         if !self.works_on(process, name) || shared.is_broken(name) {
             return false;
         }
+        let inner = shared.kept_as(name);
+        let (mut unseen, mut finds) = (Vec::new(), false);
+        if let Some(inner) = &inner {
+            // (While a thread of its own has the view, a look does nothing.)
+            let Some(own) = inner.try_view() else { return false };
+            let given = locked(&inner.given);
+            unseen.extend(given.iter().copied().filter(|stage| usize::from(*stage) < own.len() && !own.is_settled(*stage)));
+            finds = own.has_found();
+        }
         let is_open = self.rows.memory.is_open(name);
         let calls = |view: &mut View| {
             let ready = view.ready().unwrap_or_default();
@@ -339,12 +348,9 @@ impl Shop {
         if is_open && shared.options.threads > 0 && self.rows.ask(name, calls).unwrap_or(false) {
             return true;
         }
-        let Some(inner) = shared.kept_as(name) else { return false };
-        let given: Vec<u16> = locked(&inner.given).iter().copied().collect();
-        let Some(own) = inner.try_view() else { return false };
-        let unseen: Vec<u16> = given.into_iter().filter(|stage| usize::from(*stage) < own.len() && !own.is_settled(*stage)).collect();
-        let finds = own.has_found();
-        drop(own);
+        if inner.is_none() {
+            return false;
+        }
         let tells = |view: &mut View| {
             let shows = unseen.iter().any(|stage| view.is_settled(*stage));
             let closes = is_open && view.is_planned() && view.is_done(|_| false);
@@ -504,8 +510,9 @@ impl Shop {
 
     fn late(&self, process: u16, thread: u32) -> Then {
         self.work(process, |work| {
-            let due = work.threads.get(&thread).and_then(|it| it.late.as_ref()).map(|late| late.due);
-            work.clock = work.clock.max(due.unwrap_or_default());
+            if let Some(late) = work.threads.get_mut(&thread).and_then(|it| it.late.take()) {
+                work.clock = work.clock.max(late.due);
+            }
         });
         Then::Late(process, thread)
     }

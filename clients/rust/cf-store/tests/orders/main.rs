@@ -153,6 +153,23 @@ fn a_put_that_was_given_up_comes_later_or_finds_its_place_taken() {
 }
 
 #[test]
+fn a_put_that_was_on_its_way_is_told() {
+    let report = orders(|world| {
+        let store = world.store(Bounds::new().silent(1).late(1));
+        let shop = store.process("shop", &Functions::new());
+        let (stage, was_open) = (shop.request("order").unwrap().promise("promise").unwrap(), Shared::<bool>::default());
+        let (looks, sees) = (store.clone(), was_open.clone());
+        shop.calls("client", move || {
+            let told = completed(&stage);
+            *sees.get() = told == "unknown" && !looks.is_settled("order", "promise");
+        });
+        world.at_end("what wasn't there doesn't come", move || !*was_open.get() || !store.is_settled("order", "promise"));
+    });
+    let told: Vec<&str> = report.failed[0].told.iter().map(|it| &*it.text).collect();
+    assert!(told.contains(&"the put that was on its way comes: puts to order: promise is completed"), "{report}");
+}
+
+#[test]
 fn bounds_are_for_each_order() {
     let report = orders(|world| {
         let (store, asked) = (world.store(Bounds::new().unanswered(2)), Shared::<u32>::default());
@@ -199,7 +216,7 @@ fn a_killed_process_does_nothing_more() {
         };
         let functions = Functions::new().with("slow", 1, slow);
         store.worker("one", &functions).request("order").unwrap().supply("slow", &[]).unwrap();
-        store.process("shop", &functions).open("order").unwrap();
+        store.process("shop", &Functions::new()).open("order").unwrap();
         world.end_is(move || format!("{} {}", log.get().join("+"), &store.outcomes()[0][12..16]));
     });
     assert_eq!(ends(&report), [" ends", " is o", "begun ends", "begun+ended ends"]);
