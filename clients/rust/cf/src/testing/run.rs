@@ -70,20 +70,17 @@ impl Run {
                 keys.push(Move::By(number, caller.called));
             }
         }
-        let limits = limits(state);
-        let are_limits_alone = keys.is_empty();
+        let (limits, settings, is_shared) = (limits(state), state.settings, state.sharing.is_some());
+        drop(guard);
         keys.extend(&limits);
-        if guard.sharing.is_some() {
-            drop(guard);
+        if is_shared {
             let stored = self.stored_moves(keys.is_empty());
             keys.extend(stored.into_iter().map(Move::Stored));
-            guard = self.lock();
         }
-        let state = &*guard;
-        let are_limits_alone = are_limits_alone && keys.len() == limits.len();
+        let are_limits_alone = keys.len() == limits.len();
         // It may be at any moment that no limit passes any more, and comes to the same at the end; but for what is left out the move has to be
         // there as long as the limits are.
-        if state.settings.free_clock && !limits.is_empty() && (state.settings.reduce || are_limits_alone) {
+        if settings.free_clock && !limits.is_empty() && (settings.reduce || are_limits_alone) {
             keys.push(Move::Stop);
         }
         keys
