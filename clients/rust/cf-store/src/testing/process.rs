@@ -127,9 +127,13 @@ impl Host for ProcessHost {
     }
 
     fn until(&self, name: &str, is_so: Arc<dyn Fn() -> bool + Send + Sync>, wait: Option<Duration>) {
-        if let (Some(wait), Some(thread)) = (wait, self.shop.own_thread(self.number)) {
-            let (is_so, name) = (Arc::clone(&is_so), name.to_owned());
-            self.shop.work(self.number, |work| work.wait_late(thread, name, wait, is_so));
+        match (wait, self.shop.own_thread(self.number)) {
+            (Some(wait), Some(thread)) => {
+                let (is_so, name) = (Arc::clone(&is_so), name.to_owned());
+                self.shop.work(self.number, |work| work.wait_late(thread, name, wait, is_so));
+            }
+            (Some(_), None) => self.shop.seam.fail(format!("who waits so long for {name} is no thread of its process: take Process::calls")),
+            (None, _) => {}
         }
         self.shop.seam.wait(name.into(), Waits::Until(Box::new(move || is_so())));
         if let Some(thread) = self.shop.own_thread(self.number) {

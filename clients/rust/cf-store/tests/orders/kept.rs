@@ -122,7 +122,10 @@ impl Said {
 #[derive(Clone)]
 struct Kept {
     shared: Shared<[usize; SHARED]>,
-    log: Shared<Vec<String>>,
+    /// What functions that are marked share.
+    log: Shared<Vec<usize>>,
+    /// What the client was told.
+    told: Shared<Vec<String>>,
     stages: Shared<Vec<Stage>>,
 }
 
@@ -131,7 +134,7 @@ impl Kept {
         match mark {
             Mark::Pure => return Ok(given),
             Mark::Touches => {
-                self.log.get().push(given.to_string());
+                self.log.get().push(given);
                 return Ok(given);
             }
             Mark::None => {}
@@ -198,11 +201,11 @@ impl Kept {
             StoreError::Unknown(_) => "unknown".into(),
             error => error.to_string(),
         });
-        self.log.get().push(told);
+        self.told.get().push(told);
     }
 
     fn end(&self, store: &WorldStore) -> String {
-        format!("{:?} {:?} {:?}", store.outcomes(), *self.shared.get(), *self.log.get())
+        format!("{:?} {:?} {:?} {:?}", store.outcomes(), *self.shared.get(), *self.log.get(), *self.told.get())
     }
 }
 
@@ -211,7 +214,7 @@ fn name(act: usize, arguments: usize) -> String {
 }
 
 fn run(program: &Program, world: &World) {
-    let made = Kept { shared: Shared::default(), log: Shared::default(), stages: Shared::default() };
+    let made = Kept { shared: Shared::default(), log: Shared::default(), told: Shared::default(), stages: Shared::default() };
     let (functions, store) = (made.functions(program.acts), world.store(program.bounds));
     for (number, act) in program.acts.iter().enumerate() {
         (0..3).for_each(|arguments| match act.2 {
@@ -267,7 +270,7 @@ fn compared(seed: u64, most: u64) -> Option<(u64, u64, Option<String>)> {
 
 #[test]
 fn random_programs_come_to_the_same_ends() {
-    let said = std::env::var("CF_PROGRAMS").unwrap_or_else(|_| "0 40 200".into());
+    let said = std::env::var("CF_PROGRAMS").unwrap_or_else(|_| "0 20 60".into());
     let numbers: Vec<u64> = said.split_whitespace().map(|word| word.parse().unwrap()).collect();
     let (first, count, most) = (numbers[0], numbers[1], numbers[2]);
     let (mut programs, mut all, mut tried, mut otherwise) = (0, 0, 0, Vec::new());

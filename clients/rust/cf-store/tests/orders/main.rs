@@ -283,6 +283,15 @@ fn a_wait_may_end_before() {
 }
 
 #[test]
+fn only_a_thread_of_the_process_waits_for_so_long() {
+    let report = orders(|world| {
+        let sign = world.store(Bounds::new()).process("shop", &Functions::new()).request("order").unwrap().promise("a sign").unwrap();
+        world.calls("client", move || sign.wait_timeout::<Value>(Duration::from_secs(5)));
+    });
+    assert!(report.failed[0].why.starts_with("who waits so long for a sign is no thread of its process"), "{report}");
+}
+
+#[test]
 fn a_limit_in_the_store_may_pass_at_any_moment() {
     let report = orders(|world| {
         let store = world.store(Bounds::new());
