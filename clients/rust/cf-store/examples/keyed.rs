@@ -1,10 +1,11 @@
 //! The checkout of killed.rs, by a bank that knows an order that it has charged.
-use cf::testing::{orders, World};
+use cf::testing::{Orders, World};
 use cf_store::testing::{Bounds, Stores};
 use cf_store::Functions;
 use serde_json::json;
 use std::collections::BTreeSet;
 use std::sync::{Arc, Mutex};
+use std::time::Duration;
 
 fn checkout(world: &World) {
     let charges = Arc::new(Mutex::new((BTreeSet::new(), 0)));
@@ -22,6 +23,6 @@ fn checkout(world: &World) {
 }
 
 fn main() {
-    let report = orders(checkout);
+    let report = Orders::new().time(Duration::from_secs(60)).run(checkout);
     println!("{} of {} orders fail, and the others come to the same: {}", report.failed.len(), report.orders, report.whole);
 }
