@@ -110,6 +110,7 @@ def rows_of_rust(tools: Tools, made: Path) -> List[Row]:
     """Without the crates of others, so that nothing but the project's own is built, and once over Debian's."""
     python, offline, needs = tools["python3"], "clients/rust/offline", ["library", "cargo", "python3"]
     testing = [python, offline, "run", "-q", "-p", "cf", "--features", "testing", "--example"]
+    stored = [python, offline, "--debian", "run", "-q", "-p", "cf-store", "--features", "testing", "--example"]
     return [
         Row("Rust's tests", needs, [[python, offline, "test", "-q", "--lib", "--tests", "--examples"]]),
         Row("Rust's tests under tokio, rayon, serde and tracing", [*needs, DEBIANS],
@@ -124,6 +125,10 @@ def rows_of_rust(tools: Tools, made: Path) -> List[Row]:
         Row("services of Rust's in every order", needs, [[python, offline, "test", "-q", "-p", "cf", "--features", "testing", "--lib", "--test", "orders"]]),
         Row("Rust's order that charges twice", needs, [[*testing, "twice"]], ("docs/TESTING.md", "twice.rs")),
         Row("Rust's orders that charge once", needs, [[*testing, "once"]], ("docs/TESTING.md", "once.rs")),
+        Row("services of Rust's over a store in every order", [*needs, DEBIANS],
+            [[python, offline, "--debian", "test", "-q", "-p", "cf-store", "--features", "testing", kind] for kind in ["--tests", "--doc"]]),
+        Row("Rust's order over a store that charges twice", [*needs, DEBIANS], [[*stored, "killed"]], ("docs/TESTING.md", "killed.rs")),
+        Row("Rust's orders over a store that charge once", [*needs, DEBIANS], [[*stored, "keyed"]], ("docs/TESTING.md", "keyed.rs")),
         Row("random orders of Rust's requests beside explore", [*needs, "cf_look"],
             [[python, "conformance/clients/rust-orders", "short", "0", "100", tools["cf_look"]]]),
         Row("the examples of Rust's pages", needs, [[python, offline, "test", "-q", "--doc", "--features", "cf/testing"]]),

@@ -7,7 +7,6 @@ use serde_json::{Map, Value};
 use std::any::Any;
 use std::collections::BTreeMap;
 use std::fmt;
-use std::panic::{catch_unwind, AssertUnwindSafe};
 use std::sync::Arc;
 
 type Call = dyn Fn(Vec<Value>) -> Result<Value, Failed> + Send + Sync;
@@ -142,12 +141,10 @@ impl Known {
     }
 }
 
-/// Calls a function; what it panics with is a failure.
-pub(crate) fn call<T>(function: impl FnOnce() -> Result<T, Failed>) -> Result<T, Failed> {
-    catch_unwind(AssertUnwindSafe(function)).unwrap_or_else(|panic| {
-        let text = panic.downcast_ref::<&str>().map(|it| (*it).to_owned());
-        Err(Failed::new("Panic", text.or_else(|| panic.downcast_ref::<String>().cloned()).unwrap_or_else(|| "it panicked".into())))
-    })
+/// What a function comes to that panics.
+pub(crate) fn panicked(panic: &(dyn Any + Send)) -> Failed {
+    let text = panic.downcast_ref::<&str>().map(|it| (*it).to_owned());
+    Failed::new("Panic", text.or_else(|| panic.downcast_ref::<String>().cloned()).unwrap_or_else(|| "it panicked".into()))
 }
 
 fn read<T: DeserializeOwned>(args: &mut std::vec::IntoIter<Value>) -> Result<T, Failed> {

@@ -1,8 +1,8 @@
 //! What happened to a request, told as texts by the library. The row has no times, and names sessions by their numbers.
 use crate::error::{Failed, StoreError};
 use crate::plan;
-use crate::store::{Opened, Store};
-use crate::view::sure;
+use crate::service::Shared;
+use crate::store::Opened;
 use cf_graph::{Answer, Call, Entry, Event, Refused, Said, Tale, Telling, Value};
 use serde_json::Value as Json;
 use std::collections::BTreeMap;
@@ -56,20 +56,20 @@ impl What<'_> {
 }
 
 impl History {
-    pub(crate) fn new(store: &dyn Store, opened: Opened, tells: impl Fn(What<'_>) -> String) -> Result<History, StoreError> {
-        let entries = sure(|| store.read(&opened.name, opened.number, 0))?;
+    pub(crate) fn new(service: &Shared, opened: Opened, tells: impl Fn(What<'_>) -> String) -> Result<History, StoreError> {
+        let entries = service.sure(|| service.store.read(&opened.name, opened.number, 0))?;
         let names = plan::read(&opened.plan, &opened.name)?.stages.into_iter().map(|(_, _, said)| said.name).collect();
         let (values, errors) = (vec![String::new(); entries.len() + 1], vec![String::new(); entries.len() + 1]);
         let mut made = History { opened, entries, attached: 0, names, values, errors };
         for (k, entry) in made.entries.clone().into_iter().enumerate() {
-            made.read(store, k + 1, entry.word, &tells)?;
+            made.read(service, k + 1, entry.word, &tells)?;
         }
         made.tale()?; // (each of its words can be done)
         Ok(made)
     }
 
     /// Takes in what the payload of a word says.
-    fn read(&mut self, store: &dyn Store, place: usize, word: u64, tells: &impl Fn(What<'_>) -> String) -> Result<(), StoreError> {
+    fn read(&mut self, service: &Shared, place: usize, word: u64, tells: &impl Fn(What<'_>) -> String) -> Result<(), StoreError> {
         let broken = |why: &dyn std::fmt::Display| StoreError::broken(&self.opened.name, place, why);
         let names = match Event::of_word(word).map_err(|refused| broken(&refused))?.call {
             Call::Complete(_, Value::Int(_)) | Call::Finish(_, Answer::Give(Value::Int(_))) => Names::Value,
@@ -77,7 +77,7 @@ impl History {
             Call::Attach(..) => Names::Stage,
             _ => return Ok(()),
         };
-        let payload = sure(|| store.payload(&self.opened.name, self.opened.number, place))?;
+        let payload = service.sure(|| service.store.payload(&self.opened.name, self.opened.number, place))?;
         let payload = payload.ok_or_else(|| broken(&"no payload is there, and a word names it"))?;
         let unreadable = |why: serde_json::Error| broken(&format!("its payload can't be read: {why}"));
         match names {

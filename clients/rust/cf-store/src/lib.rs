@@ -19,7 +19,9 @@
 //! | `history.rs` | what happened to a request, as texts: [`History`] |
 //! | `view.rs` | what this session knows of one row, and how it puts words there |
 //! | `request.rs` | what a program has of a request: [`Request`], [`Stage`] |
+//! | `host.rs` | time, threads and chance, in whose place a search of all orders has its own |
 //! | `service.rs` | the threads that run functions, and the pump, which looks what is new: [`Service`] |
+//! | `testing` | a service's own code in every order, over rows in memory that processes share |
 //! | `error.rs` | how a stage ends without a value, and what a store refuses: [`Error`], [`StoreError`] |
 //!
 //! ```no_run
@@ -55,6 +57,7 @@ mod etcd;
 mod flow;
 mod functions;
 mod history;
+mod host;
 #[cfg(feature = "etcd")]
 mod http;
 mod plan;
@@ -65,6 +68,8 @@ mod service;
 #[cfg(feature = "sqlite")]
 mod sqlite;
 mod store;
+#[cfg(feature = "testing")]
+pub mod testing;
 mod view;
 
 pub use cf_graph::Entry;

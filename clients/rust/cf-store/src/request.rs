@@ -3,6 +3,7 @@ use crate::context;
 use crate::error::{Error, Failed, StoreError};
 use crate::flow::Step;
 use crate::history::{History, What};
+use crate::host::Host;
 use crate::plan::Said;
 use crate::service::Shared;
 use crate::store::Timer;
@@ -14,7 +15,7 @@ use serde_json::{json, Map, Value as Json};
 use std::cell::Cell;
 use std::fmt;
 use std::sync::atomic::{AtomicBool, AtomicUsize, Ordering};
-use std::sync::{Arc, Condvar, Mutex, MutexGuard, PoisonError};
+use std::sync::{Arc, Condvar, Mutex, MutexGuard, PoisonError, TryLockError};
 use std::time::{Duration, Instant};
 
 /// A request in a store: [`Service::request`](crate::Service::request) and [`open`](crate::Service::open) give one. Any thread may use it, and
@@ -48,10 +49,11 @@ thread_local! {
 pub(crate) struct Inner {
     pub(crate) name: String,
     pub(crate) number: i64,
-    view: Mutex<View>,
-    /// Taken before the view by who puts. Where a store lets nobody else put during a transaction, a transactional function runs with it: this
+    host: Arc<dyn Host>,
+    view: Arc<Mutex<View>>,
+    /// Where a store lets nobody else put during a transaction: taken before the view by who puts, and a transactional function runs with it. So this
     /// process's other threads wait there then, and not in the store with the view, which the function's finish needs.
-    writes: Mutex<()>,
+    writes: Option<Mutex<()>>,
     /// Told when stages were settled, and when the service ends.
     changed: Condvar,
     /// How many entries were seen.
@@ -64,25 +66,32 @@ pub(crate) struct Inner {
     pub(crate) reopens: AtomicBool,
     /// Why it can't be gone on with.
     fault: Mutex<Option<StoreError>>,
+    /// The stages that somebody was given.
+    #[cfg(feature = "testing")]
+    pub(crate) given: Mutex<std::collections::BTreeSet<u16>>,
 }
 
 impl Inner {
-    pub(crate) fn new(view: View) -> Inner {
+    pub(crate) fn new(view: View, host: &Arc<dyn Host>, locks_out: bool) -> Inner {
         Inner {
             name: view.opened.name.clone(),
             number: view.opened.number,
             seen: AtomicUsize::new(view.seen()),
-            view: Mutex::new(view),
-            writes: Mutex::new(()),
+            host: Arc::clone(host),
+            view: Arc::new(Mutex::new(view)),
+            writes: locks_out.then(Mutex::default),
             changed: Condvar::new(),
             is_queued: AtomicBool::new(false),
             is_closed: AtomicBool::new(false),
             reopens: AtomicBool::new(false),
             fault: Mutex::new(None),
+            #[cfg(feature = "testing")]
+            given: Mutex::default(),
         }
     }
 
     pub(crate) fn view(&self) -> MutexGuard<'_, View> {
+        self.host.until_free(&self.view);
         self.view.lock().unwrap_or_else(PoisonError::into_inner)
     }
 
@@ -111,16 +120,20 @@ impl Inner {
             let why = "its transactional function can't put to it: that takes the place of its finish";
             return Err(StoreError::Refused(format!("request {:?}: {why}", self.name)));
         }
-        let _writes = self.writes.lock().unwrap_or_else(PoisonError::into_inner);
+        let _writes = self.writing();
         let mut view = self.view();
         let told = view.act(decide);
         self.show(view);
         told.map(|(done, _)| done)
     }
 
+    fn writing(&self) -> Option<MutexGuard<'_, ()>> {
+        self.writes.as_ref().map(|it| it.lock().unwrap_or_else(PoisonError::into_inner))
+    }
+
     /// Runs a transactional function of it, and what comes before and behind that in its transaction.
-    pub(crate) fn transacting<T>(&self, locks_out: bool, act: impl FnOnce() -> T) -> T {
-        let _writes = locks_out.then(|| self.writes.lock().unwrap_or_else(PoisonError::into_inner));
+    pub(crate) fn transacting<T>(&self, act: impl FnOnce() -> T) -> T {
+        let _others_wait = self.writing();
         TRANSACTS.with(|it| it.set(self as *const Inner as usize));
         let told = act(); // (it doesn't panic: what a function panics with is its failure)
         TRANSACTS.with(|it| it.set(0));
@@ -200,7 +213,7 @@ impl Request {
     /// The stage of a number, in the order in which they were attached, if there is one by what this process has read.
     pub fn stage(&self, number: u16) -> Option<Stage> {
         let there = usize::from(number) < self.inner.view().len();
-        there.then(|| Stage { request: self.clone(), number })
+        there.then(|| Stage::of(self, number))
     }
 
     /// The first stage of a name, if there is one.
@@ -209,7 +222,7 @@ impl Request {
         let mut view = self.inner.view();
         for number in 0..view.len() as u16 {
             if view.said(number)?.name == name {
-                return Ok(Some(Stage { request: self.clone(), number }));
+                return Ok(Some(Stage::of(self, number)));
             }
         }
         Ok(None)
@@ -228,7 +241,7 @@ impl Request {
     /// The same, of which `tells` says what is told of a value or an error: less than all, where a history is to hold no secrets.
     pub fn history_by(&self, tells: impl Fn(What<'_>) -> String) -> Result<History, StoreError> {
         let opened = self.inner.view().opened.clone();
-        History::new(&*self.service.store, opened, tells)
+        History::new(&self.service, opened, tells)
     }
 
     /// Closes the request: nothing is left to do in it, and workers look at it no more. Its timers are forgotten. A flow's request is closed by itself
@@ -282,7 +295,7 @@ impl Request {
         self.service.serve(&self.inner);
         reopened?;
         match done?.last().map(|it| it.reply) {
-            Some(Reply::Attached(Some(number))) => Ok(Stage { request: self.clone(), number }),
+            Some(Reply::Attached(Some(number))) => Ok(Stage::of(self, number)),
             _ => Err(StoreError::Full),
         }
     }
@@ -321,6 +334,12 @@ impl Request {
 }
 
 impl Stage {
+    fn of(request: &Request, number: u16) -> Stage {
+        #[cfg(feature = "testing")]
+        request.inner.given.lock().unwrap_or_else(PoisonError::into_inner).insert(number);
+        Stage { request: request.clone(), number }
+    }
+
     /// Its number in the request.
     pub fn number(&self) -> u16 {
         self.number
@@ -457,12 +476,12 @@ impl Stage {
 
     /// The same, for so long at most: nothing where the stage isn't settled by then.
     pub fn wait_timeout<T: DeserializeOwned>(&self, wait: Duration) -> Result<Option<T>, Error> {
-        self.wait_until(Some(Instant::now() + wait))
+        self.wait_until(Some(self.request.service.host.now() + wait))
     }
 
     /// What the stage has come to by what this process has read, if it is settled.
     pub fn peek<T: DeserializeOwned>(&self) -> Result<Option<T>, Error> {
-        self.wait_until(Some(Instant::now()))
+        self.wait_until(Some(self.request.service.host.now()))
     }
 
     fn wait_until<T: DeserializeOwned>(&self, until: Option<Instant>) -> Result<Option<T>, Error> {
@@ -482,13 +501,37 @@ impl Stage {
             if self.request.service.is_over() {
                 return Err(StoreError::Refused("the service is shut down".into()).into());
             }
-            let left = until.map(|it| it.saturating_duration_since(Instant::now()));
+            let left = until.map(|it| it.saturating_duration_since(inner.host.now()));
             if left == Some(Duration::ZERO) {
                 return Ok(None);
             }
-            let wait = left.unwrap_or(Duration::from_secs(3600));
-            view = inner.changed.wait_timeout(view, wait).unwrap_or_else(PoisonError::into_inner).0;
+            view = self.rest(view, left);
         }
+    }
+
+    /// Waits until something was changed, or so long.
+    fn rest<'a>(&'a self, mut view: MutexGuard<'a, View>, left: Option<Duration>) -> MutexGuard<'a, View> {
+        let inner = &self.request.inner;
+        if inner.host.has_threads() {
+            let wait = left.unwrap_or(Duration::from_secs(3600));
+            return inner.changed.wait_timeout(view, wait).unwrap_or_else(PoisonError::into_inner).0;
+        }
+        let name = view.said(self.number).map(|said| said.name).unwrap_or_default();
+        drop(view);
+        let (its, number) = (Arc::clone(inner), self.number);
+        let is_faulty = move || its.fault.lock().unwrap_or_else(PoisonError::into_inner).is_some();
+        let view = Arc::clone(&inner.view);
+        inner.host.until(&name, Arc::new(move || is_shown(&view, number) || is_faulty()), left);
+        inner.view()
+    }
+}
+
+/// Whether a view, if nobody has it, knows that a stage is settled.
+fn is_shown(view: &Mutex<View>, stage: u16) -> bool {
+    match view.try_lock() {
+        Ok(view) => view.is_settled(stage),
+        Err(TryLockError::Poisoned(view)) => view.into_inner().is_settled(stage),
+        Err(TryLockError::WouldBlock) => false,
     }
 }
 

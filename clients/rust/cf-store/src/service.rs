@@ -2,11 +2,12 @@
 use crate::context;
 use crate::error::{Error, Failed, StoreError, ABANDONED};
 use crate::flow::Flow;
-use crate::functions::{self, Functions, Kind};
+use crate::functions::{Functions, Kind};
+use crate::host::{Host, Machine};
 use crate::plan::{self, Said};
 use crate::request::{finish, fired, payload_of, Given, Inner, Request};
 use crate::store::{Mark, Opened, Store, Timer, Transaction};
-use crate::view::{by_chance, bytes_of, sure, View, Wanted, SESSION_BITS};
+use crate::view::{bytes_of, sure, View, Wanted, SESSION_BITS};
 use cf_graph::{Args, Call, Claimed, Form, Outcome, Reply, State};
 use serde_json::{Map, Value as Json};
 use std::any::Any;
@@ -51,16 +52,17 @@ impl Default for Options {
 /// what is open stays in the store, and others go on with it.
 #[derive(Debug)]
 pub struct Service {
-    shared: Arc<Shared>,
+    pub(crate) shared: Arc<Shared>,
     threads: Vec<JoinHandle<()>>,
 }
 
 /// What the threads of a service have in common.
 pub(crate) struct Shared {
     pub(crate) store: Arc<dyn Store>,
+    pub(crate) host: Arc<dyn Host>,
     pub(crate) functions: Functions,
-    options: Options,
-    session: u64,
+    pub(crate) options: Options,
+    pub(crate) session: u64,
     requests: Mutex<BTreeMap<String, Kept>>,
     jobs: Mutex<VecDeque<Job>>,
     work: Condvar,
@@ -80,7 +82,7 @@ enum Kept {
     Broken,
 }
 
-enum Job {
+pub(crate) enum Job {
     Look(Arc<Inner>),
     Fire(Timer),
     LetGo(Arc<Inner>),
@@ -121,14 +123,19 @@ impl Service {
 
     /// The same with options. [`StoreError::Refused`] where a function is transactional, and the store has no transactions.
     pub fn with(store: impl Store + 'static, functions: Functions, options: Options) -> Result<Service, StoreError> {
+        Service::hosted(Arc::new(store), functions, options, Arc::new(Machine))
+    }
+
+    pub(crate) fn hosted(store: Arc<dyn Store>, functions: Functions, options: Options, host: Arc<dyn Host>) -> Result<Service, StoreError> {
         if functions.transact() && !store.transacts() {
             return Err(StoreError::Refused("the store has no transactions that a function can take part in".into()));
         }
         let shared = Arc::new(Shared {
-            store: Arc::new(store),
+            store,
             functions,
-            watcher: Mutex::new(Watcher { seen: BTreeMap::new(), time: Duration::ZERO, last: Instant::now(), lease: options.lease }),
-            session: by_chance(SESSION_BITS),
+            watcher: Mutex::new(Watcher { seen: BTreeMap::new(), time: Duration::ZERO, last: host.now(), lease: options.lease }),
+            session: host.number(SESSION_BITS),
+            host,
             requests: Mutex::default(),
             jobs: Mutex::default(),
             work: Condvar::new(),
@@ -138,6 +145,9 @@ impl Service {
             options,
         });
         let mut service = Service { shared, threads: Vec::new() };
+        if !service.shared.host.has_threads() {
+            return Ok(service);
+        }
         // (where one can't be started, those that were end as the service is dropped)
         service.begin("cf-store-pump", Shared::pump)?;
         for number in 0..service.shared.options.threads.max(1) {
@@ -227,11 +237,11 @@ impl Shared {
     }
 
     pub(crate) fn sure<T>(&self, call: impl FnMut() -> Result<T, StoreError>) -> Result<T, StoreError> {
-        sure(call)
+        sure(&*self.host, call)
     }
 
     fn warn(&self, name: &str, what: &dyn fmt::Display) {
-        (self.options.warns)(&format!("request {name:?}: {what}"));
+        self.host.warns(self.options.warns, name, &format!("request {name:?}: {what}"));
     }
 
     fn jobs(&self) -> MutexGuard<'_, VecDeque<Job>> {
@@ -239,6 +249,7 @@ impl Shared {
     }
 
     fn submit(&self, job: Job) {
+        let Some(job) = self.host.takes(job) else { return };
         self.jobs().push_back(job);
         self.work.notify_one();
     }
@@ -262,7 +273,11 @@ impl Shared {
             known.catch_up()?;
             return Ok(known);
         }
-        let made = Arc::new(Inner::new(View::new(Arc::clone(&self.store), found, self.session)?));
+        let made = Arc::new(Inner::new(
+            View::new(Arc::clone(&self.store), Arc::clone(&self.host), found, self.session)?,
+            &self.host,
+            self.store.locks_out(),
+        ));
         made.catch_up()?;
         let mut requests = locked(&self.requests);
         if let Some(Kept::Open(known)) = requests.get(&made.name) {
@@ -287,8 +302,24 @@ impl Shared {
         Some(known)
     }
 
-    fn is_broken(&self, name: &str) -> bool {
+    pub(crate) fn is_broken(&self, name: &str) -> bool {
         matches!(locked(&self.requests).get(name), Some(Kept::Broken))
+    }
+
+    /// A request that is known here, as it is.
+    #[cfg(feature = "testing")]
+    pub(crate) fn kept_as(&self, name: &str) -> Option<Arc<Inner>> {
+        match locked(&self.requests).get(name)? {
+            Kept::Open(inner) => Some(Arc::clone(inner)),
+            Kept::Closed(inner) => inner.upgrade(),
+            Kept::Broken => None,
+        }
+    }
+
+    /// Whether a timer of a stage is being fired.
+    #[cfg(feature = "testing")]
+    pub(crate) fn is_firing(&self, timer: &Timer) -> bool {
+        locked(&self.firing).contains(&(timer.request.clone(), timer.stage))
     }
 
     fn all(&self) -> Vec<Arc<Inner>> {
@@ -319,6 +350,7 @@ impl Shared {
     fn give_up(&self, name: &str, inner: Option<&Arc<Inner>>, error: &StoreError) {
         if matches!(error, StoreError::Broken { .. } | StoreError::Gone(_)) {
             self.warn(name, error);
+            self.host.breaks(error);
             let mut requests = locked(&self.requests);
             match error {
                 StoreError::Broken { .. } => drop(requests.insert(name.into(), Kept::Broken)),
@@ -352,25 +384,25 @@ impl Shared {
     // The pump: what is new, who is gone, what is due.
 
     fn pump(self: &Arc<Shared>) {
-        let (mut next_beat, mut next_look, mut mark, mut is_named) = (Instant::now(), Instant::now(), None, false);
+        let (mut next_beat, mut next_look, mut mark, mut is_named) = (self.host.now(), self.host.now(), None, false);
         while !self.is_over() {
             let pause = LONGEST_PAUSE.min(self.options.lease / 5);
             let round = self.round(&mut next_beat, &mut next_look, &mut mark, &mut is_named).and_then(|()| self.store.changed(pause));
             if let Err(error) = round {
                 (self.options.warns)(&error.to_string());
-                thread::sleep(LONGEST_PAUSE);
+                self.host.sleep(LONGEST_PAUSE);
             }
         }
     }
 
-    fn round(
+    pub(crate) fn round(
         self: &Arc<Shared>,
         next_beat: &mut Instant,
         next_look: &mut Instant,
         mark: &mut Option<Mark>,
         is_named: &mut bool,
     ) -> Result<(), StoreError> {
-        let now = Instant::now();
+        let now = self.host.now();
         let looks = now >= *next_beat;
         if looks {
             *next_beat = now + self.options.lease / 5;
@@ -396,13 +428,13 @@ impl Shared {
         Ok(())
     }
 
-    fn beat(&self, is_named: &mut bool) -> Result<(), StoreError> {
+    pub(crate) fn beat(&self, is_named: &mut bool) -> Result<(), StoreError> {
         self.store.beat(self.session)?;
         if !*is_named {
             self.store.name_session(self.session, &format!("rust {}", std::process::id()))?;
             *is_named = true;
         }
-        let gone = locked(&self.watcher).look(self.store.beats());
+        let gone = locked(&self.watcher).look(self.host.now(), self.store.beats());
         gone.into_iter().try_for_each(|session| self.store.drop_beat(session))
     }
 
@@ -487,7 +519,7 @@ impl Shared {
         }
     }
 
-    fn do_job(self: &Arc<Shared>, job: &Job) {
+    pub(crate) fn do_job(self: &Arc<Shared>, job: &Job) {
         let (name, inner, told) = match job {
             Job::Look(inner) => (&inner.name, Some(inner), self.work_on(inner)),
             Job::LetGo(inner) => (&inner.name, Some(inner), self.let_go(inner)),
@@ -583,7 +615,7 @@ impl Shared {
                 (Err(StoreError::Refused(why)), Some((_, result))) if !self.is_over() => {
                     self.warn(&inner.name, &why);
                     *result = Err(Failed::new("StoreError", why));
-                    thread::sleep(LONGEST_PAUSE);
+                    self.host.sleep(LONGEST_PAUSE);
                 }
                 (Err(error), _) => return Err(error),
             }
@@ -639,6 +671,15 @@ impl Shared {
     /// Whether a stage's function is registered here, as one of the kind that the stage calls, and with names for its arguments where the stage gives
     /// some by name. Others may have it.
     fn knows(&self, view: &mut View, name: &str, stage: u16) -> Result<bool, StoreError> {
+        let Some((function, version)) = self.lacks(view, stage)? else { return Ok(true) };
+        if locked(&self.unknown).insert((function.clone(), version)) {
+            self.warn(name, &format!("stage {stage}: function {function:?}, version {version}, isn't known here"));
+        }
+        Ok(false)
+    }
+
+    /// The name and version of a stage's function that can't be called here.
+    pub(crate) fn lacks(&self, view: &mut View, stage: u16) -> Result<Option<(String, u32)>, StoreError> {
         let (said, _) = self.said(view, stage)?;
         let (function, version) = (said.function.unwrap_or_default(), said.version.unwrap_or_default());
         let form = view.form(stage).0;
@@ -650,12 +691,13 @@ impl Shared {
             fits && (said.kwargs.is_empty() || !known.names.is_empty())
         });
         if knows && form == Form::Compose && said.to.is_none() {
-            return Err(StoreError::broken(name, view.attached(stage), format!("stage {stage} composes, and no promise is named for what comes")));
+            return Err(StoreError::broken(
+                &view.opened.name,
+                view.attached(stage),
+                format!("stage {stage} composes, and no promise is named for what comes"),
+            ));
         }
-        if !knows && locked(&self.unknown).insert((function.clone(), version)) {
-            self.warn(name, &format!("stage {stage}: function {function:?}, version {version}, isn't known here"));
-        }
-        Ok(knows)
+        Ok((!knows).then_some((function, version)))
     }
 
     /// What is to be done for a stage that was claimed.
@@ -696,19 +738,20 @@ impl Shared {
         let missing = || Failed::new("LookupError", format!("function {:?}, version {}, isn't known here", task.name, task.version));
         let known = self.functions.of(&task.name, task.version).ok_or_else(missing)?;
         let args = known.in_order(args, task.named.clone())?;
-        let call = || match (&known.kind, connection) {
-            (Kind::Plain(function), _) => function(args).map(Given::Value),
-            (Kind::Transacts(function), Some(connection)) => function(connection, args).map(Given::Value),
-            (Kind::Transacts(_), None) => Err(missing()),
-            (Kind::Composes(function), _) => {
+        let mut given = Some((args, connection));
+        let mut call = || match (&known.kind, given.take()) {
+            (Kind::Plain(function), Some((args, _))) => function(args).map(Given::Value),
+            (Kind::Transacts(function), Some((args, Some(connection)))) => function(connection, args).map(Given::Value),
+            (Kind::Composes(function), Some((args, _))) => {
                 let given = function(&Request { inner: Arc::clone(inner), service: Arc::clone(self) }, args)?;
                 match task.to.filter(|_| Arc::ptr_eq(&given.request.inner, inner)) {
                     Some(promise) => Ok(Given::Stage { promise, stage: given.number }),
                     None => Err(Failed::new("TypeError", format!("{} has to give a stage of its request", task.name))),
                 }
             }
+            (Kind::Transacts(_), Some((_, None))) | (_, None) => Err(missing()),
         };
-        context::within(task.carried.clone(), || functions::call(call))
+        context::within(task.carried.clone(), || self.host.call(&task.name, &mut call))
     }
 
     /// The function's effect and the word of its finish stand or fall together. Where the finish's place was taken meanwhile, or the connection is
@@ -717,7 +760,7 @@ impl Shared {
     fn in_transaction(self: &Arc<Shared>, inner: &Arc<Inner>, task: &Task) -> Result<Ended, StoreError> {
         loop {
             let mut is_open = false;
-            let told = inner.transacting(self.store.locks_out(), || {
+            let told = inner.transacting(|| {
                 let mut transaction = self.store.transaction()?;
                 is_open = true;
                 self.tried(inner, task, &mut *transaction)
@@ -733,7 +776,7 @@ impl Shared {
                 Err(error) if self.is_over() => return Err(error),
                 Err(error) => {
                     self.warn(&inner.name, &error);
-                    thread::sleep(BETWEEN_TRANSACTIONS);
+                    self.host.sleep(BETWEEN_TRANSACTIONS);
                 }
             }
         }
@@ -851,8 +894,7 @@ struct Watcher {
 
 impl Watcher {
     /// Takes in all beats, and gives the sessions that are long gone. While the store is away nobody can beat.
-    fn look(&mut self, beats: Result<BTreeMap<u64, i64>, StoreError>) -> Vec<u64> {
-        let now = Instant::now();
+    fn look(&mut self, now: Instant, beats: Result<BTreeMap<u64, i64>, StoreError>) -> Vec<u64> {
         self.time += (now - self.last).min(self.lease / 2);
         self.last = now;
         let Ok(beats) = beats else {

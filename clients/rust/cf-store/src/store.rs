@@ -52,6 +52,7 @@ pub struct Timer {
 pub type Mark = (i64, i64);
 
 /// The entries of rows of a place, a word and a token, which stand behind `at` of them without a gap.
+#[cfg_attr(not(any(feature = "sqlite", feature = "postgres")), allow(dead_code))]
 pub(crate) fn in_a_row(name: &str, at: usize, rows: impl IntoIterator<Item = (i64, i64, i64)>) -> Result<Vec<Entry>, StoreError> {
     let mut entries = Vec::new();
     for (place, word, token) in rows {

@@ -1,13 +1,13 @@
 //! What this session knows of one request's row, and how it puts words there.
 use crate::error::{Error, Failed, StoreError};
+use crate::host::Host;
 use crate::plan::{self, Said};
 use crate::store::{Opened, Put, Store, Transaction};
 use cf_graph::{Call, Cause, Claimed, Entry, Event, Failure, Form, Of, Outcome, Refused, Reply, Row, RowOpening, State, Value};
 use serde_json::{Map, Value as Json};
 use std::collections::{BTreeMap, BTreeSet};
 use std::sync::Arc;
-use std::thread;
-use std::time::{Duration, Instant};
+use std::time::Duration;
 
 /// Bits of a token that count.
 const COUNT_BITS: u32 = 23;
@@ -18,14 +18,7 @@ const MOST_STAGES: usize = 4096;
 /// How many may be attached at first.
 const ROOM: usize = 8;
 /// How long the store may be silent.
-const PATIENCE: Duration = Duration::from_secs(60);
-
-/// A number of so many bits, by chance.
-pub(crate) fn by_chance(bits: u32) -> u64 {
-    let mut bytes = [0; 8];
-    getrandom::getrandom(&mut bytes).expect("the system has random numbers");
-    u64::from_ne_bytes(bytes) >> (64 - bits)
-}
+pub(crate) const PATIENCE: Duration = Duration::from_secs(60);
 
 /// Payloads by the places of their words.
 type Payloads = BTreeMap<usize, Vec<u8>>;
@@ -62,6 +55,7 @@ pub(crate) struct View {
     pub(crate) opened: Opened,
     pub(crate) session: u64,
     store: Arc<dyn Store>,
+    host: Arc<dyn Host>,
     row: Row,
     stages: Vec<Known>,
     /// How many stages the plan has.
@@ -86,10 +80,10 @@ pub(crate) struct View {
 }
 
 impl View {
-    pub(crate) fn new(store: Arc<dyn Store>, opened: Opened, session: u64) -> Result<View, StoreError> {
+    pub(crate) fn new(store: Arc<dyn Store>, host: Arc<dyn Host>, opened: Opened, session: u64) -> Result<View, StoreError> {
         let plan::SharedPlan { mut plan, stages, context } = plan::read(&opened.plan, &opened.name)?;
         // by chance: where two have one session, their tokens differ all the same; and half of all are left at least
-        let first = by_chance(COUNT_BITS - 1) as u32;
+        let first = host.number(COUNT_BITS - 1) as u32;
         let mut room = ROOM.min(MOST_STAGES - stages.len());
         let row = loop {
             match Row::new(&mut plan, RowOpening { room: room as u16, first, session }) {
@@ -102,7 +96,7 @@ impl View {
         let (links, unlinked, claims) = Default::default();
         let (found, doubt, own) = Default::default();
         let stages = stages.into_iter().map(known).collect();
-        Ok(View { opened, session, store, row, stages, planned, context, room, seen: 0, links, unlinked, claims, found, doubt, own })
+        Ok(View { opened, session, store, host, row, stages, planned, context, room, seen: 0, links, unlinked, claims, found, doubt, own })
     }
 
     /// How many entries were seen.
@@ -172,6 +166,12 @@ impl View {
         self.found.remove_entry(&stage)
     }
 
+    /// Whether there is such a claim.
+    #[cfg(feature = "testing")]
+    pub(crate) fn has_found(&self) -> bool {
+        !self.found.is_empty()
+    }
+
     pub(crate) fn put_back(&mut self, stage: u16, args: cf_graph::Args) {
         self.found.insert(stage, args);
     }
@@ -192,7 +192,7 @@ impl View {
     /// Does what others have put, and gives it.
     pub(crate) fn catch_up(&mut self) -> Result<Vec<Done>, StoreError> {
         let (name, number, seen) = (self.opened.name.clone(), self.opened.number, self.seen);
-        let entries = sure(|| self.store.read(&name, number, seen))?;
+        let entries = sure(&*self.host, || self.store.read(&name, number, seen))?;
         entries.into_iter().map(|entry| self.take(entry)).collect()
     }
 
@@ -210,7 +210,7 @@ impl View {
             let (entries, payloads) = self.planned_put(wanted)?;
             let store = Arc::clone(&self.store);
             let put = Put { request: &self.opened.name, number: self.opened.number, at: self.seen, entries: &entries, payloads: &payloads };
-            let stands = match sure(|| store.append(put)) {
+            let stands = match sure(&*self.host, || store.append(put)) {
                 Ok(stands) => stands.unwrap_or_else(|| entries.clone()),
                 Err(error) => {
                     self.leave_in_doubt(&entries)?;
@@ -226,8 +226,12 @@ impl View {
                 self.own.extend(payloads);
             }
             let mut done = Vec::with_capacity(stands.len());
-            for entry in stands {
-                done.push(self.take(entry)?);
+            for (number, entry) in stands.into_iter().enumerate() {
+                let it = self.take(entry)?;
+                if landed && number < entries.len() {
+                    self.tells(entry.word, &it);
+                }
+                done.push(it);
             }
             if landed {
                 others.extend(done.split_off(entries.len().min(done.len())));
@@ -312,7 +316,20 @@ impl View {
         }
         self.doubt.retain(|_, its| *its > place); // what was to stand here and doesn't never will
         self.take_news(call, place);
-        Ok(Done { call, reply })
+        let done = Done { call, reply };
+        if is_own {
+            self.tells(entry.word, &done);
+        }
+        Ok(done)
+    }
+
+    /// Says that a word of this view's stands, which was seen last.
+    fn tells(&self, word: u64, done: &Done) {
+        let granted = match (done.call, done.reply) {
+            (Call::Claim(stage), Reply::Claimed(Claimed::Granted(_))) => Some(stage),
+            _ => None,
+        };
+        self.host.stands(&self.opened.name, self.seen, word, granted);
     }
 
     /// Notes what the last entry settled.
@@ -403,7 +420,7 @@ impl View {
         match self.own.get(&place) {
             Some(own) => Ok(Some(own.clone())),
             None if place == 0 => Ok(None),
-            None => sure(|| self.store.payload(&self.opened.name, self.opened.number, place)),
+            None => sure(&*self.host, || self.store.payload(&self.opened.name, self.opened.number, place)),
         }
     }
 
@@ -527,12 +544,12 @@ fn named(call: Call, place: usize, has_payload: bool) -> Call {
 }
 
 /// What the store answers to a call that may be made again, whatever became of it before.
-pub(crate) fn sure<T>(mut call: impl FnMut() -> Result<T, StoreError>) -> Result<T, StoreError> {
-    let (until, mut pause) = (Instant::now() + PATIENCE, Duration::from_millis(10));
+pub(crate) fn sure<T>(host: &dyn Host, mut call: impl FnMut() -> Result<T, StoreError>) -> Result<T, StoreError> {
+    let (until, mut pause) = (host.now() + PATIENCE, Duration::from_millis(10));
     loop {
         match call() {
-            Err(StoreError::Unknown(why)) if Instant::now() > until => return Err(StoreError::Unknown(why)),
-            Err(StoreError::Unknown(_)) => thread::sleep(pause),
+            Err(StoreError::Unknown(why)) if host.now() > until => return Err(StoreError::Unknown(why)),
+            Err(StoreError::Unknown(_)) => host.sleep(pause),
             told => return told,
         }
         pause = (pause * 2).min(Duration::from_millis(500));

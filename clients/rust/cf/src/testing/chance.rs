@@ -32,12 +32,26 @@ impl Dice {
     }
 }
 
+/// Whose priority decides on a move: what goes wrong in a store has one of its own.
+#[derive(Clone, Copy, PartialEq, Eq, PartialOrd, Ord)]
+enum Decides {
+    Actor(Actor),
+    Wrong(Move),
+}
+
+fn decides(key: Move) -> Decides {
+    match key {
+        Move::Stored(stored) if stored.goes_wrong() => Decides::Wrong(key),
+        _ => Decides::Actor(key.actor()),
+    }
+}
+
 /// A search that draws each order.
 pub(crate) struct Chance {
     dice: Dice,
     longest: usize,
     /// The higher ones go first. Those that a change has put behind all others are below 0.
-    levels: BTreeMap<Actor, i64>,
+    levels: BTreeMap<Decides, i64>,
     changes: Vec<usize>,
 }
 
@@ -66,8 +80,8 @@ impl Chance {
 
     /// The one of the highest priority. Of the ways of one and the same, any.
     fn best(&mut self, keys: &[Move]) -> Move {
-        let highest = keys.iter().map(|key| self.levels[&key.actor()]).max();
-        let best: Vec<Move> = keys.iter().filter(|key| highest == self.levels.get(&key.actor()).copied()).copied().collect();
+        let highest = keys.iter().map(|key| self.levels[&decides(*key)]).max();
+        let best: Vec<Move> = keys.iter().filter(|key| highest == self.levels.get(&decides(**key)).copied()).copied().collect();
         match best[..] {
             [one] => one,
             _ => best[self.dice.below(best.len())],
@@ -82,11 +96,17 @@ impl Guide for Chance {
         }
         for key in keys {
             let level = (self.dice.roll() >> 1) as i64;
-            self.levels.entry(key.actor()).or_insert(level);
+            let level = match decides(*key) {
+                Decides::Actor(_) => level,
+                // (about one goes wrong in an order)
+                Decides::Wrong(_) if self.dice.below(self.longest) == 0 => i64::MAX,
+                Decides::Wrong(_) => i64::MIN,
+            };
+            self.levels.entry(decides(*key)).or_insert(level);
         }
         let mut best = self.best(keys);
         if self.changes.contains(&place) {
-            self.levels.insert(best.actor(), -1 - place as i64);
+            self.levels.insert(decides(best), -1 - place as i64);
             best = self.best(keys);
         }
         Some(best)

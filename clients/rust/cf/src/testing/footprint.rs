@@ -25,6 +25,8 @@ pub(crate) enum Thing {
     Workers,
     /// What checks look at.
     Checked,
+    /// Something of a store, by its kind and number.
+    Stored(&'static str, u32),
     /// Whatever there is.
     All,
 }

@@ -51,7 +51,8 @@
 //! - `run.rs` is one run: the moves that are possible, and making one. `state.rs` is what it consists of, and reads from the requests' machines what
 //!   a move touched. `watch.rs` is what the layer tells a run, with the executor and the clock. `carrier.rs` has threads for code that waits, of which
 //!   one goes on at a time; until something waits there are none.
-//! - `world.rs` is what a test is given.
+//! - `world.rs` is what a test is given. `stored.rs` is what the crate `cf-store` has of a run, for requests in a store and the processes that share
+//!   it.
 //! - `footprint.rs` says which moves are independent, by what they touched. `moves.rs` has the moves and their texts.
 //! - `runner.rs` makes runs with any choice of moves. `tree.rs` goes through all orders, but those that can come to nothing else; `chance.rs` draws
 //!   some.
@@ -68,11 +69,16 @@ mod run;
 mod runner;
 mod smaller;
 mod state;
+mod stored;
 mod tree;
 mod watch;
 mod world;
 
+#[doc(hidden)]
+pub use moves::Stored;
 pub use orders::{every_order, orders, Orders};
 pub use report::{Failure, Pair, Report, Told};
+#[doc(hidden)]
+pub use stored::{Seam, Sharing, Then, Waits};
 pub(crate) use watch::Watch;
 pub use world::{Awaited, Calls, World};

@@ -11,6 +11,31 @@ pub(crate) enum Who {
     Function(Place),
     Caller(u16),
     Test,
+    /// A thread of a process of a store, by the numbers of both.
+    Thread(u16, u32),
+}
+
+/// What may happen next in a store. The crate `cf-store` makes these moves; here they are written.
+#[derive(Clone, Copy, Debug, PartialEq, Eq, PartialOrd, Ord, Hash)]
+pub enum Stored {
+    /// A thread of a process begins.
+    Job(u16, u32),
+    /// What a thread has asked of the store, the so-manyth time, is answered in a way, or it calls a function.
+    Ask(u16, u32, u32, u16),
+    /// The time is over for which a thread waits.
+    Late(u16, u32, u32),
+    /// A process looks what is new.
+    Look(u16),
+    /// A process finds that the limit of a stage of a request has passed, which was the so-manyth.
+    Due(u16, u16, u16, u32),
+    /// A process takes another one for gone.
+    Gone(u16, u16),
+    /// A process is killed.
+    Kill(u16),
+    /// The so-manyth put that was on its way comes.
+    Land(u32),
+    /// Nobody is killed any more.
+    Spare,
 }
 
 /// What may happen next. The texts, which a failure prints as its row:
@@ -27,6 +52,20 @@ pub(crate) enum Who {
 /// limit.R.S.K   the next limit of request R passes, which was the Kth, on stage S
 /// stop          no limit passes any more
 /// ```
+///
+/// Of a store's process P and its thread N, whose WHO is `pP.N`:
+///
+/// ```text
+/// job.pP.N      the thread begins: it works on a request, or does what a test says
+/// ask.pP.N.M.K  what it asked of the store is answered in way K, or a function is called, and it goes on; it is the Mth time
+/// late.pP.N.M   the time is over for which it waits, the Mth time that it waits so
+/// look.pP       the process looks what is new, and a thread of it begins with that
+/// due.pP.R.S.K  the process finds that the limit of stage S of request R has passed, which was the Kth
+/// gone.pP.Q     the process takes process Q for gone
+/// kill.pP       the process is killed
+/// land.K        the Kth put that was on its way comes to the store
+/// spare         nobody is killed any more, or taken for gone while it is there
+/// ```
 #[derive(Clone, Copy, Debug, PartialEq, Eq, PartialOrd, Ord, Hash)]
 pub(crate) enum Move {
     Begin(Place),
@@ -39,6 +78,7 @@ pub(crate) enum Move {
     By(u16, u16),
     Limit(Place, u32),
     Stop,
+    Stored(Stored),
 }
 
 /// Who makes a move.
@@ -48,6 +88,25 @@ pub(crate) enum Actor {
     Outside(u16),
     Clock(u16),
     Nobody,
+    /// What may happen to a process beside what its threads do, of each kind by itself.
+    Stored(Stored),
+}
+
+impl Stored {
+    fn actor(self) -> Actor {
+        Actor::Stored(match self {
+            Stored::Job(process, thread) | Stored::Ask(process, thread, ..) => return Actor::Who(Who::Thread(process, thread)),
+            Stored::Due(process, ..) => Stored::Due(process, 0, 0, 0),
+            Stored::Gone(process, _) => Stored::Gone(process, 0),
+            Stored::Late(process, ..) => Stored::Late(process, 0, 0),
+            other => other,
+        })
+    }
+
+    /// Whether it is a call of a store that isn't answered.
+    pub(crate) fn goes_wrong(self) -> bool {
+        matches!(self, Stored::Ask(.., way) if way > 0)
+    }
 }
 
 impl Move {
@@ -59,6 +118,7 @@ impl Move {
             Move::By(number, _) => Actor::Who(Who::Caller(number)),
             Move::Limit((request, _), _) => Actor::Clock(request),
             Move::Stop => Actor::Nobody,
+            Move::Stored(stored) => stored.actor(),
         }
     }
 }
@@ -69,6 +129,23 @@ impl fmt::Display for Who {
             Who::Function((request, stage)) => write!(f, "{request}.{stage}"),
             Who::Caller(number) => write!(f, "caller.{number}"),
             Who::Test => f.write_str("test"),
+            Who::Thread(process, thread) => write!(f, "p{process}.{thread}"),
+        }
+    }
+}
+
+impl fmt::Display for Stored {
+    fn fmt(&self, f: &mut fmt::Formatter<'_>) -> fmt::Result {
+        match self {
+            Stored::Job(process, thread) => write!(f, "job.p{process}.{thread}"),
+            Stored::Ask(process, thread, time, way) => write!(f, "ask.p{process}.{thread}.{time}.{way}"),
+            Stored::Late(process, thread, time) => write!(f, "late.p{process}.{thread}.{time}"),
+            Stored::Look(process) => write!(f, "look.p{process}"),
+            Stored::Due(process, request, stage, number) => write!(f, "due.p{process}.{request}.{stage}.{number}"),
+            Stored::Gone(process, other) => write!(f, "gone.p{process}.{other}"),
+            Stored::Kill(process) => write!(f, "kill.p{process}"),
+            Stored::Land(number) => write!(f, "land.{number}"),
+            Stored::Spare => f.write_str("spare"),
         }
     }
 }
@@ -86,6 +163,7 @@ impl fmt::Display for Move {
             Move::By(number, call) => write!(f, "by.{number}.{call}"),
             Move::Limit((request, stage), number) => write!(f, "limit.{request}.{stage}.{number}"),
             Move::Stop => f.write_str("stop"),
+            Move::Stored(stored) => stored.fmt(f),
         }
     }
 }
@@ -98,9 +176,29 @@ fn who(parts: &[&str]) -> Result<Who, ()> {
     match parts {
         ["test"] => Ok(Who::Test),
         ["caller", caller] => Ok(Who::Caller(number(caller)?)),
+        [its, thread] if its.starts_with('p') => Ok(Who::Thread(process(its)?, number(thread)?)),
         [request, stage] => Ok(Who::Function((number(request)?, number(stage)?))),
         _ => Err(()),
     }
+}
+
+fn process(part: &str) -> Result<u16, ()> {
+    number(part.strip_prefix('p').ok_or(())?)
+}
+
+fn stored(parts: &[&str]) -> Result<Stored, ()> {
+    Ok(match parts {
+        ["job", its, thread] => Stored::Job(process(its)?, number(thread)?),
+        ["ask", its, thread, time, way] => Stored::Ask(process(its)?, number(thread)?, number(time)?, number(way)?),
+        ["late", its, thread, time] => Stored::Late(process(its)?, number(thread)?, number(time)?),
+        ["look", its] => Stored::Look(process(its)?),
+        ["due", its, request, stage, limit] => Stored::Due(process(its)?, number(request)?, number(stage)?, number(limit)?),
+        ["gone", its, other] => Stored::Gone(process(its)?, number(other)?),
+        ["kill", its] => Stored::Kill(process(its)?),
+        ["land", put] => Stored::Land(number(put)?),
+        ["spare"] => Stored::Spare,
+        _ => return Err(()),
+    })
 }
 
 impl FromStr for Move {
@@ -119,7 +217,7 @@ impl FromStr for Move {
             ["by", caller, call] => Move::By(number(caller)?, number(call)?),
             ["limit", request, stage, limit] => Move::Limit((number(request)?, number(stage)?), number(limit)?),
             ["stop"] => Move::Stop,
-            _ => return Err(()),
+            _ => Move::Stored(stored(&parts)?),
         })
     }
 }
@@ -142,7 +240,11 @@ mod tests {
     fn a_row_is_read_as_it_is_written() {
         let row = "come.0.1 begin.0.1 call.0.1 poll.2.3 go.0.1 go.caller.4 go.test choose.0.1.2 choose.test.3 by.0.1 limit.0.1.7 end.0.1 stop";
         assert_eq!(row_of(&moves_of(row).unwrap()), row);
-        for wrong in ["", "begin", "begin.0", "begin.0.x", "go", "go.4", "choose.1", "stop.1", "comes.0.0"] {
+        let row = "job.p0.1 ask.p0.1.2.3 go.p0.1 choose.p0.1.2 late.p0.1.2 look.p4 due.p1.2.3.4 gone.p1.0 kill.p0 land.2 spare";
+        assert_eq!(row_of(&moves_of(row).unwrap()), row);
+        for wrong in
+            ["job.0.1", "kill", "kill.p", "spare.1", "go.p1", "", "begin", "begin.0", "begin.0.x", "go", "go.4", "choose.1", "stop.1", "comes.0.0"]
+        {
             assert!(wrong.parse::<Move>().is_err(), "{wrong}");
         }
         assert_eq!(moves_of("stop comes.0.0"), Err("comes.0.0".into()));

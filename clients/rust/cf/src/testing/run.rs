@@ -5,7 +5,7 @@
 //! code does that it runs, belongs to it.
 use super::carrier::{Act, Carriers, Leaves};
 use super::footprint::{Footprint, How, Thing};
-use super::moves::{Move, Place, Who};
+use super::moves::{Move, Place, Stored, Who};
 use super::state::{Check, Claim, Flight, Rings, Settings, State, Until, Wait, Way};
 use super::watch::Here;
 use super::world::World;
@@ -70,12 +70,17 @@ impl Run {
                 keys.push(Move::By(number, caller.called));
             }
         }
-        let limits = limits(state);
-        let are_limits_alone = keys.is_empty();
+        let (limits, settings, is_shared) = (limits(state), state.settings, state.sharing.is_some());
+        drop(guard);
         keys.extend(&limits);
+        if is_shared {
+            let stored = self.stored_moves(keys.is_empty());
+            keys.extend(stored.into_iter().map(Move::Stored));
+        }
+        let are_limits_alone = keys.len() == limits.len();
         // It may be at any moment that no limit passes any more, and comes to the same at the end; but for what is left out the move has to be
         // there as long as the limits are.
-        if state.settings.free_clock && !limits.is_empty() && (state.settings.reduce || are_limits_alone) {
+        if settings.free_clock && !limits.is_empty() && (settings.reduce || are_limits_alone) {
             keys.push(Move::Stop);
         }
         keys
@@ -95,7 +100,7 @@ impl Run {
             Move::Go(who) | Move::Choose(who, _) => state.touch(Thing::Flight(who), How::Changes),
             Move::Come(number, _) => state.touch(Thing::Outside(number), How::Changes),
             Move::By(number, _) => state.touch(Thing::Flight(Who::Caller(number)), How::Changes),
-            Move::Limit(..) | Move::Stop => {}
+            Move::Limit(..) | Move::Stop | Move::Stored(_) => {}
         }
         drop(state);
         match key {
@@ -108,6 +113,7 @@ impl Run {
             Move::Come(number, way) => self.come(number, way)?,
             Move::By(number, _) => self.by(number, carriers)?,
             Move::Limit(place, number) => self.limit(place, number)?,
+            Move::Stored(key) => self.stored(key, carriers)?,
             Move::Stop => {
                 let mut state = self.lock();
                 state.is_stopped = true;
@@ -149,9 +155,9 @@ impl Run {
     }
 
     /// What functions share that this one does.
-    fn share(state: &mut State, who: Who) {
+    pub(crate) fn share(state: &mut State, who: Who) {
         let shares = state.flight(who).map_or(Vec::new(), |flight| flight.shares.clone());
-        if !shares.contains(&Thing::User) && !state.checks.is_empty() {
+        if !shares.contains(&Thing::User) && !state.checks.is_empty() && !matches!(who, Who::Thread(..)) {
             state.touch(Thing::Checked, How::Changes);
         }
         shares.into_iter().for_each(|thing| state.touch(thing, How::Changes));
@@ -201,7 +207,7 @@ impl Run {
         self.carry(who, Box::new(move || as_caller(number, || polling.poll())), carriers)
     }
 
-    fn go(self: &Arc<Run>, who: Who, chosen: Option<u16>, carriers: &mut Carriers) -> Result<(), Stopped> {
+    pub(crate) fn go(self: &Arc<Run>, who: Who, chosen: Option<u16>, carriers: &mut Carriers) -> Result<(), Stopped> {
         let mut state = self.lock();
         Run::share(&mut state, who);
         let flight = state.flight(who).expect("who goes on is there");
@@ -291,7 +297,7 @@ impl Run {
     // Code that isn't the kit's.
 
     /// Does something of the layer on the search's thread. A waker or a `Drop` that panics fails the order.
-    fn kit<T>(self: &Arc<Run>, act: impl FnOnce() -> T) -> Result<T, Stopped> {
+    pub(crate) fn kit<T>(self: &Arc<Run>, act: impl FnOnce() -> T) -> Result<T, Stopped> {
         let here = Here { run: Arc::clone(self), who: None, carrier: None };
         let done = here.during(|| catch_unwind(AssertUnwindSafe(act)));
         match done {
@@ -322,7 +328,7 @@ impl Run {
     }
 
     /// Calls what may not panic.
-    fn carry_named(self: &Arc<Run>, who: Who, call: Act, carriers: &mut Carriers) -> Result<(), Stopped> {
+    pub(crate) fn carry_named(self: &Arc<Run>, who: Who, call: Act, carriers: &mut Carriers) -> Result<(), Stopped> {
         let run = Arc::clone(self);
         let name = self.lock().flight(who).map_or(String::new(), |flight| flight.name.clone());
         let act = move || {
@@ -369,7 +375,7 @@ impl Run {
                     flight.carrier = None;
                 }
             }
-            Who::Caller(_) | Who::Test => drop(state.take_flight(who)),
+            Who::Caller(_) | Who::Test | Who::Thread(..) => drop(state.take_flight(who)),
         }
     }
 
@@ -473,9 +479,13 @@ impl Run {
         here.during(|| catch_unwind(AssertUnwindSafe(end))).ok()
     }
 
-    /// Ends code that waits, and lets go of all that is left. The requests, in the order in which they were opened.
-    pub(crate) fn close(&self, carriers: &mut Carriers) -> Vec<Arc<Core>> {
-        let waiting: Vec<_> = self.lock().flights.iter().filter_map(|it| it.1.carrier.clone()).collect();
+    /// Ends code that waits, and lets go of all that is left. The requests, in the order in which they were opened, and the words of a store's.
+    pub(crate) fn close(&self, carriers: &mut Carriers) -> (Vec<Arc<Core>>, Vec<Vec<u64>>) {
+        let state = self.lock();
+        let waiting: Vec<_> = state.flights.iter().map(|it| &it.1).chain(&state.dead).filter_map(|it| it.carrier.clone()).collect();
+        let sharing = state.sharing.clone();
+        drop(state);
+        let words = sharing.map_or(Vec::new(), |sharing| sharing.words());
         for carrier in waiting {
             if carrier.end() {
                 carriers.give(carrier);
@@ -490,9 +500,12 @@ impl Run {
         state.weight = closed.weight;
         state.needs_threads = closed.needs_threads;
         drop(state);
-        let State { requests, flights, outside, callers, checks, at_end, end, awaited, .. } = closed;
-        quietly(|| drop((flights, outside, callers, checks, at_end, end, awaited)));
-        requests.into_iter().map(|request| request.core).collect()
+        let State { requests, flights, outside, callers, checks, at_end, end, awaited, sharing, dead, .. } = closed;
+        quietly(|| drop((flights, outside, callers, checks, at_end, end, awaited, dead)));
+        if let Some(sharing) = sharing {
+            quietly(|| sharing.close());
+        }
+        (requests.into_iter().map(|request| request.core).collect(), words)
     }
 
     // In words.
@@ -504,12 +517,24 @@ impl Run {
         let settled = std::mem::take(&mut state.settled);
         let came = if let Move::Come(number, _) = key { Some(state.outside[usize::from(number)].place) } else { None };
         let others = settled.into_iter().filter(|place| Some(*place) != came);
-        others.filter_map(|(number, stage)| ended(&state.request(number).core, stage)).collect()
+        let told: Vec<String> = others.filter_map(|(number, stage)| ended(&state.request(number).core, stage)).collect();
+        let sharing = state.sharing.clone();
+        drop(state);
+        told.into_iter().chain(sharing.map_or(Vec::new(), |sharing| sharing.told())).collect()
     }
 
     /// What a move is called. It is asked before the move is made.
     pub(crate) fn text(&self, key: Move) -> String {
         let mut state = self.lock();
+        if let (Move::Stored(key), Some(sharing)) = (key, state.sharing.clone()) {
+            let asked = match key {
+                Stored::Ask(process, thread, ..) => state.flight(Who::Thread(process, thread)),
+                _ => None,
+            };
+            let asks = asked.map_or(String::new(), |it| format!("{} {}", it.name, it.wait.as_ref().map_or("", |wait| &wait.name)));
+            drop(state);
+            return asks + &sharing.text(key);
+        }
         let flight = |state: &mut State, who: Who| state.flight(who).map_or(String::new(), |flight| flight.name.clone());
         match key {
             Move::Begin((request, stage)) => format!("{} is claimed", name(&state.request(request).core, stage)),
@@ -562,6 +587,7 @@ impl Run {
                 }
             }
             Move::Stop => "no limit passes any more".into(),
+            Move::Stored(key) => key.to_string(),
         }
     }
 }
@@ -603,6 +629,9 @@ fn free(state: &State) -> usize {
 fn next_of(who: Who, flight: &Flight, keys: &mut Vec<Move>) {
     match (&flight.wait, &flight.claim, who) {
         (Some(Wait { until: Until::Chosen(ways), .. }), ..) => keys.extend((0..ways.len() as u16).map(|way| Move::Choose(who, way))),
+        (Some(Wait { until: Until::Asks(time, ways), .. }), _, Who::Thread(process, thread)) => {
+            keys.extend(ways().into_iter().map(|way| Move::Stored(Stored::Ask(process, thread, *time, way))));
+        }
         (Some(wait), ..) if flight.is_late || wait.is_over() => keys.push(Move::Go(who)),
         (None, Some(claim), Who::Function(place)) if claim.call.is_some() => keys.push(Move::Call(place)),
         (None, Some(claim), Who::Function(place)) if claim.gave.is_some() => keys.push(Move::End(place)),

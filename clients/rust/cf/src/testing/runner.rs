@@ -41,6 +41,8 @@ pub(crate) struct Ran {
     /// Whether there are checks.
     pub(crate) is_checked: bool,
     requests: Vec<Arc<Core>>,
+    /// The words of a store's requests.
+    stored: Vec<Vec<u64>>,
 }
 
 impl Ran {
@@ -50,7 +52,7 @@ impl Ran {
     }
 
     fn words(&self) -> Vec<Vec<u64>> {
-        self.requests.iter().map(|core| core.lock().ledger.words()).collect()
+        self.requests.iter().map(|core| core.lock().ledger.words()).chain(self.stored.iter().cloned()).collect()
     }
 }
 
@@ -93,12 +95,12 @@ impl Runner {
             }))
         });
         let is_checked = !run.lock().checks.is_empty();
-        let requests = run.close(&mut self.carriers);
+        let (requests, stored) = run.close(&mut self.carriers);
         let state = run.lock();
         let (why, weight, needs_threads) = (state.why.clone(), state.weight, state.needs_threads);
         drop(state);
         let (ended, panicked) = ended.map_or_else(|payload| ((How::Failed, None), Some(payload)), |ended| (ended, None));
-        let ran = Ran { how: ended.0, row, why, told, end: ended.1, weight, is_checked, requests };
+        let ran = Ran { how: ended.0, row, why, told, end: ended.1, weight, is_checked, requests, stored };
         if let Some(payload) = panicked {
             resume_unwind(payload);
         }

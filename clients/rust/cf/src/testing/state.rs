@@ -5,6 +5,7 @@
 use super::carrier::Carrier;
 use super::footprint::{Behind, Footprint, How, Thing};
 use super::moves::{Place, Who};
+use super::stored::Sharing;
 use crate::core::Core;
 use crate::error::Error;
 use crate::ledger::done_again;
@@ -112,6 +113,10 @@ pub(crate) enum Until {
     Now,
     /// One of these ways is chosen.
     Chosen(Vec<String>),
+    /// The store answers in one of the ways that are possible, for the so-manyth time.
+    Asks(u32, Box<dyn Fn() -> Vec<u16> + Send>),
+    /// Something of the store is so.
+    So(Box<dyn Fn() -> bool + Send>),
 }
 
 impl Wait {
@@ -119,7 +124,8 @@ impl Wait {
         match &self.until {
             Until::Settled(core, (_, stage)) => core.lock().slot(*stage).is_settled(),
             Until::Now => true,
-            Until::Chosen(_) => false,
+            Until::So(is_so) => is_so(),
+            Until::Chosen(_) | Until::Asks(..) => false,
         }
     }
 }
@@ -171,6 +177,10 @@ pub(crate) struct State {
     pub(crate) footprint: Option<Footprint>,
     /// What the last move settled.
     pub(crate) settled: Vec<Place>,
+    /// A store, and the processes that share it.
+    pub(crate) sharing: Option<Arc<dyn Sharing>>,
+    /// What threads of killed processes had begun.
+    pub(crate) dead: Vec<Flight>,
     behind: Behind,
     /// Relays of stages, also those that were let go.
     relays: BTreeMap<Place, Vec<Place>>,
@@ -200,6 +210,8 @@ impl State {
             is_closed: false,
             footprint: None,
             settled: Vec::new(),
+            sharing: None,
+            dead: Vec::new(),
             behind: Behind::default(),
             relays: BTreeMap::new(),
             are_settled: BTreeSet::new(),

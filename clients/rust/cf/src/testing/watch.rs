@@ -249,7 +249,14 @@ impl Run {
             Until::Settled(_, place) => Some(*place),
             _ => None,
         };
-        let flight = state.flight(who).expect("who waits goes on");
+        let flight = match state.flight(who) {
+            Some(flight) => flight,
+            None => {
+                drop(state); // (its process was killed)
+                leave();
+                return 0;
+            }
+        };
         flight.is_late = false;
         flight.waits += 1;
         flight.wait = Some(wait);

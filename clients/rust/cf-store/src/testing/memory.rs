@@ -1,0 +1,143 @@
+//! A store in memory, which keeps what an engine keeps.
+use super::rows::locked;
+use crate::error::StoreError;
+use crate::store::{Mark, Opened, Put, Store, Timer};
+use cf_graph::Entry;
+use std::collections::BTreeMap;
+use std::sync::Mutex;
+use std::time::Duration;
+
+#[derive(Default)]
+pub(super) struct Memory(Mutex<Kept>);
+
+#[derive(Default)]
+struct Kept {
+    rows: BTreeMap<String, Row>,
+    beats: BTreeMap<u64, i64>,
+    /// With the number of each, and how many were made.
+    timers: BTreeMap<(i64, u16), (u32, Timer)>,
+    timers_made: u32,
+}
+
+/// What stands of a request.
+struct Row {
+    opened: Opened,
+    is_closed: bool,
+    entries: Vec<Entry>,
+    payloads: BTreeMap<usize, Vec<u8>>,
+}
+
+impl Kept {
+    fn row(&mut self, name: &str, number: i64) -> Result<&mut Row, StoreError> {
+        self.rows.get_mut(name).filter(|row| row.opened.number == number).ok_or_else(|| StoreError::Gone(name.into()))
+    }
+}
+
+impl Memory {
+    pub(super) fn is_open(&self, name: &str) -> bool {
+        locked(&self.0).rows.get(name).map_or(false, |row| !row.is_closed)
+    }
+
+    /// The timers, with the number of each.
+    pub(super) fn timers(&self) -> Vec<(u32, Timer)> {
+        locked(&self.0).timers.values().cloned().collect()
+    }
+}
+
+impl Store for Memory {
+    fn open(&self, name: &str, plan: &str) -> Result<Opened, StoreError> {
+        let rows = &mut locked(&self.0).rows;
+        let opened = Opened { name: name.into(), plan: plan.into(), opened: 0.0, number: rows.len() as i64 + 1 };
+        let row = || Row { opened, is_closed: false, entries: Vec::new(), payloads: BTreeMap::new() };
+        Ok(rows.entry(name.into()).or_insert_with(row).opened.clone())
+    }
+
+    fn find(&self, name: &str) -> Result<Option<Opened>, StoreError> {
+        Ok(locked(&self.0).rows.get(name).map(|row| row.opened.clone()))
+    }
+
+    fn append(&self, put: Put<'_>) -> Result<Option<Vec<Entry>>, StoreError> {
+        let mut kept = locked(&self.0);
+        let row = kept.row(put.request, put.number)?;
+        if row.entries.len() != put.at {
+            return Ok(Some(row.entries.get(put.at..).map_or(Vec::new(), <[Entry]>::to_vec)));
+        }
+        row.entries.extend_from_slice(put.entries);
+        row.payloads.extend(put.payloads.iter().map(|(place, payload)| (*place, payload.clone())));
+        Ok(None)
+    }
+
+    fn read(&self, name: &str, number: i64, at: usize) -> Result<Vec<Entry>, StoreError> {
+        Ok(locked(&self.0).row(name, number)?.entries.get(at..).map_or(Vec::new(), <[Entry]>::to_vec))
+    }
+
+    fn payload(&self, name: &str, number: i64, place: usize) -> Result<Option<Vec<u8>>, StoreError> {
+        Ok(locked(&self.0).row(name, number)?.payloads.get(&place).cloned())
+    }
+
+    fn news(&self, _since: Option<Mark>) -> Result<(BTreeMap<String, usize>, Mark), StoreError> {
+        let kept = locked(&self.0);
+        let open = kept.rows.iter().filter(|it| !it.1.is_closed);
+        Ok((open.map(|(name, row)| (name.clone(), row.entries.len())).collect(), (0, 0)))
+    }
+
+    fn changed(&self, _wait: Duration) -> Result<(), StoreError> {
+        Ok(())
+    }
+
+    fn end(&self, name: &str, number: i64, at: usize) -> Result<bool, StoreError> {
+        let mut kept = locked(&self.0);
+        let row = kept.row(name, number)?;
+        let closes = !row.is_closed && row.entries.len() == at;
+        row.is_closed |= closes;
+        if closes {
+            kept.timers.retain(|key, _| key.0 != number);
+        }
+        Ok(closes)
+    }
+
+    fn reopen(&self, name: &str, number: i64) -> Result<(), StoreError> {
+        locked(&self.0).row(name, number)?.is_closed = false;
+        Ok(())
+    }
+
+    fn beat(&self, session: u64) -> Result<(), StoreError> {
+        *locked(&self.0).beats.entry(session).or_default() += 1;
+        Ok(())
+    }
+
+    fn beats(&self) -> Result<BTreeMap<u64, i64>, StoreError> {
+        Ok(locked(&self.0).beats.clone())
+    }
+
+    fn drop_beat(&self, session: u64) -> Result<(), StoreError> {
+        locked(&self.0).beats.remove(&session);
+        Ok(())
+    }
+
+    fn name_session(&self, _session: u64, _name: &str) -> Result<(), StoreError> {
+        Ok(())
+    }
+
+    fn now(&self) -> Result<f64, StoreError> {
+        Ok(0.0)
+    }
+
+    fn set_timer(&self, timer: &Timer) -> Result<(), StoreError> {
+        let mut kept = locked(&self.0);
+        kept.row(&timer.request, timer.number)?;
+        kept.timers_made += 1;
+        let made = kept.timers_made;
+        kept.timers.insert((timer.number, timer.stage), (made, timer.clone()));
+        Ok(())
+    }
+
+    fn due(&self, now: f64) -> Result<Vec<Timer>, StoreError> {
+        Ok(locked(&self.0).timers.values().filter(|it| it.1.due <= now).map(|it| it.1.clone()).collect())
+    }
+
+    fn drop_timer(&self, timer: &Timer) -> Result<(), StoreError> {
+        locked(&self.0).timers.remove(&(timer.number, timer.stage));
+        Ok(())
+    }
+}

@@ -1,0 +1,163 @@
+//! What stands in a world's store, and what a reader of all words knows of it.
+use super::memory::Memory;
+use crate::error::{Error, StoreError};
+use crate::host::Host;
+use crate::plan;
+use crate::store::{Opened, Put, Store};
+use crate::view::View;
+use cf_graph::{Answer, Call, Entry, Event};
+use serde_json::Value as Json;
+use std::collections::BTreeMap;
+use std::sync::{Arc, Mutex, MutexGuard, PoisonError};
+
+pub(super) fn locked<T>(mutex: &Mutex<T>) -> MutexGuard<'_, T> {
+    mutex.lock().unwrap_or_else(PoisonError::into_inner)
+}
+
+/// A put that is on its way.
+#[derive(Clone, Debug)]
+pub(super) struct Flying {
+    pub(super) request: String,
+    pub(super) number: i64,
+    pub(super) at: usize,
+    entries: Vec<Entry>,
+    payloads: BTreeMap<usize, Vec<u8>>,
+    pub(super) has_landed: bool,
+}
+
+impl Flying {
+    pub(super) fn of(put: Put<'_>) -> Flying {
+        let Put { request, number, at, entries, payloads } = put;
+        Flying { request: request.into(), number, at, entries: entries.to_vec(), payloads: payloads.clone(), has_landed: false }
+    }
+
+    pub(super) fn put(&self) -> Put<'_> {
+        Put { request: &self.request, number: self.number, at: self.at, entries: &self.entries, payloads: &self.payloads }
+    }
+}
+
+/// A view of all words, with the stages of which it was told that they are settled.
+struct Read {
+    view: View,
+    settled: Vec<bool>,
+}
+
+/// Rows are numbered in the order in which they were opened.
+#[derive(Default)]
+pub(super) struct Rows {
+    pub(super) memory: Arc<Memory>,
+    names: Mutex<Vec<String>>,
+    views: Mutex<BTreeMap<String, Read>>,
+    /// What came to stand in this move.
+    pub(super) told: Mutex<Vec<String>>,
+}
+
+impl Rows {
+    pub(super) fn names(&self) -> Vec<String> {
+        locked(&self.names).clone()
+    }
+
+    pub(super) fn number_of(&self, name: &str) -> Option<u32> {
+        locked(&self.names).iter().position(|known| known == name).map(|at| at as u32)
+    }
+
+    /// Asks of a request by all words that stand. Nothing where there is none.
+    pub(super) fn ask<T>(&self, name: &str, ask: impl FnOnce(&mut View) -> T) -> Option<T> {
+        locked(&self.views).get_mut(name).map(|it| ask(&mut it.view))
+    }
+
+    /// The first stage of a name.
+    pub(super) fn numbered(view: &mut View, stage: &str) -> Option<u16> {
+        (0..view.len() as u16).find(|number| view.said(*number).map_or(false, |said| said.name == stage))
+    }
+
+    /// What a stage is called.
+    pub(super) fn stage(&self, request: &str, stage: u16) -> String {
+        let said = self.ask(request, |view| if usize::from(stage) < view.len() { view.said(stage).ok() } else { None });
+        said.flatten().map_or_else(|| format!("stage {stage}"), |said| said.name)
+    }
+
+    /// What a put is called.
+    pub(super) fn text_of(&self, put: Put<'_>) -> String {
+        let part = |(place, entry): (usize, &Entry)| {
+            let (stage, does) = match Event::of_word(entry.word).map(|event| event.call) {
+                Ok(Call::Attach(..)) => {
+                    let said = put.payloads.get(&place).and_then(|payload| plan::said_in(payload, usize::MAX).ok());
+                    return format!("{} is attached", said.map_or_else(|| "a stage".into(), |said| said.name));
+                }
+                Ok(Call::Claim(stage)) => (stage, "is claimed"),
+                Ok(Call::Complete(stage, _)) => (stage, "is completed"),
+                Ok(Call::Fail(stage, _) | Call::FailAs(stage, _)) => (stage, "is failed"),
+                Ok(Call::Cancel(stage)) => (stage, "is cancelled"),
+                Ok(Call::Finish(stage, Answer::Throw(_))) => (stage, "has failed"),
+                Ok(Call::Finish(stage, Answer::Link(_))) => (stage, "is linked"),
+                Ok(Call::Finish(stage, _)) => (stage, "is finished"),
+                Ok(Call::Tick(_)) | Err(_) => return "something is changed".into(),
+            };
+            format!("{} {does}", self.stage(put.request, stage))
+        };
+        format!("puts to {}: {}", put.request, (put.at + 1..).zip(put.entries).map(part).collect::<Vec<_>>().join(", "))
+    }
+
+    /// Opens a request, and says whether it is new.
+    pub(super) fn open(&self, name: &str, plan: &str) -> Result<(Opened, bool), StoreError> {
+        let is_new = self.memory.find(name)?.is_none();
+        let opened = self.memory.open(name, plan)?;
+        if is_new {
+            let view = View::new(Arc::clone(&self.memory) as Arc<dyn Store>, Arc::new(Reader), opened.clone(), 0)?;
+            locked(&self.names).push(name.into());
+            locked(&self.views).insert(name.into(), Read { view, settled: Vec::new() });
+        }
+        Ok((opened, is_new))
+    }
+
+    /// As [`Store::append`].
+    pub(super) fn append(&self, put: Put<'_>) -> Result<Option<Vec<Entry>>, StoreError> {
+        let stands = self.memory.append(put)?;
+        let mut told = locked(&self.told);
+        if stands.is_some() {
+            told.push("another's word stands there".into());
+            return Ok(stands);
+        }
+        let mut views = locked(&self.views);
+        let Read { view, settled } = views.get_mut(put.request).expect("it was opened");
+        view.catch_up()?;
+        settled.resize(view.len(), false);
+        for stage in 0..view.len() as u16 {
+            if view.is_settled(stage) && !std::mem::replace(&mut settled[usize::from(stage)], true) {
+                told.push(format!("{} {}", view.said(stage)?.name, ended(view, stage)));
+            }
+        }
+        Ok(None)
+    }
+
+    /// The entries of each request, in the order in which they were opened.
+    pub(super) fn entries(&self) -> Vec<Vec<Entry>> {
+        let number = |name: &str| self.memory.find(name).ok().flatten().map_or(0, |opened| opened.number);
+        self.names().iter().map(|name| self.memory.read(name, number(name), 0).unwrap_or_default()).collect()
+    }
+}
+
+/// What a settled stage came to, in words.
+pub(super) fn ended(view: &mut View, stage: u16) -> String {
+    match end_of(view, stage) {
+        Some(Ok(value)) => format!("ends: {value}"),
+        Some(Err(Error::Cancelled)) => "is cancelled".into(),
+        Some(Err(error)) => format!("ends: {error}"),
+        None => "is open".into(),
+    }
+}
+
+/// What a stage ended in, if it is settled.
+pub(super) fn end_of(view: &mut View, stage: u16) -> Option<Result<Json, Error>> {
+    view.end_of(stage).unwrap_or_else(|error| Some(Err(error.into())))
+}
+
+/// What a reader's view asks for.
+struct Reader;
+
+impl Host for Reader {
+    fn number(&self, _bits: u32) -> u64 {
+        1
+    }
+}

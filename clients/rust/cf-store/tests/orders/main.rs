@@ -1,0 +1,538 @@
+//! What does the search find in services over a store, what may go wrong there, and what does it say of the crate?
+mod kept;
+mod services;
+
+use cf::testing::{Orders, Report, World};
+use cf_store::testing::{Bounds, ProcessOptions, Stores, WorldStore};
+use cf_store::{context, within, Failed, Flow, Functions, Request, Stage, StoreError};
+use serde_json::{json, Value};
+use services::{charged_again, is_done, own_word_for_anothers, Done, Shared, SERVICES};
+use std::collections::{BTreeMap, BTreeSet};
+use std::sync::{Arc, Weak};
+use std::time::Duration;
+
+/// Longer than a machine at its limit takes. On one at rest each planted fault is found within milliseconds.
+const LIMIT: Duration = Duration::from_secs(80);
+/// By which order each planted fault has to be found.
+const SOON: u64 = 20;
+
+fn orders(test: impl Fn(&World) + Send + Sync + 'static) -> Report {
+    Orders::new().time(LIMIT).run(test)
+}
+
+fn is_sound(report: &Report) {
+    assert!(report.whole && report.failed.is_empty(), "{report}");
+}
+
+fn ends(report: &Report) -> Vec<&str> {
+    is_sound(report);
+    report.ends.keys().map(String::as_str).collect()
+}
+
+// Services.
+
+#[test]
+fn each_planted_fault_is_found() {
+    for service in SERVICES {
+        let report = orders(move |world| (service.runs)(world, false));
+        assert!(!report.failed.is_empty() && report.orders + report.cut <= SOON, "{} is missed: {report}", service.name);
+        assert_eq!(report.failed[0].why, service.why, "{}: {report}", service.name);
+    }
+}
+
+#[test]
+fn each_failing_order_fails_again_alone() {
+    for service in SERVICES {
+        let failure = orders(move |world| (service.runs)(world, false)).failed.remove(0);
+        let again = Orders::new().row(&failure.row()).run(move |world| (service.runs)(world, false));
+        assert_eq!((again.orders, &again.failed[0].why, again.failed[0].row()), (1, &failure.why, failure.row()), "{}", service.name);
+    }
+}
+
+#[test]
+fn each_sound_service_is_sound_in_all_orders() {
+    for service in SERVICES {
+        let report = orders(move |world| (service.runs)(world, true));
+        assert!(report.whole && report.failed.is_empty(), "{}: {report}", service.name);
+    }
+}
+
+#[test]
+fn what_goes_wrong_is_tried_by_chance() {
+    for service in [charged_again, own_word_for_anothers] {
+        let report = Orders::new().time(LIMIT).chance(500, 3).run(move |world| service(world, false));
+        assert!(!report.failed.is_empty(), "{report}");
+    }
+}
+
+// Functions that compose, flows, and contexts.
+
+#[test]
+fn what_composes_comes_to_the_same_in_all_orders() {
+    let report = orders(|world| {
+        let charge = |order: u32| Ok::<_, String>(format!("{order} of {}", context()["from"]));
+        let places = |request: &Request, order: u32| request.supply("charge", &[json!(order)]);
+        let functions = Functions::new().with("charge", 1, charge).composing("places", 1, places);
+        let store = world.store(Bounds::new());
+        let (one, _two) = (store.worker("one", &functions), store.worker("two", &functions));
+        let mut flow = Flow::new("orders");
+        let order = flow.promise("order");
+        within(json!({"from": "here"}).as_object().unwrap().clone(), || {
+            let request = one.start(&flow, "order 17", &[json!(17)]).unwrap();
+            request.step(order).unwrap().compose("places").unwrap();
+        });
+        world.end_is(move || store.outcomes().join(", "));
+    });
+    let told = r#""17 of \"here\"""#;
+    let wanted = ["order ends: 17", &format!("what places gives ends: {told}"), &format!("places ends: {told}"), &format!("charge ends: {told}")];
+    assert_eq!(ends(&report), [wanted.map(|it| format!("order 17: {it}")).join(", ")]);
+    assert!(report.orders > 1, "{report}");
+}
+
+#[test]
+fn others_go_on_before_the_lines_behind_a_put_of_what_composes() {
+    let report = orders(|world| {
+        let (charges, seen) = (Shared::<u32>::default(), Shared::<u32>::default());
+        let (charged, known, sees) = (charges.clone(), charges, seen.clone());
+        let charge = move || {
+            *charged.get() += 1;
+            Ok::<_, String>(())
+        };
+        let places = move |request: &Request, _order: u32| {
+            let stage = request.supply("charge", &[])?;
+            *sees.get() = *known.get();
+            Ok::<_, StoreError>(stage)
+        };
+        let functions = Functions::new().with("charge", 1, charge).composing("places", 1, places);
+        let store = world.store(Bounds::new());
+        let (one, _two) = (store.worker("one", &functions), store.worker("two", &functions));
+        let order = one.request("order 17").unwrap().promise("order").unwrap();
+        order.complete(&17).unwrap();
+        order.compose("places").unwrap();
+        world.end_is(move || seen.get().to_string());
+    });
+    assert_eq!(ends(&report), ["0", "1"]);
+}
+
+#[test]
+#[should_panic(expected = "no transactions that a function can take part in")]
+fn a_process_has_no_transactional_functions() {
+    let pay = |_: &mut String, _: u32| Ok::<_, String>(());
+    let functions = Functions::new().transactional("pay", 1, pay);
+    let report = orders(move |world| drop(world.store(Bounds::new()).worker("one", &functions)));
+    panic!("{report}");
+}
+
+// What is told.
+
+#[test]
+fn a_failure_reads_like_a_story() {
+    let failure = &orders(|world| charged_again(world, false)).failed[0];
+    let told: Vec<&str> = failure.told.iter().map(|it| &*it.text).collect();
+    assert_eq!(
+        told,
+        [
+            "worker 1 looks what is new",
+            "worker 1 puts to order 17: charge is claimed",
+            "worker 1 calls charge",
+            "worker 1 is killed",
+            "worker 2 takes worker 1 for gone",
+            "worker 2 puts to order 17: charge is failed",
+            "worker 2 puts to order 17: charge again is claimed",
+            "worker 2 calls charge"
+        ]
+    );
+    assert_eq!(failure.told[5].settled, ["charge ends: the worker that ran charge is gone, and it may have run"]);
+    assert!(failure.to_string().contains("It is so if 4 (worker 1 is killed) comes before 3 (worker 1 calls charge)."), "{failure}");
+}
+
+#[test]
+fn what_was_lost_is_told() {
+    let failure = &orders(|world| own_word_for_anothers(world, false)).failed[0];
+    let wanted = "a client puts to lock: owner is completed; it stands, and the store is silent for a minute";
+    assert!(failure.told.iter().any(|it| it.text == wanted), "{failure}");
+}
+
+// What each bound lets go wrong.
+
+fn completed(stage: &Stage) -> String {
+    match stage.complete(&7) {
+        Ok(won) => won.to_string(),
+        Err(StoreError::Unknown(_)) => "unknown".into(),
+        Err(error) => panic!("{error}"),
+    }
+}
+
+/// What a client's call comes to in all orders, with what stands then.
+fn tried(bounds: Bounds) -> Report {
+    orders(move |world| {
+        let (store, told) = (world.store(bounds), Shared::<String>::default());
+        let shop = store.process("shop", &Functions::new());
+        let (stage, tells) = (shop.request("order").unwrap().promise("promise").unwrap(), told.clone());
+        shop.calls("client", move || *tells.get() = completed(&stage));
+        world.end_is(move || format!("{}, {}", told.get(), store.outcomes().join(", ")));
+    })
+}
+
+#[test]
+fn nothing_goes_wrong_without_a_bound() {
+    assert_eq!(ends(&tried(Bounds::new())), ["true, order: promise ends: 7"]);
+}
+
+#[test]
+fn what_is_lost_or_unanswered_is_asked_again() {
+    for bounds in [Bounds::new().lost(1), Bounds::new().unanswered(1), Bounds::new().late(1)] {
+        let report = tried(bounds);
+        assert_eq!(ends(&report), ["true, order: promise ends: 7"]);
+        assert!(report.orders > 1, "{report}");
+    }
+}
+
+#[test]
+fn a_silent_store_leaves_it_unknown() {
+    let wanted = ["true, order: promise ends: 7", "unknown, order: promise ends: 7", "unknown, order: promise is open"];
+    assert_eq!(ends(&tried(Bounds::new().silent(1))), wanted);
+}
+
+#[test]
+fn a_put_that_was_given_up_comes_later_or_finds_its_place_taken() {
+    let report = orders(|world| {
+        let store = world.store(Bounds::new().silent(1).late(1));
+        let shop = store.process("shop", &Functions::new());
+        let stage = shop.request("order").unwrap().promise("promise").unwrap();
+        shop.calls("client", move || {
+            if completed(&stage) == "unknown" {
+                drop(stage.fail(&Failed::new("KeyError", "x")));
+            }
+        });
+        world.end_is(move || store.outcomes().join(", "));
+    });
+    assert_eq!(ends(&report), ["order: promise ends: 7", "order: promise ends: KeyError: x"]);
+}
+
+#[test]
+fn a_put_that_was_on_its_way_is_told() {
+    let report = orders(|world| {
+        let store = world.store(Bounds::new().silent(1).late(1));
+        let shop = store.process("shop", &Functions::new());
+        let (stage, was_open) = (shop.request("order").unwrap().promise("promise").unwrap(), Shared::<bool>::default());
+        let (looks, sees) = (store.clone(), was_open.clone());
+        shop.calls("client", move || {
+            let told = completed(&stage);
+            *sees.get() = told == "unknown" && !looks.is_settled("order", "promise");
+        });
+        world.at_end("what wasn't there doesn't come", move || !*was_open.get() || !store.is_settled("order", "promise"));
+    });
+    let told: Vec<&str> = report.failed[0].told.iter().map(|it| &*it.text).collect();
+    assert!(told.contains(&"the put that was on its way comes: puts to order: promise is completed"), "{report}");
+}
+
+#[test]
+fn bounds_are_for_each_order() {
+    let report = orders(|world| {
+        let (store, asked) = (world.store(Bounds::new().unanswered(2)), Shared::<u32>::default());
+        let shop = store.process("shop", &Functions::new());
+        let (stage, asks) = (shop.request("order").unwrap().promise("promise").unwrap(), asked.clone());
+        shop.calls("client", move || *asks.get() = u32::from(stage.complete(&1).unwrap()));
+        world.end_is(move || asked.get().to_string());
+    });
+    assert_eq!(ends(&report), ["1"]);
+    assert_eq!(report.orders, 3);
+}
+
+#[test]
+fn others_move_before_an_answer_comes() {
+    let test = |world: &World| {
+        let (store, log) = (world.store(Bounds::new()), Shared::<Vec<String>>::default());
+        let shop = store.process("shop", &Functions::new());
+        let (stage, tells, sees) = (shop.request("order").unwrap().promise("promise").unwrap(), log.clone(), log.clone());
+        shop.calls("client", move || {
+            let told = stage.complete(&1).unwrap();
+            tells.get().push(format!("told {told}"));
+        });
+        world.calls("another", move || {
+            let seen = store.is_settled("order", "promise");
+            sees.get().push(format!("seen {seen}"));
+        });
+        world.end_is(move || log.get().join(", "));
+    };
+    let wanted = ["seen false, told true", "seen true, told true", "told true, seen true"];
+    assert_eq!(ends(&orders(test)), wanted);
+    assert_eq!(ends(&Orders::new().time(LIMIT).all().run(test)), wanted);
+}
+
+#[test]
+fn a_killed_process_does_nothing_more() {
+    let report = orders(|world| {
+        let (store, log, its) = (world.store(Bounds::new().killed(1)), Shared::<Vec<&str>>::default(), world.clone());
+        let logs = log.clone();
+        let slow = move || {
+            logs.get().push("begun");
+            its.point();
+            logs.get().push("ended");
+            Done::Ok(())
+        };
+        let functions = Functions::new().with("slow", 1, slow);
+        store.worker("one", &functions).request("order").unwrap().supply("slow", &[]).unwrap();
+        store.process("shop", &Functions::new()).open("order").unwrap();
+        world.end_is(move || format!("{} {}", log.get().join("+"), &store.outcomes()[0][12..16]));
+    });
+    assert_eq!(ends(&report), [" ends", " is o", "begun ends", "begun+ended ends"]);
+}
+
+#[test]
+fn a_process_that_is_there_may_be_taken_for_gone() {
+    let report = orders(|world| {
+        let store = world.store(Bounds::new().slow(1));
+        let functions = Functions::new().with("load", 1, || Ok::<_, Failed>(1));
+        store.worker("one", &functions);
+        store.process_with("shop", &functions, ProcessOptions::new().workers(0)).request("order").unwrap().supply("load", &[]).unwrap();
+        world.end_is(move || store.outcomes().join(", "));
+    });
+    assert_eq!(ends(&report), ["order: load ends: 1", "order: load ends: the worker that ran load is gone, and it may have run"]);
+}
+
+#[test]
+fn clocks_differ() {
+    is_sound(&orders(|world| {
+        let store = world.store(Bounds::new());
+        let ahead = ProcessOptions::new().ahead(Duration::from_secs(60));
+        assert_eq!(store.process("one", &Functions::new()).now(), Duration::ZERO);
+        assert_eq!(store.process_with("two", &Functions::new(), ahead).now(), Duration::from_secs(60));
+    }));
+}
+
+// What functions, callers and stages do.
+
+#[test]
+fn a_caller_waits_for_a_worker() {
+    is_sound(&orders(|world| {
+        let (store, got) = (world.store(Bounds::new()), Shared::<u32>::default());
+        let functions = Functions::new().with("load", 1, || Ok::<_, Failed>(5));
+        store.worker("one", &functions);
+        let shop = store.process_with("shop", &functions, ProcessOptions::new().workers(0));
+        let (clients, gets) = (shop.clone(), got.clone());
+        shop.calls("client", move || *gets.get() = clients.request("order").unwrap().supply("load", &[]).unwrap().wait().unwrap());
+        world.at_end("it is told", move || *got.get() == 5);
+    }));
+}
+
+#[test]
+fn who_waits_for_ever_is_a_deadlock() {
+    let report = orders(|world| {
+        let shop = world.store(Bounds::new().killed(1)).process("shop", &Functions::new());
+        let clients = shop.clone();
+        shop.calls("client", move || clients.request("order").unwrap().promise("a sign").unwrap().wait::<Value>());
+    });
+    assert_eq!(report.failed[0].why, "deadlock: client waits for a sign");
+}
+
+#[test]
+fn a_wait_may_end_before() {
+    let report = orders(|world| {
+        let (shop, told) = (world.store(Bounds::new()).process("shop", &Functions::new()), Shared::<String>::default());
+        let sign = shop.request("order").unwrap().promise("a sign").unwrap();
+        let (waits, tells) = (sign.clone(), told.clone());
+        shop.calls("client", move || *tells.get() = format!("{:?}", waits.wait_timeout::<String>(Duration::from_secs(5)).unwrap()));
+        shop.calls("another", move || sign.complete("there"));
+        world.end_is(move || told.get().clone());
+    });
+    assert_eq!(ends(&report), ["None", "Some(\"there\")"]);
+}
+
+#[test]
+fn only_a_thread_of_the_process_waits_for_so_long() {
+    let report = orders(|world| {
+        let sign = world.store(Bounds::new()).process("shop", &Functions::new()).request("order").unwrap().promise("a sign").unwrap();
+        world.calls("client", move || sign.wait_timeout::<Value>(Duration::from_secs(5)));
+    });
+    assert!(report.failed[0].why.starts_with("who waits so long for a sign is no thread of its process"), "{report}");
+}
+
+#[test]
+fn a_limit_in_the_store_may_pass_at_any_moment() {
+    let report = orders(|world| {
+        let store = world.store(Bounds::new());
+        let functions = Functions::new().with("load", 1, || Ok::<_, Failed>(5));
+        store.worker("one", &functions);
+        let shop = store.process_with("shop", &functions, ProcessOptions::new().workers(0));
+        shop.request("order").unwrap().supply("load", &[]).unwrap().or_timeout(Duration::from_secs(2)).unwrap();
+        world.end_is(move || store.outcomes().join(", "));
+    });
+    assert_eq!(ends(&report), ["order: load ends: 5", "order: load ends: load took longer than 2 s"]);
+}
+
+#[test]
+fn two_threads_of_a_process() {
+    is_sound(&orders(|world| {
+        let (store, ran) = (world.store(Bounds::new()), Shared::<BTreeSet<u32>>::default());
+        let runs = ran.clone();
+        let functions = Functions::new().with("load", 1, move |number: u32| Ok::<_, Failed>(runs.get().insert(number)));
+        store.touches("load", &["ran"]);
+        let one = store.process_with("one", &functions, ProcessOptions::new().workers(2));
+        let request = one.request("order").unwrap();
+        [1, 2].iter().for_each(|number| drop(request.supply("load", &[json!(number)]).unwrap()));
+        world.at_end("both are run", move || ran.get().len() == 2);
+    }));
+}
+
+#[test]
+fn what_a_function_or_a_caller_panics_with_fails_the_order() {
+    let function = orders(|world| {
+        let fails = || if world_is_there() { Done::Ok(()) } else { panic!("it isn't") };
+        let functions = Functions::new().with("load", 1, fails);
+        world.store(Bounds::new()).worker("one", &functions).request("order").unwrap().supply("load", &[]).unwrap();
+    });
+    assert_eq!(function.failed[0].why, "load panicked: it isn't");
+    let caller = orders(|world| {
+        let shop = world.store(Bounds::new()).process("shop", &Functions::new());
+        shop.calls("client", || assert!(world_is_there(), "nor here"));
+    });
+    assert_eq!(caller.failed[0].why, "client panicked: nor here");
+}
+
+fn world_is_there() -> bool {
+    false
+}
+
+#[test]
+fn a_panic_is_its_stages_error_where_that_is_said() {
+    let report = Orders::new().time(LIMIT).panics().run(|world| {
+        let store = world.store(Bounds::new());
+        let fails = || if world_is_there() { Done::Ok(()) } else { panic!("it isn't") };
+        let functions = Functions::new().with("load", 1, fails);
+        store.worker("one", &functions).request("order").unwrap().supply("load", &[]).unwrap();
+        world.end_is(move || store.outcomes().join(", "));
+    });
+    assert_eq!(ends(&report), ["order: load ends: Panic: it isn't"]);
+}
+
+#[test]
+fn what_a_test_keeps_of_a_run_is_let_go() {
+    let kept = Shared::<Vec<Weak<()>>>::default();
+    let keeps = kept.clone();
+    let report = Orders::new().time(LIMIT).run(move |world| {
+        let held = Arc::new(());
+        keeps.get().push(Arc::downgrade(&held));
+        let store = world.store(Bounds::new().killed(1));
+        let functions = Functions::new().with("load", 1, move || Ok::<_, Failed>(Arc::strong_count(&held)));
+        let one = store.worker("one", &functions);
+        let (its, stage) = (one.clone(), one.request("order").unwrap().supply("load", &[]).unwrap());
+        one.calls("client", move || {
+            drop(stage.peek::<Value>());
+            drop(its);
+        });
+    });
+    is_sound(&report);
+    assert!(kept.get().iter().all(|it| it.upgrade().is_none()), "what a run's functions have is kept");
+}
+
+// What the crate promises, over small plans, whatever goes wrong once.
+
+type Attaches = fn(&Request) -> Stage;
+
+const PLANS: [(&str, Attaches); 3] = [
+    ("one stage", |request| request.supply("load", &[]).unwrap()),
+    ("two in a row", |request| request.supply("load", &[]).unwrap().then("more").unwrap()),
+    ("again", |request| request.supply("load", &[]).unwrap().again(1).unwrap()),
+];
+
+fn faults() -> [(&'static str, Bounds); 6] {
+    let none = Bounds::new();
+    [
+        ("lost", none.lost(1)),
+        ("unanswered", none.unanswered(1)),
+        ("late", none.late(1)),
+        ("silent", none.silent(1)),
+        ("killed", none.killed(1)),
+        ("slow", none.slow(1)),
+    ]
+}
+
+/// Whether no claim is granted twice.
+pub fn is_granted_once(store: &WorldStore) -> bool {
+    let (granted, mut counts) = (store.granted(), BTreeMap::new());
+    granted.iter().for_each(|(_, request, stage)| *counts.entry((request.clone(), *stage)).or_insert(0) += 1);
+    counts.values().all(|count| *count == 1)
+}
+
+/// Whether a put stands once or never, and each word where its process was told.
+pub fn stands_once(store: &WorldStore) -> bool {
+    let rows: BTreeMap<_, _> = store.entries().into_iter().collect();
+    let tokens: Vec<u64> = rows.values().flatten().map(|entry| entry.token).collect();
+    let differ = tokens.iter().collect::<BTreeSet<_>>().len() == tokens.len();
+    differ && store.answered().iter().all(|(_, request, place, word)| rows[request][place - 1].word == *word)
+}
+
+fn small(world: &World, plan: Attaches, workers: usize, bounds: Bounds) {
+    let functions = Functions::new().with("load", 1, || Ok::<_, Failed>(1)).with("more", 1, |one: u32| Ok::<_, Failed>(one + 1));
+    let store = world.store(bounds);
+    ["load", "more"].iter().for_each(|name| store.pure(name));
+    let one = store.worker("one", &functions);
+    store.process_with("two", &functions, ProcessOptions::new().workers(workers - 1).takes_all());
+    plan(&one.request("order").unwrap());
+    let (stands, settles, granted) = (store.clone(), store.clone(), store.clone());
+    world.at_end("no claim is granted twice", move || is_granted_once(&granted));
+    world.at_end("a put stands once or never, and where its process was told", move || stands_once(&stands));
+    world.at_end("all stages are settled", move || one.is_dead() && workers == 1 || settles.outcomes().iter().all(|it| !it.ends_with("is open")));
+    world.end_is(move || format!("{:?} {:?}", store.outcomes(), store.granted()));
+}
+
+#[test]
+fn no_claim_is_granted_twice_and_no_put_stands_twice() {
+    for (name, plan) in PLANS {
+        for (fault, bounds) in faults() {
+            if name != "two in a row" || ["killed", "unanswered"].contains(&fault) {
+                let report = orders(move |world| small(world, plan, 2, bounds));
+                assert!(report.whole && report.failed.is_empty(), "{name}, {fault}: {report}");
+            }
+        }
+    }
+}
+
+// What is left out.
+
+#[test]
+fn the_ends_are_the_same_with_and_without_what_is_left_out() {
+    for (name, plan) in PLANS {
+        for (fault, bounds) in faults() {
+            let reduced = orders(move |world| small(world, plan, 1, bounds));
+            let plain = Orders::new().time(LIMIT).all().run(move |world| small(world, plan, 1, bounds));
+            assert_eq!(ends(&reduced), ends(&plain), "{name}, {fault}");
+        }
+    }
+}
+
+#[test]
+fn functions_in_two_processes_are_tried_in_both_orders() {
+    let report = orders(|world| {
+        let (store, log) = (world.store(Bounds::new()), Shared::<Vec<u32>>::default());
+        let logs = log.clone();
+        let load = move |number: u32| {
+            logs.get().push(number);
+            Done::Ok(())
+        };
+        let functions = Functions::new().with("load", 1, load);
+        for (number, name) in [(1, "first"), (2, "second")] {
+            let process = store.process(name, &functions);
+            process.request(name).unwrap().supply("load", &[json!(number)]).unwrap();
+        }
+        world.end_is(move || format!("{:?}", log.get()));
+    });
+    assert_eq!(ends(&report), ["[1, 2]", "[2, 1]"]);
+    assert!(report.orders + report.cut < 6, "{report}");
+}
+
+#[test]
+fn a_stage_is_seen_by_what_its_process_has_read() {
+    let report = orders(|world| {
+        let (store, seen) = (world.store(Bounds::new()), Shared::<bool>::default());
+        let (one, two) = (store.process("one", &Functions::new()), store.process("two", &Functions::new()));
+        let sign = one.request("order").unwrap().promise("a sign").unwrap();
+        let (its, sees) = (two.open("order").unwrap().stage(0).unwrap(), seen.clone());
+        one.calls("another", move || sign.complete("there"));
+        two.calls("client", move || *sees.get() = is_done(&its));
+        world.end_is(move || seen.get().to_string());
+    });
+    assert_eq!(ends(&report), ["false", "true"]);
+}
