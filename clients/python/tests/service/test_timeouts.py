@@ -8,6 +8,7 @@ import concurrent.futures
 import gc
 import json
 import math
+import random
 import threading
 import time
 import unittest
@@ -158,6 +159,16 @@ class Limits(Case):
             self.request = self.service.request()
             self.request.promise().or_timeout(1000).complete(1)
         self.assertLess(len(self.service._works.clock._due), 300)
+
+    def test_alarms_that_are_left_ring_in_their_order(self):
+        """Those that nobody wants are taken out now and then. The first of the others stays the first."""
+        clock, dice, stages = self.service._works.clock, random.Random(7), []
+        for _ in range(300):
+            limited = self.service.request().promise().or_timeout(1000 + dice.randrange(1000))
+            stages.append(limited)
+            if len(stages) > 20:
+                stages.pop(dice.randrange(20)).complete(1)
+            self.assertEqual(clock._due[0], min(clock._due))
 
 
 class Causes(Case):
