@@ -36,10 +36,12 @@ class Bounds(Case):
 
     def test_full_flow(self):
         flow = Flow()
-        for _ in range(4095):
+        first = flow.promise()
+        for _ in range(4094):
             flow.promise()
         with self.assertRaises(RequestFull):
-            Flow.supply(flow, str).compose(str)
+            first.compose(str)  # (it takes two)
+        flow.supply(str)
         with self.assertRaises(RequestFull):
             flow.promise()
         full_begun = flow.run()
