@@ -401,7 +401,11 @@ static void let_go(Stage *stage, Kept *first) {
 /* Gives somebody a turn, and says whether it is taken. An interrupt that comes meanwhile is raised once it is: a turn
  * too many does nothing, and one too few leaves a function behind. */
 static int put(Request *self, Kept *interrupt) {
-  PyObject *is_taken = ask(self->works, self->state->things[PUT], (PyObject *)self, interrupt);
+  PyObject *is_taken = NULL;
+  for (int tries = 0; !is_taken && tries < TRIES; tries++) {  /* (the start of a thread takes long enough for several) */
+    if (tries) keep(interrupt);
+    is_taken = ask(self->works, self->state->things[PUT], (PyObject *)self, interrupt);
+  }
   int taken = is_taken ? PyObject_IsTrue(is_taken) : -1;
   Py_XDECREF(is_taken);
   return taken;

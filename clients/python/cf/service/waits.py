@@ -153,7 +153,10 @@ class Threads:
             return
         self._alive += 1
         self._idle += 1
-        thread, error = _begun(functools.partial(self._work, number, [first]), f"{self.name}_{number}")
+        try:
+            thread, error = _begun(functools.partial(self._work, number, [first]), f"{self.name}_{number}")
+        except BaseException as interrupt:
+            thread, error = None, interrupt
         if thread is None:
             self._alive -= 1
             self._idle -= 1
