@@ -81,6 +81,7 @@ class Threads:
         self._turns = by.queue()  # None lets a thread end, if no turn is behind it
         self._alive = 0
         self._idle = 0  # the threads that wait, less the turns in the queue; it isn't kept once all are there
+        self._rested: Deque[None] = deque()  # those that began to wait, which `_idle` doesn't count yet
         self._is_full = False  # all are there
 
     # What a pool says.
@@ -111,7 +112,7 @@ class Threads:
         with self._lock:
             if not is_put:
                 self._turns.put(turn)
-            self._idle -= 1
+            self._idle += self._new_ones() - 1
             if self._idle < 0 and self._alive < self.most and (self._alive or not self.closed) and not self.broken:
                 self._start()
             left = [] if self._alive else self._drained()
@@ -185,8 +186,7 @@ class Threads:
     def _take(self) -> "Optional[Request]":
         """Waits for a turn. None where this thread is to end."""
         if not self._is_full:
-            with self._lock:
-                self._idle += 1
+            self._rested.append(None)  # (who starts this thread may have the lock yet)
         turn: "Optional[Request]" = self._turns.get()
         if turn is None:
             with self._lock:
@@ -205,6 +205,13 @@ class Threads:
                 if turn is not None:
                     return turn
         return None
+
+    def _new_ones(self) -> int:
+        """How many threads have begun to wait since the last call. The lock is held."""
+        many = len(self._rested)
+        for _ in range(many):
+            self._rested.popleft()
+        return many
 
     def _drained(self) -> "List[Request]":
         """All turns of the queue. The lock is held."""

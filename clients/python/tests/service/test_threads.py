@@ -13,7 +13,8 @@ from cf.service import Service
 
 class Threads(unittest.TestCase):
     def idle(self, pooled, many):
-        self.assertTrue(until(lambda: pooled._works._idle == many))
+        works = pooled._works
+        self.assertTrue(until(lambda: works._idle + len(works._rested) == many))
 
     def test_idle_threads_are_used(self):
         with Service(4) as pooled:
