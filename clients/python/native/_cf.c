@@ -402,7 +402,7 @@ static void let_go(Stage *stage, Kept *first) {
  * too many does nothing, and one too few leaves a function behind. */
 static int put(Request *self, Kept *interrupt) {
   PyObject *is_taken = NULL;
-  for (int tries = 0; !is_taken && tries < TRIES; tries++) {  /* (the start of a thread takes long enough for several) */
+  for (int tries = 0; !is_taken && tries < TRIES; tries++) {  /* (several interrupts may come while a thread starts) */
     if (tries) keep(interrupt);
     is_taken = ask(self->works, self->state->things[PUT], (PyObject *)self, interrupt);
   }

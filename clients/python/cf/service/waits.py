@@ -186,7 +186,7 @@ class Threads:
     def _take(self) -> "Optional[Request]":
         """Waits for a turn. None where this thread is to end."""
         if not self._is_full:
-            self._rested.append(None)  # (who starts this thread may have the lock yet)
+            self._rested.append(None)  # (who started this thread may still hold the lock)
         turn: "Optional[Request]" = self._turns.get()
         if turn is None:
             with self._lock:
