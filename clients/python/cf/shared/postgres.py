@@ -454,6 +454,8 @@ class Postgres(TableStore):
             db.autocommit = False
         try:
             with db.cursor() as cursor:
+                with self._telling():
+                    cursor.execute("savepoint cf_function")
                 yield _Transaction(self, db, cursor)
         finally:
             db.close()  # what wasn't committed is undone by that
@@ -502,6 +504,10 @@ class _Transaction(Transaction):
         if self.connection.closed and not self._db.closed:
             raise StoreError("the function has closed its cursor")
         with self._store._telling():
+            try:
+                self.connection.execute("release savepoint cf_function")
+            except (errors.InvalidSavepointSpecification, errors.NoActiveSqlTransaction):
+                raise StoreError("the function has ended its transaction") from None
             for k, entry in enumerate(put.entries):
                 self.connection.execute("insert into cf_word select id, %s, %s, %s, %s from cf_request where id = %s "
                                         "on conflict do nothing",

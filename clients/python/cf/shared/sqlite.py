@@ -329,6 +329,7 @@ class SQLite(TableStore):
             try:
                 with self._telling:
                     db.execute("begin immediate")
+                    db.execute("savepoint cf_function")
                 yield _Transaction(self, db)
             finally:
                 _within.paths.remove(self._path)
@@ -490,6 +491,10 @@ class _Transaction(Transaction):
 
     def append(self, put: Put) -> bool:
         with self._store._telling:
+            try:
+                self.connection.execute("release savepoint cf_function")
+            except sqlite3.OperationalError:
+                raise StoreError("the function has ended its transaction") from None
             return _put(self.connection, self._store._id_of(put), put)
 
     def commit(self) -> None:

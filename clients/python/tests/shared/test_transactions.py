@@ -126,14 +126,20 @@ class Transactions(Case):
                 self.assertEqual(transacting.supply(f.inc, 1).result(20), 2)
 
     def test_what_a_transactional_function_does_to_its_connection(self):
-        """Whatever it is, its stage ends and others can put."""
-        paying = self.service()
-        transacting, acts = paying.request(self.name), [lambda db: db.close(), lambda db: db.execute("no statement"),
-                                                        lambda db: db.rollback()]
-        function = paying.function("acts", transactional=True)(lambda connection, k: acts[k](connection))
-        for k in range(len(acts)):
-            self.assertTrue(transacting.supply(function, k).exception(20) is not None or k == 2)
-        self.assertEqual(self.service().request(f"{self.name} 2").supply(f.inc, 1).result(20), 2)
+        """Whatever it is, its stage ends with an error and others can put. A function that ends its transaction would
+        have a finish without its effect, also if it begins another one."""
+        acts = [lambda db: db.close(), lambda db: db.execute("no statement"), lambda db: db.execute("rollback"),
+                lambda db: [db.execute("rollback"), db.execute("begin")]]
+        for address in [self.address, *[it for it in STORES if it.startswith("postgres")]]:
+            with self.subTest(address=address):
+                paying = self.service(address)
+                transacting = paying.request(self.name)
+                act = paying.function(f"acts {address}", transactional=True)(lambda db, k: acts[k](db) and None)
+                for k in range(len(acts)):
+                    error = transacting.supply(act, k).exception(20)
+                    self.assertIsNotNone(error)
+                    self.assertIn("has ended its transaction" if k > 1 else "", str(error))
+                self.assertEqual(self.service(address).request(f"{self.name} 2").supply(f.inc, 1).result(20), 2)
 
     def test_no_effect_is_for_nothing(self):
         """Where the stage was settled by others, before its transactional function is called or while it runs, no

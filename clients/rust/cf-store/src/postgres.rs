@@ -412,7 +412,7 @@ impl Store for Postgres {
 
     fn transaction(&self) -> Result<Box<dyn Transaction + '_>, StoreError> {
         let connection = Connection::new(&self.config)?;
-        connection.all("begin")?;
+        connection.all("begin; savepoint cf_function")?;
         Ok(Box::new(Open { store: self, inside: PostgresTransaction(connection) }))
     }
 }
@@ -451,7 +451,7 @@ impl Transaction for Open<'_> {
     }
 
     fn append(&mut self, put: Put<'_>) -> Result<bool, StoreError> {
-        self.inside.0.all("savepoint cf")?; // (refused where the function has ended its transaction)
+        self.inside.0.all("release savepoint cf_function")?; // (it is there, unless the function has ended its transaction)
         let rows = self.inside.0.rows(&format!("{PUT} on conflict do nothing returning 1"), &PutValues::new(&put).all())?;
         Ok(rows.len() == put.entries.len())
     }

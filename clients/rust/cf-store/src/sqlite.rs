@@ -319,7 +319,7 @@ impl Store for SQLite {
 
     fn transaction(&self) -> Result<Box<dyn Transaction + '_>, StoreError> {
         let line = self.line()?;
-        let db = self.connected().and_then(|db| db.execute_batch("begin immediate").map(|()| db)).map_err(|error| self.told(&error))?;
+        let db = self.connected().and_then(|db| db.execute_batch("begin immediate; savepoint cf_function").map(|()| db)).map_err(|error| self.told(&error))?;
         Ok(Box::new(Open { store: self, db, _within: Within::new(&self.path), _line: line }))
     }
 }
@@ -372,7 +372,7 @@ impl Transaction for Open<'_> {
     }
 
     fn append(&mut self, put: Put<'_>) -> Result<bool, StoreError> {
-        if self.db.is_autocommit() {
+        if self.db.execute_batch("release cf_function").is_err() {
             return Err(StoreError::Refused("the function has ended its transaction".into()));
         }
         put_in(&self.db, put).map_err(|error| self.store.told(&error))

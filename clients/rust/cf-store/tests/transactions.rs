@@ -117,6 +117,7 @@ fn a_transactional_function_neither_puts_nor_ends_its_transaction() {
         .transactional("other", 1, move |_: &mut Connection| other.promise("late").map(|it| it.number()))
         .transactional("undoes", 1, |db: &mut Connection, name: String| pay(db, name).and_then(|_| db.execute_batch("rollback")))
         .transactional("commits", 1, |db: &mut Connection| db.execute_batch("rollback; begin; commit"))
+        .transactional("begins", 1, |db: &mut Connection| db.execute_batch("rollback; begin"))
         .transactional("pay", 1, pay);
     let service = Service::with(file.store(), functions, quick()).unwrap();
     let request = service.open("own").unwrap();
@@ -125,7 +126,9 @@ fn a_transactional_function_neither_puts_nor_ends_its_transaction() {
         assert!(failed(settled(&request.supply(function, &[]).unwrap())).text.contains("transactional function can't put"), "{function}");
     }
     assert!(failed(settled(&request.supply("undoes", &[json!("x")]).unwrap())).text.contains("ended its transaction"));
-    assert!(failed(settled(&request.supply("commits", &[]).unwrap())).text.contains("ended its transaction"));
+    for function in ["commits", "begins"] {
+        assert!(failed(settled(&request.supply(function, &[]).unwrap())).text.contains("ended its transaction"), "{function}");
+    }
     assert_eq!(settled::<String>(&request.supply("pay", &[json!("anna")]).unwrap()), Ok("anna".into()));
     assert!(own.promise("after").is_ok(), "others can put");
     assert_eq!(paid(&db), ["anna"]);
