@@ -175,7 +175,7 @@ def run(folder, times=3):
         if servers.missing(engine):
             told.append(f"{engine} left out")
             continue
-        others = [it for it in LANGUAGES if workers_of(it) and engine != "etcd"]
+        others = [it for it in LANGUAGES if workers_of(it)]
         for lax, language in ((False, "python"), *((False, it) for it in others), (True, "python")):
             done = []
             for number in range(times if not lax else 1):

@@ -1,3 +1,4 @@
+import cf.service.EtcdStore;
 import cf.service.Functions;
 import cf.service.JdbcStore;
 import cf.service.RemoteException;
@@ -71,7 +72,7 @@ public final class Faults {
         this.notes = notes;
         this.seed = seed;
         chance = new Random(Long.parseLong(seed));
-        service = new StoreService(notes.noted(opened(jdbc(address))), functions(notes), 2, 700, TimeUnit.MILLISECONDS, true);
+        service = new StoreService(notes.noted(opened(address)), functions(notes), 2, 700, TimeUnit.MILLISECONDS, true);
     }
 
     // The process's own log.
@@ -561,7 +562,7 @@ public final class Faults {
 
     // The process.
 
-    /** The same address for JDBC. */
+    /** The address of SQLite or PostgreSQL, for JDBC. */
     private static String jdbc(String address) {
         if (address.startsWith("sqlite:///")) {
             return "jdbc:sqlite:" + address.substring("sqlite:///".length());
@@ -571,10 +572,10 @@ public final class Faults {
     }
 
     /** The store, once it answers. */
-    private static JdbcStore opened(String url) throws InterruptedException {
+    private static Store opened(String address) throws InterruptedException {
         while (true) {
             try {
-                return JdbcStore.open(url);
+                return address.startsWith("etcd://") ? EtcdStore.open(address.substring("etcd://".length())) : JdbcStore.open(jdbc(address));
             } catch (StoreException.Unknown silent) {
                 Thread.sleep(50);
             }
@@ -598,7 +599,7 @@ public final class Faults {
 
     /** Attaches one stage after another until it is killed, and writes a line to a file for each that it is told of. */
     private static void write(String address, String log) throws Exception {
-        StoreService service = new StoreService(opened(jdbc(address)), new Functions());
+        StoreService service = new StoreService(opened(address), new Functions());
         try (OutputStream out = new FileOutputStream(log, true)) {
             for (int number = 0;; number++) {
                 StoredRequest request = service.request("java " + number);

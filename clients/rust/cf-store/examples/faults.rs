@@ -199,6 +199,10 @@ fn store_of(address: &str) -> Result<Box<dyn Store>, StoreError> {
     if let Some(file) = address.strip_prefix("sqlite:///") {
         return Ok(Box::new(SQLite::open(file)?));
     }
+    #[cfg(feature = "etcd")]
+    if address.starts_with("etcd://") {
+        return Ok(Box::new(cf_store::Etcd::connect(address)?));
+    }
     #[cfg(feature = "postgres")]
     return Ok(Box::new(cf_store::Postgres::connect(address)?));
     #[cfg(not(feature = "postgres"))]
