@@ -10,7 +10,7 @@ from ..service.words import (ATTACH, CANCEL, CANCELLED, CLAIM, COMPLETE, FAIL, F
 from ..shared.codec import Json
 from ..shared.rows import Entry, Glance, Listed, Memory, Opened, Put, Store, Timer, Transaction
 from ..shared.view import RowView
-from .answers import NOT_ASKED, OF_PUTS, OF_READS, OF_WRITES
+from .answers import OF_PUTS, OF_READS, OF_WRITES
 from .footprints import CHANGES, READS, Thing
 
 if TYPE_CHECKING:
@@ -232,14 +232,12 @@ class WorldTransaction(Transaction):
         self._is_open = True
 
     def append(self, put: Put) -> bool:
-        def takes() -> bool:
-            stands = self._rows.read(put.request, put.at, put.number)
-            if not stands:
-                self._put = put
-                self._rows.hold(put.request, self)
-            return not stands
-        # (no move of its own, unless it waits: nobody else can put then until the transaction has ended)
-        return self._world.ask(self._process, NOT_ASKED, f"waits for its place in {put.request}", takes, put)
+        self._world.await_place(put.request)
+        stands = self._rows.read(put.request, put.at, put.number)
+        if not stands:
+            self._put = put
+            self._rows.hold(put.request, self)
+        return not stands
 
     def commit(self) -> None:
         assert self._put is not None

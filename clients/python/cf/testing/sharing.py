@@ -151,17 +151,18 @@ class WorldStore:
         flight = self.flight_of(process)
         if process.is_dead:
             raise Gone
-        if flight is None or flight.is_fresh and answers is OF_READS or not answers and self._possible(OF_READS, put):
+        if flight is None or flight.is_fresh and answers is OF_READS:
             if flight is not None:
                 flight.is_fresh = False
             return act()
         flight.is_fresh = False
-        ways = answers or OF_CALLS
-        chosen: Answer = self.run.wait_for(text, (), _always, None, ways, lambda: self._possible(ways, put))
+        chosen: Answer = self.run.wait_for(text, (), _always, None, answers, lambda: self._possible(answers))
         if chosen.costs:
             self.touch(FAULTS, CHANGES)
             self.bounds = self.bounds.less(chosen.costs)
         try:
+            if chosen.stands and put is not None:
+                self.await_place(put.request)
             if chosen.is_told:
                 return act()
             if chosen.stands:
@@ -176,9 +177,14 @@ class WorldStore:
             if flight.is_caller and chosen.stands and answers is not OF_READS:  # a test's own lines follow
                 self.run.wait_for("goes on", (), _always, None, OF_CALLS, lambda: (0,))
 
-    def _possible(self, answers: Sequence[Answer], put: Optional[Put]) -> List[int]:
-        if put is not None and put.request in self.rows.held:
-            return []  # a transaction is open that has the place
+    def await_place(self, request: str) -> None:
+        """Waits until no transaction has the place behind a request's row. The wait begins within the move that asks for
+        the place. So that move races with the one that took it, which can't come behind the transaction's end."""
+        self.touch(("held", request), READS)
+        while request in self.rows.held:
+            self.run.wait_for(f"its place in {request}", (("held", request),), lambda: request not in self.rows.held, None)
+
+    def _possible(self, answers: Sequence[Answer]) -> List[int]:
         return [k for k, answer in enumerate(answers) if self.bounds.allows(answer.costs)]
 
     # Moves.

@@ -410,6 +410,22 @@ class Reduction(unittest.TestCase):
                 self.assertEqual((reduced.whole, plain.whole), (True, True))
                 self.assertEqual(set(reduced.ends), set(plain.ends))
 
+    def test_a_put_comes_before_a_transaction_or_behind_it(self):
+        """It waits while the transaction has its place, and so is asked for before it in one order."""
+        def test(world):
+            functions = Functions()
+            write = functions.function("write", transactional=True)(touches()(lambda effects: effects.append(1)))
+            world.test = store = world.store()
+            store.worker("one", functions)
+            shop = store.process("shop", functions, workers=0)
+            shop.calls(shop.request("order").supply(write).cancel, name="client")
+
+        for reduce in (True, False):
+            report = orders(test, reduce=reduce, seconds=100,
+                            ends=lambda world: (*world.test.outcomes(), *world.test.effects))
+            self.assertTrue(report.whole)
+            self.assertEqual(set(report.ends), {("order: write ends: None", 1), ("order: write is cancelled",)})
+
     def test_functions_in_two_processes_are_tried_in_both_orders(self):
         def test(world):
             functions, log = Functions(), []
