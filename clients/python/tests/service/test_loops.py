@@ -6,10 +6,12 @@ doesn't, threads beside it, a loop that is closed.
 """
 import asyncio
 import contextvars
+import gc
 import math
 import threading
 import unittest
 import unittest.mock
+import weakref
 
 from case import fails, inc, Oops, Thing, Wild
 from cf.service import Flow, flow as flows, LoopService, Service
@@ -133,6 +135,23 @@ class Loops(unittest.TestCase):
             self.assertEqual(await quick, "1")
         asyncio.run(main())
         self.assertEqual(ended, ["cancelled"] * 3)
+
+    def test_a_task_that_was_cancelled_is_let_go(self):
+        """A loop keeps a task that it cancels until that has ended, and no longer."""
+        async def main():
+            on_loop, tasks = LoopService(asyncio.get_running_loop()).request(), []
+
+            async def slow():
+                tasks.append(weakref.ref(asyncio.current_task()))
+                await asyncio.sleep(100)
+            slow_stages = [on_loop.supply(slow) for _ in range(5)]
+            await asyncio.sleep(0.02)
+            for slow_stage in slow_stages:
+                self.assertTrue(slow_stage.abandon())
+            await asyncio.sleep(0.02)
+            gc.collect()
+            self.assertEqual([task() for task in tasks], [None] * 5)
+        asyncio.run(main())
 
     def test_limits_of_any_size(self):
         async def main():

@@ -352,6 +352,23 @@ class Times(Case):
             led.at_end(lambda: self.assertEqual((request.rung in ([20], [10, 20]), dict(request._limits)), (True, {})))
         self.in_every_order(world)
 
+    def test_behind_it_the_first_of_several_is_asked_for(self):
+        def world(led):
+            clock, led.horizon = LedClock(), 15
+            request = Limited(clock)
+
+            def settled():
+                request.limit(10)
+                request.settle(10)
+            led.plays(settled)
+            led.plays(lambda: (request.limit(20), request.limit(30)))
+
+            def ended():
+                moment, number = request._limits.alarm
+                self.assertEqual((moment, number in clock._wanted, set(request._limits)), (20, True, {20, 30}))
+            led.at_end(ended)
+        self.in_every_order(world)
+
     def test_a_start_that_fails_is_tried_again(self):
         def world(led):
             clock = LedClock()

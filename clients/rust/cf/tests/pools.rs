@@ -1,11 +1,13 @@
 //! Pools whose functions wait: as many run as there are threads, in a row, for stages of other requests, for a while.
 mod common;
 
-use cf::{Job, Pool, Request, Spawn, Stage};
+use cf::{Alarm, Clock, Job, Pool, Request, Spawn, Stage};
 use common::{comes_back, Yields, LONG};
+use std::panic::{set_hook, take_hook};
 use std::sync::atomic::{AtomicBool, AtomicUsize, Ordering};
-use std::sync::{Arc, Barrier};
-use std::thread;
+use std::sync::mpsc::{channel, Sender};
+use std::sync::{Arc, Barrier, Mutex};
+use std::thread::{self, ThreadId};
 use std::time::{Duration, Instant};
 
 #[test]
@@ -208,4 +210,39 @@ fn two_requests_wait_for_each_other_on_one_thread() {
         behind.wait().unwrap()
     });
     assert_eq!(waited.wait_timeout(LONG).expect("no thread waits for itself").unwrap(), 5);
+}
+
+/// A clock that tells who drops it. A request drops it behind its executor.
+struct Tells(Sender<ThreadId>);
+
+impl Clock for Tells {
+    fn now(&self) -> Duration {
+        Duration::ZERO
+    }
+
+    fn after(&self, _wait: Duration, _alarm: Alarm) {}
+}
+
+impl Drop for Tells {
+    fn drop(&mut self) {
+        self.0.send(thread::current().id()).unwrap();
+    }
+}
+
+/// The last clone goes on a thread of the pool, which waits for the others and not for itself. That would be a panic, which only a hook sees.
+#[test]
+fn a_pool_goes_on_one_of_its_own_threads() {
+    let panicked = Arc::new(Mutex::new(Vec::new()));
+    let (seen, hook) = (Arc::clone(&panicked), take_hook());
+    set_hook(Box::new(move |info| {
+        seen.lock().unwrap().push(thread::current().id());
+        hook(info);
+    }));
+    let ((tells, told), (goes_on, rests)) = (channel(), channel());
+    let pooled = Request::with_clock("goes", Arc::new(Pool::new(2)), Arc::new(Tells(tells)));
+    drop(pooled.supply(move || rests.recv().unwrap()));
+    drop(pooled);
+    goes_on.send(()).unwrap();
+    let by = told.recv_timeout(LONG).unwrap();
+    assert!(by != thread::current().id() && !panicked.lock().unwrap().contains(&by));
 }

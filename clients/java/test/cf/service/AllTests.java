@@ -94,6 +94,7 @@ public final class AllTests {
         test("cores used again", MachineTest::usedAgain);
         test("requests of one plan each have a core", MachineTest::oneCoreEach);
         test("attaches that fail", MachineTest::failedAttach);
+        test("words that are refused", MachineTest::refusedWords);
         test("words that fail a stage for a cause", MachineTest::failedAs);
         test("flows that several threads start first", FlowsTest::startedTogether);
         test("flows with errors", FlowsTest::flowErrors);
