@@ -57,11 +57,13 @@ class Case(unittest.TestCase):
         self.assertGreater(ends, 0)
 
 
-def surely(act):
-    """Does it again where it is interrupted, as the cores do with a turn."""
+def surely(act, caught=None):
+    """Does it again where it is interrupted, as the cores do with a turn, and writes that down."""
     try:
         return act()
-    except KeyboardInterrupt:
+    except KeyboardInterrupt as interrupt:
+        if caught is not None:
+            caught.append(type(interrupt))
         return act()
 
 
@@ -424,19 +426,19 @@ class Times(Case):
 
 class Hooks(Case):
     def world(self, led, many=2, seconds=30.0, most=8):
-        aside, done, lost, said = waits.Aside("aside", most), [], [], []
+        aside, done, lost, said, caught = waits.Aside("aside", most), [], [], [], []
 
         def ends():
             for k in range(many):
-                surely(lambda k=k: aside.put(lambda: done.append(k), lambda: lost.append(k)))
-            said.append(surely(lambda: aside.wait(seconds)))
+                surely(lambda k=k: aside.put(lambda: done.append(k), lambda: lost.append(k)), caught)
+            said.append(surely(lambda: aside.wait(seconds), caught))
         led.plays(ends)
-        return aside, done, lost, said
+        return aside, done, lost, said, caught
 
     def test_all_is_done_before_the_end(self):
         for given in ({}, {"fails": 1}, {"fails": 2}):
             def world(led):
-                aside, done, lost, said = self.world(led)
+                aside, done, lost, said, _ = self.world(led)
                 led.plays(lambda: aside.put(lambda: done.append("other"), None))
 
                 def ended():
@@ -446,14 +448,19 @@ class Hooks(Case):
             self.in_every_order(world, **given)
 
     def test_an_interrupt_loses_nothing(self):
+        """It comes to who called, also as a thread is started."""
         def world(led):
-            aside, done, lost, said = self.world(led)
-            led.at_end(lambda: self.assertTrue(said == [False] or {0, 1} <= set(done), (said, done)))
+            aside, done, lost, said, caught = self.world(led)
+
+            def ended():
+                self.assertTrue(said == [False] or {0, 1} <= set(done), (said, done))
+                self.assertEqual(led.interrupts + len(caught), 1)
+            led.at_end(ended)
         self.in_every_order(world, interrupts=1)
 
     def test_too_many_are_told_once(self):
         def world(led):
-            aside, done, lost, said = self.world(led, 3, 30.0, 1)
+            aside, done, lost, _, _ = self.world(led, 3, 30.0, 1)
             led.at_end(lambda: self.assertTrue(len(done) + len(lost) >= 2 and len(done) >= 1 and len(lost) <= 1, done))
         self.in_every_order(world)
 
@@ -669,9 +676,9 @@ class Searches(Case):
             pool, said = Pool(1), {}
 
             def ended():
-                self.told.add((said["a"], pool.came_to("a"), said["b"], pool.came_to("b")))
+                self.told.add((said["a"], pool.came_to("a")))
             led.plays(lambda: said.update(a=pool.put("a")))
-            led.plays(lambda: (pool.close(), said.update(b=pool.put("b"))))
+            led.plays(pool.close)
             led.at_end(ended)
         ends = []
         for matches in (True, False):
