@@ -425,21 +425,26 @@ class Times(Case):
 
 
 class Hooks(Case):
-    def world(self, led, many=2, seconds=30.0, most=8):
+    def world(self, led, many=2, seconds=30.0, most=8, do=lambda done, it: done.append(it)):
         aside, done, lost, said, caught = waits.Aside("aside", most), [], [], [], []
 
         def ends():
             for k in range(many):
-                surely(lambda k=k: aside.put(lambda: done.append(k), lambda: lost.append(k)), caught)
+                surely(lambda k=k: aside.put(lambda: do(done, k), lambda: lost.append(k)), caught)
             said.append(surely(lambda: aside.wait(seconds), caught))
         led.plays(ends)
         return aside, done, lost, said, caught
 
-    def test_all_is_done_before_the_end(self):
+    def test_all_is_done_before_the_end_and_one_after_another(self):
+        def do(done, it):
+            done.append("begun")
+            look("done")
+            self.assertEqual(done.pop(), "begun")
+            done.append(it)
         for given in ({}, {"fails": 1}, {"fails": 2}):
             def world(led):
-                aside, done, lost, said, _ = self.world(led)
-                led.plays(lambda: aside.put(lambda: done.append("other"), None))
+                aside, done, lost, said, _ = self.world(led, do=do)
+                led.plays(lambda: aside.put(lambda: do(done, "other"), None))
 
                 def ended():
                     if said == [True] and "other" in done:
