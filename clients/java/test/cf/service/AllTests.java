@@ -91,6 +91,9 @@ public final class AllTests {
         test("what describes values", DescribeTest::describers);
         test("values that can't be shown", DescribeTest::unspeakable);
         test("exceptions that can't be shown", DescribeTest::unspeakableWrapped);
+        test("what ends a request, instead", InsteadTest::ends);
+        test("what comes of several stages, instead", InsteadTest::ofSeveral);
+        test("what begins later, instead", InsteadTest::later);
         test("cores used again", MachineTest::usedAgain);
         test("requests of one plan each have a core", MachineTest::oneCoreEach);
         test("attaches that fail", MachineTest::failedAttach);
@@ -156,6 +159,7 @@ public final class AllTests {
             test("a process that dies", StoresTest::dies);
             test("what hangs on an abandoned stage", StoresTest::hangs);
             test("a further try whose process is gone", StoresTest::onceMore);
+            test("a value that can't be read once", StoresTest::unread);
             test("rows that can't be gone on with", StoresTest::broken);
             over(StoresTest.InFile::new, "functions that compose in SQLite", StoredFunctionsTest::composing);
             over(StoresTest.InFile::new, "arguments by name", StoredFunctionsTest::named);

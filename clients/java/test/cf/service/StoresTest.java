@@ -5,6 +5,7 @@ import static cf.service.Checks.thrown;
 
 import java.io.File;
 import java.io.IOException;
+import java.lang.reflect.Proxy;
 import java.nio.charset.StandardCharsets;
 import java.nio.file.Files;
 import java.nio.file.Path;
@@ -286,6 +287,28 @@ public final class StoresTest {
             is(request.stage(last.number() - 1).fail(new RemoteException(RemoteException.ABANDONED, "gone")), true);
             try (StoreService service = service(file, functions)) {
                 is(end(service.open("once more").stage(last.number())).toString().contains("we are closed"), true);
+            }
+        }
+    }
+
+    /** A value can't be read once, behind the claim that is called with it: the function is called all the same. */
+    static void unread() throws Exception {
+        Functions functions = new Functions().with("inc", 1, number -> (Long) number + 1);
+        AtomicInteger reads = new AtomicInteger();
+        try (InFile file = new InFile(); StoreService asks = service(file, functions, 0, false)) {
+            StoredStage number = asks.request("unread").promise("number");
+            number.complete(1);
+            StoredStage inc = number.then("inc");
+            Store store = file.open();
+            Place failing = () -> (Store) Proxy.newProxyInstance(Store.class.getClassLoader(), new Class<?>[] {Store.class}, (proxy, method, args) -> {
+                if (method.getName().equals("payload") && args[2].equals(2) && reads.getAndIncrement() == 0) {
+                    throw new StoreException("the value is away");
+                }
+                return method.invoke(store, args);
+            });
+            try (StoreService works = service(failing, functions)) {
+                is(end(works.open("unread").stage(inc.number())), 2L);
+                is(reads.get() > 1, true);
             }
         }
     }
