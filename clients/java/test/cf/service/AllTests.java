@@ -150,6 +150,7 @@ public final class AllTests {
         test("orders over a store that are left out", StoredOrdersTest::leftOut);
         test("orders over a store by chance", StoredOrdersTest::byChance);
         test("JSON", StoresTest::json);
+        test("who is gone", StoresTest::gone);
         if (StoresTest.hasDriver()) {
             over(StoresTest.InFile::new, "functions of requests in SQLite", StoresTest::functions);
             over(StoresTest.InFile::new, "services that share a file", StoresTest::others);
@@ -159,6 +160,7 @@ public final class AllTests {
             test("a process that dies", StoresTest::dies);
             test("what hangs on an abandoned stage", StoresTest::hangs);
             test("a further try whose process is gone", StoresTest::onceMore);
+            test("another request of a name", StoresTest::another);
             test("a value that can't be read once", StoresTest::unread);
             test("rows that can't be gone on with", StoresTest::broken);
             over(StoresTest.InFile::new, "functions that compose in SQLite", StoredFunctionsTest::composing);

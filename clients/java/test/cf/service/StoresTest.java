@@ -3,15 +3,21 @@ package cf.service;
 import static cf.service.Checks.is;
 import static cf.service.Checks.thrown;
 
+import cf.service.watch.Host;
 import java.io.File;
 import java.io.IOException;
 import java.lang.reflect.Proxy;
 import java.nio.charset.StandardCharsets;
 import java.nio.file.Files;
 import java.nio.file.Path;
+import java.sql.Connection;
+import java.sql.DriverManager;
+import java.sql.SQLException;
+import java.sql.Statement;
 import java.util.ArrayList;
 import java.util.Arrays;
 import java.util.Collections;
+import java.util.HashMap;
 import java.util.LinkedHashMap;
 import java.util.List;
 import java.util.Map;
@@ -288,6 +294,73 @@ public final class StoresTest {
             try (StoreService service = service(file, functions)) {
                 is(end(service.open("once more").stage(last.number())).toString().contains("we are closed"), true);
             }
+        }
+    }
+
+    /** Who is gone: not where this process stood still, or the store was away. The beats of who is long gone are dropped. */
+    static void gone() {
+        long[] now = {0};
+        boolean[] isAway = {false};
+        Map<Long, Long> beats = new HashMap<>(Collections.singletonMap(1L, 1L));
+        Host host = new Host() {
+            @Override
+            public long nanoTime() {
+                return now[0];
+            }
+        };
+        Store store = (Store) Proxy.newProxyInstance(Store.class.getClassLoader(), new Class<?>[] {Store.class}, (proxy, method, args) -> {
+            if (isAway[0]) {
+                throw new StoreException.Unknown("away", null);
+            }
+            return method.getName().equals("beats") ? new HashMap<>(beats) : beats.remove(args[0]);
+        });
+        StoreService.Watcher watcher = new StoreService.Watcher(100, host);
+        long[] pauses = {0, 10_000, 40, 20, 0, 50, 50, 50, 50};
+        boolean[] areGone = new boolean[pauses.length];
+        for (int k = 0; k < pauses.length; k++) {
+            now[0] += pauses[k];
+            isAway[0] = k == 6;
+            beats.put(1L, k < 4 ? 1L : 2L); // (it beats once more before the fifth look)
+            watcher.look(store);
+            areGone[k] = watcher.isGone(1);
+        }
+        is(Arrays.toString(areGone), "[false, false, false, true, false, false, false, false, false]");
+        is(watcher.isGone(7), false); // (it never beat, so it counts from now on)
+        for (int looks = 0; looks < 203; looks++) {
+            now[0] += 50;
+            watcher.look(store);
+        }
+        is(watcher.isGone(7) + " " + beats, "true {}");
+    }
+
+    /** Drops a request, as Python's processes can. */
+    private static void drop(InFile file, StoredRequest request) throws SQLException {
+        try (Connection at = DriverManager.getConnection("jdbc:sqlite:" + file.path); Statement asked = at.createStatement()) {
+            for (String table : new String[] {"cf_word", "cf_large", "cf_name"}) {
+                asked.execute("delete from " + table + " where request = " + request.number);
+            }
+            asked.execute("delete from cf_request where id = " + request.number);
+        }
+    }
+
+    /** A request is dropped, and another of its name opened: who has the first is told so, its timer is nothing to the second, and that goes on. */
+    static void another() throws Exception {
+        Functions functions = new Functions().with("inc", 1, number -> (Long) number + 1);
+        try (InFile file = new InFile(); StoreService service = service(file, functions); StoreService other = service(file, functions, 0, false)) {
+            StoredRequest first = service.request("again");
+            StoredStage old = first.promise("old").orTimeout(200, TimeUnit.MILLISECONDS);
+            drop(file, first);
+            StoredRequest second = service.request("again");
+            is(end(old).getClass(), StoreException.Gone.class);
+            StoredStage number = second.promise("number"), inc = number.then("inc");
+            service.serve(first);
+            try (Store store = file.open()) {
+                while (!store.due(1e12).isEmpty()) {
+                    Thread.sleep(5);
+                }
+            }
+            is(other.open("again").stage(0).complete(1), true);
+            is(end(inc), 2L);
         }
     }
 
