@@ -161,6 +161,7 @@ public final class AllTests {
             test("what hangs on an abandoned stage", StoresTest::hangs);
             test("a further try whose process is gone", StoresTest::onceMore);
             test("another request of a name", StoresTest::another);
+            test("jobs that no thread took", StoresTest::noThread);
             test("a value that can't be read once", StoresTest::unread);
             test("rows that can't be gone on with", StoresTest::broken);
             over(StoresTest.InFile::new, "functions that compose in SQLite", StoredFunctionsTest::composing);

@@ -21,7 +21,9 @@ import java.util.HashMap;
 import java.util.LinkedHashMap;
 import java.util.List;
 import java.util.Map;
+import java.util.Set;
 import java.util.concurrent.CancellationException;
+import java.util.concurrent.ConcurrentHashMap;
 import java.util.concurrent.ExecutionException;
 import java.util.concurrent.TimeUnit;
 import java.util.concurrent.TimeoutException;
@@ -331,6 +333,30 @@ public final class StoresTest {
             watcher.look(store);
         }
         is(watcher.isGone(7) + " " + beats, "true {}");
+    }
+
+    /** For the first job of each kind no thread can be started: what none took is taken later. */
+    static void noThread() throws Exception {
+        Functions functions = new Functions().with("inc", 1, number -> (Long) number + 1);
+        Set<Host.Job> refused = ConcurrentHashMap.newKeySet();
+        Host host = new Host() {
+            @Override
+            public void execute(Job job, String request, Runnable act) {
+                if (refused.add(job)) {
+                    throw new OutOfMemoryError("unable to create native thread");
+                }
+                super.execute(job, request, act);
+            }
+        };
+        try (InFile file = new InFile(); StoreService service = new StoreService(file.open(), functions, 2, LEASE, TimeUnit.MILLISECONDS, false, null, host)) {
+            StoredRequest request = service.request("no thread");
+            StoredStage number = request.promise("number"), inc = number.then("inc"), slow = request.promise("slow");
+            slow.orTimeout(30, TimeUnit.MILLISECONDS);
+            number.complete(1);
+            is(end(inc), 2L);
+            is(end(slow).getClass(), TimeoutException.class);
+            is(refused.containsAll(Arrays.asList(Host.Job.WORK, Host.Job.FIRE)), true);
+        }
     }
 
     /** Drops a request, as Python's processes can. */
