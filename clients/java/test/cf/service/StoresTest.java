@@ -6,6 +6,7 @@ import static cf.service.Checks.thrown;
 import cf.service.watch.Host;
 import java.io.File;
 import java.io.IOException;
+import java.lang.reflect.InvocationTargetException;
 import java.lang.reflect.Proxy;
 import java.nio.charset.StandardCharsets;
 import java.nio.file.Files;
@@ -28,6 +29,7 @@ import java.util.concurrent.ExecutionException;
 import java.util.concurrent.TimeUnit;
 import java.util.concurrent.TimeoutException;
 import java.util.concurrent.atomic.AtomicInteger;
+import java.util.function.BiFunction;
 
 /** Requests in a file of SQLite's, for which a driver of JDBC's has to be on the class path; and JSON. */
 public final class StoresTest {
@@ -93,6 +95,18 @@ public final class StoresTest {
 
     static StoreService service(Place place, Functions functions, int threads, boolean takesAll) {
         return new StoreService(place.open(), functions, threads, LEASE, TimeUnit.MILLISECONDS, takesAll);
+    }
+
+    /** A store of which this sees each call first. What it gives that isn't null is the answer. */
+    private static Store seen(Store store, BiFunction<String, Object[], Object> sees) {
+        return (Store) Proxy.newProxyInstance(Store.class.getClassLoader(), new Class<?>[] {Store.class}, (proxy, method, args) -> {
+            Object answer = sees.apply(method.getName(), args);
+            try {
+                return answer != null ? answer : method.invoke(store, args);
+            } catch (InvocationTargetException thrown) {
+                throw thrown.getCause();
+            }
+        });
     }
 
     static Object end(StoredStage stage) throws Exception {
@@ -310,11 +324,11 @@ public final class StoresTest {
                 return now[0];
             }
         };
-        Store store = (Store) Proxy.newProxyInstance(Store.class.getClassLoader(), new Class<?>[] {Store.class}, (proxy, method, args) -> {
+        Store store = seen(null, (call, args) -> {
             if (isAway[0]) {
                 throw new StoreException.Unknown("away", null);
             }
-            return method.getName().equals("beats") ? new HashMap<>(beats) : beats.remove(args[0]);
+            return call.equals("beats") ? new HashMap<>(beats) : beats.remove(args[0]);
         });
         StoreService.Watcher watcher = new StoreService.Watcher(100, host);
         long[] pauses = {0, 10_000, 40, 20, 0, 50, 50, 50, 50};
@@ -372,21 +386,32 @@ public final class StoresTest {
     /** A request is dropped, and another of its name opened: who has the first is told so, its timer is nothing to the second, and that goes on. */
     static void another() throws Exception {
         Functions functions = new Functions().with("inc", 1, number -> (Long) number + 1);
-        try (InFile file = new InFile(); StoreService service = service(file, functions); StoreService other = service(file, functions, 0, false)) {
-            StoredRequest first = service.request("again");
-            StoredStage old = first.promise("old").orTimeout(200, TimeUnit.MILLISECONDS);
-            drop(file, first);
-            StoredRequest second = service.request("again");
-            is(end(old).getClass(), StoreException.Gone.class);
-            StoredStage number = second.promise("number"), inc = number.then("inc");
-            service.serve(first);
-            try (Store store = file.open()) {
-                while (!store.due(1e12).isEmpty()) {
+        List<Store.Timer> old = Collections.synchronizedList(new ArrayList<>());
+        try (InFile file = new InFile(); Store store = file.open(); StoreService other = service(file, functions, 0, false)) {
+            Place keeping = () -> seen(store, (call, args) -> {
+                if (call.equals("dropTimer")) {
+                    old.remove(args[0]);
+                }
+                return call.equals("due") && !old.isEmpty() ? new ArrayList<>(old) : null;
+            });
+            try (StoreService service = service(keeping, functions)) {
+                StoredRequest first = service.request("again");
+                StoredStage told = first.promise("told");
+                drop(file, first);
+                StoredRequest second = service.request("again");
+                is(end(told).getClass(), StoreException.Gone.class);
+                StoredStage later = second.promise("later"), last = later.then("inc"), number = second.promise("number"), inc = number.then("inc");
+                number.complete(1);
+                is(end(inc), 2L);
+                service.serve(first);
+                old.add(new Store.Timer("again", first.number, later.number(), 0, new byte[] {'N'}));
+                while (!old.isEmpty()) {
                     Thread.sleep(5);
                 }
+                is(service.knownOf("again") == second, true);
+                is(other.open("again").stage(later.number()).complete(1), true);
+                is(end(last), 2L);
             }
-            is(other.open("again").stage(0).complete(1), true);
-            is(end(inc), 2L);
         }
     }
 
@@ -399,11 +424,11 @@ public final class StoresTest {
             number.complete(1);
             StoredStage inc = number.then("inc");
             Store store = file.open();
-            Place failing = () -> (Store) Proxy.newProxyInstance(Store.class.getClassLoader(), new Class<?>[] {Store.class}, (proxy, method, args) -> {
-                if (method.getName().equals("payload") && args[2].equals(2) && reads.getAndIncrement() == 0) {
+            Place failing = () -> seen(store, (call, args) -> {
+                if (call.equals("payload") && args[2].equals(2) && reads.getAndIncrement() == 0) {
                     throw new StoreException("the value is away");
                 }
-                return method.invoke(store, args);
+                return null;
             });
             try (StoreService works = service(failing, functions)) {
                 is(end(works.open("unread").stage(inc.number())), 2L);
