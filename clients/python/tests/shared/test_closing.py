@@ -208,6 +208,8 @@ class NamesUsedAgain(Case):
                 call()
         self.assertIn("r", store.ends())
         self.assertIs(asks._kept(old), new)
+        asks._guarded("r", asks._work, old)
+        self.assertIs(asks._known_again("r"), new)
         self.assertIs(asks.open("r"), new)
 
 

@@ -405,7 +405,8 @@ public final class StoresTest {
                 is(end(inc), 2L);
                 service.serve(first);
                 old.add(new Store.Timer("again", first.number, later.number(), 0, new byte[] {'N'}));
-                while (!old.isEmpty()) {
+                for (int looks = 0; !old.isEmpty(); looks++) {
+                    is(looks < 4000, true);
                     Thread.sleep(5);
                 }
                 is(service.knownOf("again") == second, true);
