@@ -4,7 +4,8 @@ mod common;
 use cf_store::{Entry, Error, Flow, Functions, Mark, Opened, Put, SQLite, Service, Store, StoreError, Timer};
 use common::{quick, settled, File};
 use rusqlite::Connection;
-use std::collections::{BTreeMap, HashSet};
+use std::collections::BTreeMap;
+use std::sync::atomic::{AtomicU32, Ordering::SeqCst};
 use std::sync::{Arc, Mutex};
 use std::thread;
 use std::time::{Duration, Instant};
@@ -13,21 +14,23 @@ fn add_one(number: i64) -> Result<i64, String> {
     Ok(number + 1)
 }
 
-/// A store that fails once in each of these calls, and tells these timers as due, too.
+/// A store that fails so often in one of its calls, and tells these timers as due, too.
 #[derive(Clone)]
 struct Fails {
     store: Arc<SQLite>,
-    fails: Arc<Mutex<HashSet<&'static str>>>,
+    call: &'static str,
+    left: Arc<AtomicU32>,
     due: Arc<Mutex<Vec<Timer>>>,
 }
 
 impl Fails {
-    fn new(file: &File, fails: &[&'static str]) -> Fails {
-        Fails { store: Arc::new(file.store()), fails: Arc::new(Mutex::new(fails.iter().copied().collect())), due: Arc::default() }
+    fn new(file: &File, call: &'static str, times: u32) -> Fails {
+        Fails { store: Arc::new(file.store()), call, left: Arc::new(AtomicU32::new(times)), due: Arc::default() }
     }
 
     fn may(&self, call: &str) -> Result<(), StoreError> {
-        if self.fails.lock().unwrap().remove(call) {
+        let fails = call == self.call && self.left.fetch_update(SeqCst, SeqCst, |left| left.checked_sub(1)).is_ok();
+        if fails {
             return Err(StoreError::Refused(format!("no {call}")));
         }
         Ok(())
@@ -52,7 +55,7 @@ impl Store for Fails {
     }
 
     fn payload(&self, name: &str, number: i64, place: usize) -> Result<Option<Vec<u8>>, StoreError> {
-        self.may("payload")?;
+        self.may(&format!("payload {place}"))?;
         self.store.payload(name, number, place)
     }
 
@@ -103,7 +106,7 @@ fn until(is_so: impl Fn() -> bool) {
 #[test]
 fn a_name_is_used_again() {
     let file = File::new("again");
-    let store = Fails::new(&file, &["drop of a timer"]);
+    let store = Fails::new(&file, "drop of a timer", 1);
     let service = service(store.clone());
     let first = service.request("again").unwrap();
     let told = first.promise("told").unwrap();
@@ -130,23 +133,22 @@ fn a_value_that_cannot_be_read_once() {
     let number = asks.request("unread").unwrap().promise("number").unwrap();
     number.complete(&1).unwrap();
     let inc = number.then("inc").unwrap();
-    let store = Fails::new(&file, &[]);
+    let store = Fails::new(&file, "payload 2", 1);
     let works = service(store.clone());
-    store.fails.lock().unwrap().insert("payload");
     drop(works.open("unread"));
     assert_eq!(settled::<i64>(&inc), Ok(2));
-    assert!(store.fails.lock().unwrap().is_empty());
+    assert_eq!(store.left.load(SeqCst), 0);
 }
 
-/// A flow whose stages are all settled is closed later, where that fails at first.
+/// A flow whose stages are all settled is closed later, where that fails at first, also if nobody works on it any more.
 #[test]
-fn a_flow_that_cannot_be_closed_once() {
+fn a_flow_that_cannot_be_closed_at_first() {
     let file = File::new("unclosed");
-    let store = Fails::new(&file, &["end"]);
+    let store = Fails::new(&file, "end", 4);
     let service = service(store.clone());
     let mut flow = Flow::new("one");
     flow.promise("number");
     drop(service.start(&flow, "unclosed", &[serde_json::json!(1)]).unwrap());
     until(|| !store.news(None).unwrap().0.contains_key("unclosed"));
-    assert!(store.fails.lock().unwrap().is_empty());
+    assert_eq!(store.left.load(SeqCst), 0);
 }
