@@ -303,7 +303,7 @@ class Clock(_Alone):
             self._due.clear()
             self._changed.notify()
         del wanted  # (not under the lock)
-        if thread is not None and thread is not by.current():
+        if thread is not None:
             thread.join()
 
     def _forget(self, number: int) -> None:

@@ -10,7 +10,8 @@ import unittest
 import unittest.mock
 
 from case import Case, fails, inc, Oops, until
-from cf.service import Flow, flow as flows, LoopService
+from cf.service import Flow, flow as flows, LoopService, RequestFull
+from cf.service.words import MOST_EDGES
 
 
 class Flows(Case):
@@ -57,6 +58,23 @@ class Flows(Case):
             begun[Flow().promise()]
         with self.assertRaises(KeyError):
             self.request[number]
+
+    def test_mentions_leave_room_for_so_many_stages(self):
+        flow = Flow()
+        number = flow.promise()
+        flow.all_of(*[number] * (MOST_EDGES - 5))
+        begun, other = flow.run(1), self.request.promise()
+        with self.assertRaises(RequestFull):
+            begun.all_of(other, other)
+        self.assertEqual(begun._stages, 2)
+        for _ in range(2):
+            begun[number].then(inc)
+        with self.assertRaises(RequestFull):
+            begun[number].then(inc)
+        flow = Flow()
+        flow.all_of(*[flow.promise()] * (MOST_EDGES + 1))
+        with self.assertRaises(RequestFull):
+            flow.run()
 
     def test_first_starts_at_once(self):
         """Threads begin a flow for the first time: one plan is built, and a step that is added meanwhile is refused."""

@@ -4,11 +4,13 @@ cycles, and memory that stays as it is.
 
     CF_LIBRARY=/path/to/libcf.so python3 clients/python/tests/service/test_freeing.py [-v] [TEST ..]
 """
+import asyncio
 import concurrent.futures
 import functools
 import gc
 import logging
 import os
+import sys
 import threading
 import time
 import unittest
@@ -16,7 +18,10 @@ import weakref
 from pathlib import Path
 
 from case import Case, CoreCase, fails, inc, Oops, program, Thing, until
-from cf.service import Flow, Service, Stage
+from cf.service import Flow, LoopService, RequestFull, Service, Stage
+from cf.service._core import PlanCore
+from cf.service.words import MOST_STAGES
+from cf.values import Form
 REQUESTS = int(os.environ.get("CF_REQUESTS", "20000"))
 
 
@@ -249,6 +254,84 @@ class Lifetime(CoreCase):
             print("dropped")
         """)
         self.assertEqual((out, status), ("dropped\n", 0), err)
+
+
+class Blocks(CoreCase):
+    """Not one block of memory stays behind, whatever a call ends in."""
+
+    def flat(self, *makes, many=400):
+        for make in makes:
+            for _ in range(many // 4):
+                make()
+            gc.collect()
+            before = sys.getallocatedblocks()
+            for _ in range(many):
+                make()
+            gc.collect()
+            self.assertLess(sys.getallocatedblocks() - before, many // 2)
+
+    def test_callbacks(self):
+        def calls(callback):
+            freed_stage = self.service.request().promise()
+            freed_stage.add_done_callback(callback)
+            freed_stage.complete(1)
+            freed_stage.add_done_callback(callback)
+        self.flat(lambda: calls(lambda _: object()), lambda: calls(fails))
+
+    def test_what_is_refused(self):
+        freed, other, full = self.request, self.service.request().promise(), self.service.request()
+        source, last = freed.promise(), full.promise()
+        for _ in range(MOST_STAGES - 1):
+            full.promise()
+
+        def refused(call, *given):
+            with self.assertRaises((TypeError, ValueError, RequestFull)):
+                call(*given)
+        self.flat(lambda: refused(freed._gather, Form.ALL_OF, [source, other], "x"),
+                  lambda: refused(full._gather, Form.ALL_OF, [last, last], "x"),
+                  lambda: refused(full._attach, Form.APPLY, last, None, object().__repr__, ([],), {"x": []}, None),
+                  lambda: refused(full._attach, Form.COMPOSE, last, None, object().__repr__, None, None, None),
+                  lambda: refused(freed._attach, Form.APPLY, other, None, inc, None, None, None),
+                  lambda: refused(PlanCore, [(99, (), None, "x")]))
+
+    def test_outcomes(self):
+        def ends(settle):
+            source = self.service.request().promise()
+            behind = source.then(inc).handle(lambda *given: given)
+            settle(source)
+            return source.exception(20) if not source.cancelled() else None, behind.result(20)
+        self.flat(lambda: ends(lambda source: source.complete([])), lambda: ends(lambda source: source.fail(Oops())),
+                  lambda: ends(Stage.cancel), lambda: ends(lambda source: source.or_timeout(0)),
+                  lambda: ends(lambda source: source.complete_on_timeout([], 0)),
+                  lambda: ends(lambda source: source.named("x" * 100).complete([])))
+
+    def test_flows(self):
+        flow = Flow()
+        number = flow.promise()
+        end = flow.gather(number.then(lambda x: [x]), number.then(fails).recover(lambda error: [error]))
+        self.flat(lambda: flow.run(1)[end].result(0), lambda: self.service.start(flow, 1)[end].result(20),
+                  lambda: flow.run())
+
+    def test_functions_of_a_loop(self):
+        async def later(*given, **more):
+            await asyncio.sleep(0)
+            return given, more
+
+        async def main():
+            loop_service = LoopService(asyncio.get_running_loop())
+
+            async def makes():
+                freed = loop_service.request()
+                await freed.supply(later, [1], more=2).then(later).then(lambda given: [given])
+                await freed.supply(fails).recover(later).compose(lambda given: freed.supply(later, given))
+            for many in (100, 400):
+                gc.collect()
+                before = sys.getallocatedblocks()
+                for _ in range(many):
+                    await makes()
+            gc.collect()
+            self.assertLess(sys.getallocatedblocks() - before, 200)
+        asyncio.run(main())
 
 
 class Memory(unittest.TestCase):

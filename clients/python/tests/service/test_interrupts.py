@@ -5,6 +5,7 @@ midst of a call.
     CF_LIBRARY=/path/to/libcf.so python3 clients/python/tests/service/test_interrupts.py [-v] [TEST ..]
 """
 import signal
+import sys
 import unittest
 
 from case import Case, CoreCase, program, Wild
@@ -82,6 +83,16 @@ class Interrupts(Case):
 
 
 class InterruptsOfCores(CoreCase):
+    """The stack may be as deep afterwards as before."""
+
+    def setUp(self):
+        super().setUp()
+        self.depth = sys.getrecursionlimit()
+
+    def tearDown(self):
+        super().tearDown()
+        self.assertEqual(sys.getrecursionlimit(), self.depth)
+
     def test_a_put_that_raises_is_done_again(self):
         class Interrupted:
             closed, clock = False, None

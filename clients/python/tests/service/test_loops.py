@@ -6,10 +6,12 @@ doesn't, threads beside it, a loop that is closed.
 """
 import asyncio
 import contextvars
+import gc
 import math
 import threading
 import unittest
 import unittest.mock
+import weakref
 
 from case import fails, inc, Oops, Thing, Wild
 from cf.service import Flow, flow as flows, LoopService, Service
@@ -134,6 +136,23 @@ class Loops(unittest.TestCase):
         asyncio.run(main())
         self.assertEqual(ended, ["cancelled"] * 3)
 
+    def test_a_task_that_was_cancelled_is_let_go(self):
+        """A loop keeps a task that it cancels until that has ended, and no longer."""
+        async def main():
+            on_loop, tasks = LoopService(asyncio.get_running_loop()).request(), []
+
+            async def slow():
+                tasks.append(weakref.ref(asyncio.current_task()))
+                await asyncio.sleep(100)
+            slow_stages = [on_loop.supply(slow) for _ in range(5)]
+            await asyncio.sleep(0.02)
+            for slow_stage in slow_stages:
+                self.assertTrue(slow_stage.abandon())
+            await asyncio.sleep(0.02)
+            gc.collect()
+            self.assertEqual([task() for task in tasks], [None] * 5)
+        asyncio.run(main())
+
     def test_limits_of_any_size(self):
         async def main():
             on_loop = LoopService(asyncio.get_running_loop()).request()
@@ -248,6 +267,45 @@ class Loops(unittest.TestCase):
                 raise Wild
             for raises in (wild, later):
                 self.assertEqual(await on_loop.supply(raises).recover(lambda error: type(error)), Wild)
+        asyncio.run(main())
+
+    def test_what_a_callback_raises_keeps_no_function_waiting(self):
+        """It leaves the loop, or is told there. What its stage made ready is called all the same."""
+        for kind in (Wild, KeyboardInterrupt, SystemExit):
+            def raises(_):
+                raise kind
+
+            async def later():
+                await asyncio.sleep(0)
+            for call in (str, later):
+                loop, told = asyncio.new_event_loop(), []
+                loop.set_exception_handler(lambda _, context: told.append(context.get("exception")))
+                on_loop = LoopService(loop).request()
+                loop_stage = on_loop.supply(call)
+                behind = [loop_stage.then(str), loop_stage.then(str)]
+                loop_stage.add_done_callback(raises)
+                try:
+                    loop.run_until_complete(asyncio.wait_for(on_loop.all_of(*behind), 20))
+                except kind as error:
+                    told.append(error)
+                    loop.run_until_complete(asyncio.wait_for(on_loop.all_of(*behind), 20))
+                loop.close()
+                self.assertIn(kind, map(type, told))
+
+    def test_what_else_a_loop_has_to_do_comes_between(self):
+        """Functions that go on and on don't hold it up."""
+        async def main():
+            on_loop, seen = LoopService(asyncio.get_running_loop()).request(), []
+
+            def again(left):
+                seen.append(left)
+                if left:
+                    on_loop.supply(again, left - 1)
+            on_loop.supply(again, 5)
+            asyncio.get_running_loop().call_soon(seen.append, "else")
+            while 0 not in seen:
+                await asyncio.sleep(0)
+            self.assertLess(seen.index("else"), seen.index(0))
         asyncio.run(main())
 
     def test_other_threads_complete(self):

@@ -14,7 +14,7 @@ import time
 import unittest
 import unittest.mock
 
-from case import Case, fails, inc, leaves, until
+from case import Case, fails, inc, leaves, no_thread, starting, until
 import cf
 from cf.service import _machine, Flow
 from cf.service.words import CLIENT, CLOCK, FAIL_AS
@@ -169,6 +169,30 @@ class Limits(Case):
             if len(stages) > 20:
                 stages.pop(dice.randrange(20)).complete(1)
             self.assertEqual(clock._due[0], min(clock._due))
+
+    def test_a_limit_that_is_refused_is_none(self):
+        """No thread can be started for the clock: the clock knows nothing of that limit later."""
+        refused = self.request.promise()
+        with starting(no_thread), self.assertRaises(RuntimeError):
+            refused.or_timeout(0.01)
+        self.assertEqual(self.request._limits, {})
+        self.assertEqual(self.request.promise().complete_on_timeout(1, 0.05).result(20), 1)
+        self.assertFalse(refused.done())
+
+    def test_an_alarm_that_is_set_as_those_that_are_left_are_taken_out(self):
+        """As what is collected meanwhile may do."""
+        clock, late = self.service._works.clock, []
+
+        class Wanted(dict):
+            def __contains__(it, number):
+                if len(clock._due) > 64 + 2 * len(it) and not late:
+                    late.append(it)
+                    late.append(self.request.promise().complete_on_timeout(1, 0.05))
+                return super().__contains__(number)
+        with unittest.mock.patch.object(clock, "_wanted", Wanted(clock._wanted)):
+            while not late:
+                self.service.request().promise().or_timeout(1000).complete(1)
+            self.assertEqual(late[1].result(20), 1)
 
 
 class Causes(Case):

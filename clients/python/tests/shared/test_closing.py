@@ -161,6 +161,30 @@ class NamesUsedAgain(Case):
         self.assertFalse(stage.done())
         self.assertTrue(stage.complete(3))
 
+    def test_a_request_that_is_dropped_as_it_is_begun(self):
+        """Another of its name is begun meanwhile, with another plan: whoever began the first is told that."""
+        def flow(many):
+            made = Flow()
+            for _ in range(many):
+                made.promise()
+            return made
+
+        class Meanwhile(Memory):
+            done = False
+
+            def open(it, name, plan):
+                found = super().open(name, plan)
+                if not it.done:
+                    it.done = True
+                    it.drop(name)
+                    begun.append(closing_service.start(flow(2), name=name))
+                return found
+        begun, closing_service = [], DurableService(Meanwhile(), 0, functions=f.functions)
+        self.services.append(closing_service)
+        with self.assertRaises(Broken):
+            closing_service.start(flow(1), name="r")
+        self.assertIs(closing_service.start(flow(2), name="r"), begun[0])
+
     def test_a_name_that_began_anew_with_fewer_words(self):
         """A worker that has seen more words of an earlier request of the name works on the new one; who has the old
         one is told."""
@@ -184,6 +208,8 @@ class NamesUsedAgain(Case):
                 call()
         self.assertIn("r", store.ends())
         self.assertIs(asks._kept(old), new)
+        asks._guarded("r", asks._work, old)
+        self.assertIs(asks._known_again("r"), new)
         self.assertIs(asks.open("r"), new)
 
 

@@ -111,7 +111,7 @@ class Led:
         self.way, self.seen, self.keys, self.matches = way, seen, {place.key for place in way}, matches
         self.interrupts, self.fails, self.drop = interrupts, fails, None
         self.players, self.time, self.at, self.told = [], 0, 0, []
-        self.horizon = None  # up to when time may pass, if that is bounded
+        self.horizon = None  # up to when time may pass, if that is bounded; who waits for later may rest
         self.verdict, self.is_over, self.ended = None, False, threading.Lock()
         self.holds = yes
         self.ended.acquire()
@@ -395,10 +395,10 @@ class Condition:
         lock.owner, lock.count = None, 0
         self.tickets.append(ticket)
         ends = None if timeout is None else self.led.time + round(timeout * 1e9)
+        far = ends is not None and self.led.is_far(ends)
         try:
             way = self.led.step("wait", self, lambda: ticket.is_told and lock.owner is None,
-                                no if ends is None or self.led.is_far(ends) else
-                                lambda: not ticket.is_told and lock.owner is None)
+                                no if ends is None or far else lambda: not ticket.is_told and lock.owner is None, far)
         finally:
             lock.owner, lock.count = owner, count
             if ticket in self.tickets:
@@ -472,18 +472,22 @@ class Thread:
 
 
 class Looked:
-    """An attribute that is looked at without the lock, which then is a step of its own."""
+    """An attribute that is looked at or set without the lock, which then is a step of its own."""
 
     def __set_name__(self, owner, name):
         self.name = name
 
     def __get__(self, it, _owner):
-        if it._lock is not None and it._lock.owner is not getattr(HERE, "player", None):
-            look(self.name)
+        self.step(it, "look at")
         return it.__dict__[self.name]
 
     def __set__(self, it, value):
+        self.step(it, "set")
         it.__dict__[self.name] = value
+
+    def step(self, it, what):
+        if LED is not None and it._lock is not None and it._lock.owner is not getattr(HERE, "player", None):
+            LED.step(f"{what} {self.name}")
 
 
 def look(at):

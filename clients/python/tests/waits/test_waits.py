@@ -57,11 +57,13 @@ class Case(unittest.TestCase):
         self.assertGreater(ends, 0)
 
 
-def surely(act):
-    """Does it again where it is interrupted, as the cores do with a turn."""
+def surely(act, caught=None):
+    """Does it again where it is interrupted, as the cores do with a turn, and writes that down."""
     try:
         return act()
-    except KeyboardInterrupt:
+    except KeyboardInterrupt as interrupt:
+        if caught is not None:
+            caught.append(type(interrupt))
         return act()
 
 
@@ -352,6 +354,23 @@ class Times(Case):
             led.at_end(lambda: self.assertEqual((request.rung in ([20], [10, 20]), dict(request._limits)), (True, {})))
         self.in_every_order(world)
 
+    def test_behind_it_the_first_of_several_is_asked_for(self):
+        def world(led):
+            clock, led.horizon = LedClock(), 15
+            request = Limited(clock)
+
+            def settled():
+                request.limit(10)
+                request.settle(10)
+            led.plays(settled)
+            led.plays(lambda: (request.limit(20), request.limit(30)))
+
+            def ended():
+                moment, number = request._limits.alarm
+                self.assertEqual((moment, number in clock._wanted, set(request._limits)), (20, True, {20, 30}))
+            led.at_end(ended)
+        self.in_every_order(world)
+
     def test_a_start_that_fails_is_tried_again(self):
         def world(led):
             clock = LedClock()
@@ -406,21 +425,26 @@ class Times(Case):
 
 
 class Hooks(Case):
-    def world(self, led, many=2, seconds=30.0, most=8):
-        aside, done, lost, said = waits.Aside("aside", most), [], [], []
+    def world(self, led, many=2, seconds=30.0, most=8, do=lambda done, it: done.append(it)):
+        aside, done, lost, said, caught = waits.Aside("aside", most), [], [], [], []
 
         def ends():
             for k in range(many):
-                surely(lambda k=k: aside.put(lambda: done.append(k), lambda: lost.append(k)))
-            said.append(surely(lambda: aside.wait(seconds)))
+                surely(lambda k=k: aside.put(lambda: do(done, k), lambda: lost.append(k)), caught)
+            said.append(surely(lambda: aside.wait(seconds), caught))
         led.plays(ends)
-        return aside, done, lost, said
+        return aside, done, lost, said, caught
 
-    def test_all_is_done_before_the_end(self):
+    def test_all_is_done_before_the_end_and_one_after_another(self):
+        def do(done, it):
+            done.append("begun")
+            look("done")
+            self.assertEqual(done.pop(), "begun")
+            done.append(it)
         for given in ({}, {"fails": 1}, {"fails": 2}):
             def world(led):
-                aside, done, lost, said = self.world(led)
-                led.plays(lambda: aside.put(lambda: done.append("other"), None))
+                aside, done, lost, said, _ = self.world(led, do=do)
+                led.plays(lambda: aside.put(lambda: do(done, "other"), None))
 
                 def ended():
                     if said == [True] and "other" in done:
@@ -429,14 +453,19 @@ class Hooks(Case):
             self.in_every_order(world, **given)
 
     def test_an_interrupt_loses_nothing(self):
+        """It comes to who called, also as a thread is started."""
         def world(led):
-            aside, done, lost, said = self.world(led)
-            led.at_end(lambda: self.assertTrue(said == [False] or {0, 1} <= set(done), (said, done)))
+            aside, done, lost, said, caught = self.world(led)
+
+            def ended():
+                self.assertTrue(said == [False] or {0, 1} <= set(done), (said, done))
+                self.assertEqual(led.interrupts + len(caught), 1)
+            led.at_end(ended)
         self.in_every_order(world, interrupts=1)
 
     def test_too_many_are_told_once(self):
         def world(led):
-            aside, done, lost, said = self.world(led, 3, 30.0, 1)
+            aside, done, lost, _, _ = self.world(led, 3, 30.0, 1)
             led.at_end(lambda: self.assertTrue(len(done) + len(lost) >= 2 and len(done) >= 1 and len(lost) <= 1, done))
         self.in_every_order(world)
 
@@ -652,9 +681,9 @@ class Searches(Case):
             pool, said = Pool(1), {}
 
             def ended():
-                self.told.add((said["a"], pool.came_to("a"), said["b"], pool.came_to("b")))
+                self.told.add((said["a"], pool.came_to("a")))
             led.plays(lambda: said.update(a=pool.put("a")))
-            led.plays(lambda: (pool.close(), said.update(b=pool.put("b"))))
+            led.plays(pool.close)
             led.at_end(ended)
         ends = []
         for matches in (True, False):

@@ -927,3 +927,25 @@ impl fmt::Debug for Shared {
         f.debug_struct("Service").field("session", &self.session).field("functions", &self.functions).finish_non_exhaustive()
     }
 }
+
+#[cfg(test)]
+mod tests {
+    use super::*;
+
+    /// Nobody is gone because this process stood still, or the store was away.
+    #[test]
+    fn who_is_gone() {
+        let (mut now, lease) = (Instant::now(), Duration::from_millis(100));
+        let mut watcher = Watcher { seen: BTreeMap::new(), time: Duration::ZERO, last: now, lease };
+        // A pause before each look, and how often the other one has beaten by then, if the store tells.
+        let (one, two) = (Some(1), Some(2));
+        let looks = [(0, one), (10_000, one), (40, one), (20, one), (0, two), (50, two), (50, None), (50, two), (50, two)];
+        let are_gone = looks.map(|(pause, beaten)| {
+            now += Duration::from_millis(pause);
+            let beats = beaten.map(|count| BTreeMap::from([(7, count)]));
+            assert!(watcher.look(now, beats.ok_or_else(|| StoreError::Unknown("away".into()))).is_empty());
+            watcher.is_gone(7)
+        });
+        assert_eq!(are_gone, [false, false, false, true, false, false, false, false, false]);
+    }
+}

@@ -234,14 +234,6 @@ impl Transaction for Open<'_> {
     }
 }
 
-macro_rules! passed_on {
-    ($(fn $name:ident($($arg:ident: $type:ty),*) -> $told:ty;)*) => {$(
-        fn $name(&self, $($arg: $type),*) -> Result<$told, StoreError> {
-            self.store.$name($($arg),*)
-        }
-    )*};
-}
-
 impl Store for Wrapped {
     passed_on! {
         fn open(name: &str, plan: &str) -> Opened;

@@ -89,15 +89,56 @@ impl Drop for Helper<'_> {
 
 #[cfg(test)]
 mod tests {
-    use crate::{Job, Request, Spawn};
+    use crate::core::Core;
+    use crate::{Alarm, Clock, Job, Request, Spawn};
+    use std::sync::atomic::{AtomicUsize, Ordering};
+    use std::sync::mpsc::{channel, sync_channel, SyncSender};
+    use std::sync::Arc;
+    use std::thread;
+    use std::time::Duration;
+
+    const LONG: Duration = Duration::from_secs(20);
 
     /// A thread for each job, for which nobody stands in.
     struct Threads;
 
     impl Spawn for Threads {
         fn spawn(&self, job: Job) -> Result<(), Job> {
-            std::thread::spawn(move || job.run());
+            thread::spawn(move || job.run());
             Ok(())
+        }
+    }
+
+    /// Jobs, two at a time, that the test itself has run.
+    struct Sends(SyncSender<Job>);
+
+    impl Spawn for Sends {
+        fn spawn(&self, job: Job) -> Result<(), Job> {
+            self.0.send(job).map_err(|refused| refused.0)
+        }
+
+        fn parallelism(&self) -> usize {
+            2
+        }
+    }
+
+    /// A clock that counts how often it is asked.
+    #[derive(Default)]
+    struct Asked(AtomicUsize);
+
+    impl Clock for Asked {
+        fn now(&self) -> Duration {
+            self.0.fetch_add(1, Ordering::SeqCst);
+            Duration::ZERO
+        }
+
+        fn after(&self, _wait: Duration, _alarm: Alarm) {}
+    }
+
+    /// Comes back once a worker waits for a stage of this request, or of one that a stage of it follows.
+    fn is_awaited(request: &Request) {
+        while request.0.lock().helpers.is_empty() {
+            thread::yield_now();
         }
     }
 
@@ -110,7 +151,7 @@ mod tests {
             for _ in 0..20 {
                 let (gate, behind) = (other.promise::<i32>(), by.promise::<i32>());
                 let opens = gate.clone();
-                let thread = std::thread::spawn(move || opens.complete(1));
+                let thread = thread::spawn(move || opens.complete(1));
                 assert_eq!(by.first_of([&gate, &behind]).wait().unwrap(), 1);
                 thread.join().unwrap().unwrap();
             }
@@ -118,5 +159,54 @@ mod tests {
             kept.to_vec()
         });
         assert_eq!(kept.wait().unwrap(), [0, 0]);
+    }
+
+    /// One worker waits for a composing stage. The other one calls its function, and goes when its turn is over: what the stage is linked to is
+    /// left to the one that waits.
+    #[test]
+    fn who_waits_is_woken_by_a_link() {
+        let (sends, jobs) = sync_channel(8);
+        let (request, (begins, begun)) = (Request::new("links", Sends(sends)), channel());
+        let by = request.clone();
+        let mut last = request.supply(move || {
+            begins.send(()).unwrap();
+            is_awaited(&by);
+        });
+        for _ in 2..Core::TURN {
+            last = last.then(|()| ());
+        }
+        let by = request.clone();
+        let linked = last.compose(move |()| {
+            let target = by.supply(|| 3);
+            is_awaited(&by); // (it has looked what is ready now, and waits again)
+            target
+        });
+        let goes = jobs.recv().unwrap();
+        let goes = thread::spawn(move || goes.run());
+        begun.recv().unwrap();
+        let waited = request.supply(move || linked.wait().unwrap());
+        let waits = jobs.recv().unwrap();
+        thread::spawn(move || waits.run());
+        assert_eq!(waited.wait_timeout(LONG).expect("it is woken").unwrap(), 3);
+        goes.join().unwrap();
+    }
+
+    /// Two requests follow a stage of each other. Who waits in one of them asks both, and rests.
+    #[test]
+    fn requests_that_follow_one_another_are_asked_once() {
+        let clock = Arc::new(Asked::default());
+        let [one, two] = ["one", "two"].map(|name| Request::with_clock(name, Arc::new(Threads), Arc::clone(&clock) as Arc<dyn Clock>));
+        let (gate, other) = (one.promise::<i32>(), two.promise::<i32>());
+        let relays = [one.adopt(&other), two.adopt(&gate)];
+        let of = gate.clone();
+        let waited = one.supply(move || of.wait().unwrap());
+        is_awaited(&one);
+        is_awaited(&two);
+        let asked = clock.0.load(Ordering::SeqCst);
+        thread::sleep(Duration::from_millis(50));
+        assert!(clock.0.load(Ordering::SeqCst) < asked + 10);
+        gate.complete(4).unwrap();
+        assert_eq!(waited.wait_timeout(LONG).expect("it is woken").unwrap(), 4);
+        assert!(relays[0].cancel());
     }
 }

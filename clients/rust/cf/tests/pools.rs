@@ -1,11 +1,13 @@
 //! Pools whose functions wait: as many run as there are threads, in a row, for stages of other requests, for a while.
 mod common;
 
-use cf::{Job, Pool, Request, Spawn, Stage};
-use common::{comes_back, Yields, LONG};
+use cf::{Alarm, Clock, Job, Pool, Request, Spawn, Stage};
+use common::{comes_back, Yields, LONG, SHORT};
+use std::panic::{set_hook, take_hook};
 use std::sync::atomic::{AtomicBool, AtomicUsize, Ordering};
-use std::sync::{Arc, Barrier};
-use std::thread;
+use std::sync::mpsc::{channel, Sender};
+use std::sync::{Arc, Barrier, Mutex};
+use std::thread::{self, ThreadId};
 use std::time::{Duration, Instant};
 
 #[test]
@@ -89,17 +91,50 @@ fn as_many_functions_run_as_a_pool_has_threads() {
     });
 }
 
+/// A thread for each job, one at a time.
+struct Threads;
+
+impl Spawn for Threads {
+    fn spawn(&self, job: Job) -> Result<(), Job> {
+        thread::spawn(move || job.run());
+        Ok(())
+    }
+}
+
+/// Once it goes on, one at a time is all that the executor gets again.
+#[test]
+fn a_function_that_has_waited_is_counted() {
+    comes_back(|| {
+        let pooled = Request::new("threads", Threads);
+        let (pool_gate, (begins, begun)) = (pooled.promise::<i32>(), channel());
+        let waits = pool_gate.clone();
+        let waited = pooled.supply(move || {
+            begins.send(()).unwrap();
+            waits.wait().unwrap()
+        });
+        begun.recv().unwrap();
+        thread::sleep(SHORT);
+        pool_gate.complete(3).unwrap();
+        assert_eq!(waited.wait().unwrap(), 3);
+        let (now, most) = (Arc::new(AtomicUsize::new(0)), Arc::new(AtomicUsize::new(0)));
+        let counted = |_| {
+            let (now, most) = (Arc::clone(&now), Arc::clone(&most));
+            pooled.supply(move || {
+                most.fetch_max(1 + now.fetch_add(1, Ordering::SeqCst), Ordering::SeqCst);
+                thread::sleep(Duration::from_millis(5));
+                now.fetch_sub(1, Ordering::SeqCst);
+            })
+        };
+        let running: Vec<_> = (0..8).map(counted).collect();
+        running.iter().for_each(|pool_stage| pool_stage.wait().unwrap());
+        assert_eq!(most.load(Ordering::SeqCst), 1);
+    });
+}
+
 /// A function that waits on a thread which an executor has for it alone: another is asked for while it waits, though one at a time is all that
 /// the executor takes.
 #[test]
 fn a_function_that_waits_is_not_counted() {
-    struct Threads;
-    impl Spawn for Threads {
-        fn spawn(&self, job: Job) -> Result<(), Job> {
-            thread::spawn(move || job.run());
-            Ok(())
-        }
-    }
     comes_back(|| {
         let pooled = Request::new("threads", Threads);
         let (pool_gate, ran) = (pooled.promise::<i32>(), Arc::new(AtomicBool::new(false)));
@@ -208,4 +243,39 @@ fn two_requests_wait_for_each_other_on_one_thread() {
         behind.wait().unwrap()
     });
     assert_eq!(waited.wait_timeout(LONG).expect("no thread waits for itself").unwrap(), 5);
+}
+
+/// A clock that tells who drops it. A request drops it behind its executor.
+struct Tells(Sender<ThreadId>);
+
+impl Clock for Tells {
+    fn now(&self) -> Duration {
+        Duration::ZERO
+    }
+
+    fn after(&self, _wait: Duration, _alarm: Alarm) {}
+}
+
+impl Drop for Tells {
+    fn drop(&mut self) {
+        self.0.send(thread::current().id()).unwrap();
+    }
+}
+
+/// The last clone goes on a thread of the pool, which waits for the others and not for itself. That would be a panic, which only a hook sees.
+#[test]
+fn a_pool_goes_on_one_of_its_own_threads() {
+    let panicked = Arc::new(Mutex::new(Vec::new()));
+    let (seen, hook) = (Arc::clone(&panicked), take_hook());
+    set_hook(Box::new(move |info| {
+        seen.lock().unwrap().push(thread::current().id());
+        hook(info);
+    }));
+    let ((tells, told), (goes_on, rests)) = (channel(), channel());
+    let pooled = Request::with_clock("goes", Arc::new(Pool::new(2)), Arc::new(Tells(tells)));
+    drop(pooled.supply(move || rests.recv().unwrap()));
+    drop(pooled);
+    goes_on.send(()).unwrap();
+    let by = told.recv_timeout(LONG).unwrap();
+    assert!(by != thread::current().id() && !panicked.lock().unwrap().contains(&by));
 }

@@ -912,7 +912,7 @@ public final class StoreService implements AutoCloseable {
      * Which sessions are gone, by this process's own clock: those whose beat stood still for a lease in which the store answered. A pause between two
      * looks counts for half of it at most, since this process, or the machine, stood still then, and others may have, too.
      */
-    private static final class Watcher {
+    static final class Watcher {
         private static final long LONG_GONE = 100; // leases
         private final long lease;
         private final Host host;

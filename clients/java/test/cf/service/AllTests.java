@@ -91,9 +91,13 @@ public final class AllTests {
         test("what describes values", DescribeTest::describers);
         test("values that can't be shown", DescribeTest::unspeakable);
         test("exceptions that can't be shown", DescribeTest::unspeakableWrapped);
+        test("what ends a request, instead", InsteadTest::ends);
+        test("what comes of several stages, instead", InsteadTest::ofSeveral);
+        test("what begins later, instead", InsteadTest::later);
         test("cores used again", MachineTest::usedAgain);
         test("requests of one plan each have a core", MachineTest::oneCoreEach);
         test("attaches that fail", MachineTest::failedAttach);
+        test("words that are refused", MachineTest::refusedWords);
         test("words that fail a stage for a cause", MachineTest::failedAs);
         test("flows that several threads start first", FlowsTest::startedTogether);
         test("flows with errors", FlowsTest::flowErrors);
@@ -146,6 +150,7 @@ public final class AllTests {
         test("orders over a store that are left out", StoredOrdersTest::leftOut);
         test("orders over a store by chance", StoredOrdersTest::byChance);
         test("JSON", StoresTest::json);
+        test("who is gone", StoresTest::gone);
         if (StoresTest.hasDriver()) {
             over(StoresTest.InFile::new, "functions of requests in SQLite", StoresTest::functions);
             over(StoresTest.InFile::new, "services that share a file", StoresTest::others);
@@ -155,6 +160,9 @@ public final class AllTests {
             test("a process that dies", StoresTest::dies);
             test("what hangs on an abandoned stage", StoresTest::hangs);
             test("a further try whose process is gone", StoresTest::onceMore);
+            test("another request of a name", StoresTest::another);
+            test("jobs that no thread took", StoresTest::noThread);
+            test("a value that can't be read once", StoresTest::unread);
             test("rows that can't be gone on with", StoresTest::broken);
             over(StoresTest.InFile::new, "functions that compose in SQLite", StoredFunctionsTest::composing);
             over(StoresTest.InFile::new, "arguments by name", StoredFunctionsTest::named);

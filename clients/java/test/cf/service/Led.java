@@ -227,6 +227,14 @@ final class Led implements Waits.Leader {
         return hasFailed;
     }
 
+    /** How many alarms come yet. */
+    int alarms() {
+        synchronized (tasks) {
+            tasks.removeIf(Task::isDone);
+            return tasks.size();
+        }
+    }
+
     /** The clock has what is due next come, if anything is. Whether anything was. */
     boolean ticks() throws Exception {
         Task due;

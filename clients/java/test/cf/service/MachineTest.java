@@ -123,6 +123,26 @@ final class MachineTest {
         pool.shutdown();
     }
 
+    /** A word is refused in the midst of those that wait, as where memory is. The next call does it, and those behind it, each in its lane. */
+    static void refusedWords() {
+        Machine.Plan plan = new Flow("refused").plan();
+        Machine.Core core = new Machine.Core();
+        is(plan.pool.put(core), true);
+        Machine machine = new Machine(plan, 8);
+        machine.attachLater(source(), Machine.HERE);
+        machine.attachLater(Words.attach(WHO, Form.APPLY, 1, 1, 0, 2), Machine.HERE);
+        machine.attachLater(Words.attach(WHO, Form.APPLY, 1, 0, 0, 3), Machine.BY_EXECUTOR);
+        machine.attachLater(Words.attach(WHO, Form.APPLY, 1, 0, 0, 4), Machine.HERE);
+        thrown(AssertionError.class, machine::flush);
+        is(machine.events(), 4);
+        // The source of the second one, which wasn't there.
+        is(Machine.apply(core.at, 0, source(), Machine.HERE, Machine.NOBODY) & 0xff, (long) Native.OK);
+        machine.apply(Words.complete(WHO, 0, 7), WHO);
+        is(machine.ready() + " " + machine.ready(0) + " " + machine.claimed() + " " + machine.claimed(0), "1 3 1 4");
+        is(machine.events(), 7);
+        machine.rest(null);
+    }
+
     /** A history tells both causes, of which requests have but the first. */
     static void failedAs() {
         Machine machine = new Machine(null, 8);

@@ -3,22 +3,33 @@ package cf.service;
 import static cf.service.Checks.is;
 import static cf.service.Checks.thrown;
 
+import cf.service.watch.Host;
 import java.io.File;
 import java.io.IOException;
+import java.lang.reflect.InvocationTargetException;
+import java.lang.reflect.Proxy;
 import java.nio.charset.StandardCharsets;
 import java.nio.file.Files;
 import java.nio.file.Path;
+import java.sql.Connection;
+import java.sql.DriverManager;
+import java.sql.SQLException;
+import java.sql.Statement;
 import java.util.ArrayList;
 import java.util.Arrays;
 import java.util.Collections;
+import java.util.HashMap;
 import java.util.LinkedHashMap;
 import java.util.List;
 import java.util.Map;
+import java.util.Set;
 import java.util.concurrent.CancellationException;
+import java.util.concurrent.ConcurrentHashMap;
 import java.util.concurrent.ExecutionException;
 import java.util.concurrent.TimeUnit;
 import java.util.concurrent.TimeoutException;
 import java.util.concurrent.atomic.AtomicInteger;
+import java.util.function.BiFunction;
 
 /** Requests in a file of SQLite's, for which a driver of JDBC's has to be on the class path; and JSON. */
 public final class StoresTest {
@@ -84,6 +95,18 @@ public final class StoresTest {
 
     static StoreService service(Place place, Functions functions, int threads, boolean takesAll) {
         return new StoreService(place.open(), functions, threads, LEASE, TimeUnit.MILLISECONDS, takesAll);
+    }
+
+    /** A store of which this sees each call first. What it gives that isn't null is the answer. */
+    private static Store seen(Store store, BiFunction<String, Object[], Object> sees) {
+        return (Store) Proxy.newProxyInstance(Store.class.getClassLoader(), new Class<?>[] {Store.class}, (proxy, method, args) -> {
+            Object answer = sees.apply(method.getName(), args);
+            try {
+                return answer != null ? answer : method.invoke(store, args);
+            } catch (InvocationTargetException thrown) {
+                throw thrown.getCause();
+            }
+        });
     }
 
     static Object end(StoredStage stage) throws Exception {
@@ -286,6 +309,131 @@ public final class StoresTest {
             is(request.stage(last.number() - 1).fail(new RemoteException(RemoteException.ABANDONED, "gone")), true);
             try (StoreService service = service(file, functions)) {
                 is(end(service.open("once more").stage(last.number())).toString().contains("we are closed"), true);
+            }
+        }
+    }
+
+    /** Who is gone: not where this process stood still, or the store was away. The beats of who is long gone are dropped. */
+    static void gone() {
+        long[] now = {0};
+        boolean[] isAway = {false};
+        Map<Long, Long> beats = new HashMap<>(Collections.singletonMap(1L, 1L));
+        Host host = new Host() {
+            @Override
+            public long nanoTime() {
+                return now[0];
+            }
+        };
+        Store store = seen(null, (call, args) -> {
+            if (isAway[0]) {
+                throw new StoreException.Unknown("away", null);
+            }
+            return call.equals("beats") ? new HashMap<>(beats) : beats.remove(args[0]);
+        });
+        StoreService.Watcher watcher = new StoreService.Watcher(100, host);
+        long[] pauses = {0, 10_000, 40, 20, 0, 50, 50, 50, 50};
+        boolean[] areGone = new boolean[pauses.length];
+        for (int k = 0; k < pauses.length; k++) {
+            now[0] += pauses[k];
+            isAway[0] = k == 6;
+            beats.put(1L, k < 4 ? 1L : 2L); // (it beats once more before the fifth look)
+            watcher.look(store);
+            areGone[k] = watcher.isGone(1);
+        }
+        is(Arrays.toString(areGone), "[false, false, false, true, false, false, false, false, false]");
+        is(watcher.isGone(7), false); // (it never beat, so it counts from now on)
+        for (int looks = 0; looks < 203; looks++) {
+            now[0] += 50;
+            watcher.look(store);
+        }
+        is(watcher.isGone(7) + " " + beats, "true {}");
+    }
+
+    /** For the first job of each kind no thread can be started: what none took is taken later. */
+    static void noThread() throws Exception {
+        Functions functions = new Functions().with("inc", 1, number -> (Long) number + 1);
+        Set<Host.Job> refused = ConcurrentHashMap.newKeySet();
+        Host host = new Host() {
+            @Override
+            public void execute(Job job, String request, Runnable act) {
+                if (refused.add(job)) {
+                    throw new OutOfMemoryError("unable to create native thread");
+                }
+                super.execute(job, request, act);
+            }
+        };
+        try (InFile file = new InFile(); StoreService service = new StoreService(file.open(), functions, 2, LEASE, TimeUnit.MILLISECONDS, false, null, host)) {
+            StoredRequest request = service.request("no thread");
+            StoredStage number = request.promise("number"), inc = number.then("inc"), slow = request.promise("slow");
+            slow.orTimeout(30, TimeUnit.MILLISECONDS);
+            number.complete(1);
+            is(end(inc), 2L);
+            is(end(slow).getClass(), TimeoutException.class);
+            is(refused.containsAll(Arrays.asList(Host.Job.WORK, Host.Job.FIRE)), true);
+        }
+    }
+
+    /** Drops a request, as Python's processes can. */
+    private static void drop(InFile file, StoredRequest request) throws SQLException {
+        try (Connection at = DriverManager.getConnection("jdbc:sqlite:" + file.path); Statement asked = at.createStatement()) {
+            for (String table : new String[] {"cf_word", "cf_large", "cf_name"}) {
+                asked.execute("delete from " + table + " where request = " + request.number);
+            }
+            asked.execute("delete from cf_request where id = " + request.number);
+        }
+    }
+
+    /** A request is dropped, and another of its name opened: who has the first is told so, its timer is nothing to the second, and that goes on. */
+    static void another() throws Exception {
+        Functions functions = new Functions().with("inc", 1, number -> (Long) number + 1);
+        List<Store.Timer> old = Collections.synchronizedList(new ArrayList<>());
+        try (InFile file = new InFile(); Store store = file.open(); StoreService other = service(file, functions, 0, false)) {
+            Place keeping = () -> seen(store, (call, args) -> {
+                if (call.equals("dropTimer")) {
+                    old.remove(args[0]);
+                }
+                return call.equals("due") && !old.isEmpty() ? new ArrayList<>(old) : null;
+            });
+            try (StoreService service = service(keeping, functions)) {
+                StoredRequest first = service.request("again");
+                StoredStage told = first.promise("told");
+                drop(file, first);
+                StoredRequest second = service.request("again");
+                is(end(told).getClass(), StoreException.Gone.class);
+                StoredStage later = second.promise("later"), last = later.then("inc"), number = second.promise("number"), inc = number.then("inc");
+                number.complete(1);
+                is(end(inc), 2L);
+                service.serve(first);
+                old.add(new Store.Timer("again", first.number, later.number(), 0, new byte[] {'N'}));
+                for (int looks = 0; !old.isEmpty(); looks++) {
+                    is(looks < 4000, true);
+                    Thread.sleep(5);
+                }
+                is(service.knownOf("again") == second, true);
+                is(other.open("again").stage(later.number()).complete(1), true);
+                is(end(last), 2L);
+            }
+        }
+    }
+
+    /** A value can't be read once, behind the claim that is called with it: the function is called all the same. */
+    static void unread() throws Exception {
+        Functions functions = new Functions().with("inc", 1, number -> (Long) number + 1);
+        AtomicInteger reads = new AtomicInteger();
+        try (InFile file = new InFile(); StoreService asks = service(file, functions, 0, false)) {
+            StoredStage number = asks.request("unread").promise("number");
+            number.complete(1);
+            StoredStage inc = number.then("inc");
+            Store store = file.open();
+            Place failing = () -> seen(store, (call, args) -> {
+                if (call.equals("payload") && args[2].equals(2) && reads.getAndIncrement() == 0) {
+                    throw new StoreException("the value is away");
+                }
+                return null;
+            });
+            try (StoreService works = service(failing, functions)) {
+                is(end(works.open("unread").stage(inc.number())), 2L);
+                is(reads.get() > 1, true);
             }
         }
     }

@@ -37,6 +37,7 @@ final class WaitsTest {
             search("observers", WaitsTest::observers);
             search("a relay", WaitsTest::relay);
             search("a relay that is let go", WaitsTest::relayLetGo);
+            search("a limit of what ends", WaitsTest::limitOfWhatEnds);
             search("a limit and an end", WaitsTest::limitAndEnd);
             for (int fails = -1; fails < 2; fails++) {
                 int which = fails;
@@ -182,7 +183,15 @@ final class WaitsTest {
         return stage.more != null && stage.more.outside != null && stage.more.outside.take() != null;
     }
 
-    /** Where a stage ends as it gets a limit, that of another stage comes all the same. */
+    /** Where a stage ends as it gets a limit, no alarm is left for it. */
+    private static void limitOfWhatEnds(Led led) {
+        Stage<Integer> stage = SERVICE.request().promise();
+        led.plays(() -> stage.orTimeout(10, TimeUnit.NANOSECONDS));
+        led.plays(() -> stage.complete(1));
+        led.atEnd(() -> is(led.alarms(), 0));
+    }
+
+    /** That of another stage comes all the same. */
     private static void limitAndEnd(Led led) {
         Request request = SERVICE.request();
         Stage<Integer> one = request.promise(), two = request.promise();
@@ -190,6 +199,7 @@ final class WaitsTest {
         led.plays(() -> two.orTimeout(20, TimeUnit.NANOSECONDS));
         led.plays(() -> one.complete(1));
         led.atEnd(() -> {
+            is(led.alarms(), 1);
             drain(led);
             is(end(one), "1");
             is(two.isDone(), true);
@@ -204,7 +214,7 @@ final class WaitsTest {
         led.failsToStart(fails);
         led.plays(() -> limit(one, 20));
         led.plays(() -> limit(two, 10));
-        bothComeAtEnd(led, request, one, two);
+        bothComeAtEnd(led, request, one, two, 1);
     }
 
     /** So they do where one is set while the other one comes. */
@@ -215,7 +225,7 @@ final class WaitsTest {
         led.failsToStart(fails);
         led.plays(() -> limit(two, fails < 0 ? 5 : 20));
         led.plays(() -> clock(led));
-        bothComeAtEnd(led, request, one, two);
+        bothComeAtEnd(led, request, one, two, 2);
     }
 
     /** Where an earlier limit's thread can't be started, the alarm of a later one has both come. */
@@ -231,9 +241,11 @@ final class WaitsTest {
         });
     }
 
-    private static void bothComeAtEnd(Led led, Request request, Stage<?> one, Stage<?> two) {
+    /** By so many alarms at most. */
+    private static void bothComeAtEnd(Led led, Request request, Stage<?> one, Stage<?> two, int alarms) {
         led.atEnd(() -> {
             led.failsToStart(-1);
+            is(led.alarms() <= alarms, true);
             drain(led);
             if (!one.isDone() || !two.isDone()) {
                 is(led.hasFailed(), true);

@@ -43,6 +43,16 @@ impl Drop for File {
     }
 }
 
+/// Methods of a store that `self.store` does.
+#[macro_export]
+macro_rules! passed_on {
+    ($(fn $name:ident($($arg:ident: $type:ty),*) -> $told:ty;)*) => {$(
+        fn $name(&self, $($arg: $type),*) -> Result<$told, StoreError> {
+            self.store.$name($($arg),*)
+        }
+    )*};
+}
+
 pub fn quick() -> Options {
     let mut options = Options::default();
     options.lease = Duration::from_millis(500);
