@@ -75,7 +75,7 @@ pub struct Failure {
     pub told: Vec<Told>,
     /// The pairs of moves that decide.
     pub pairs: Vec<Pair>,
-    /// The history of each request in memory, in the order in which they were opened. Those of requests in a store the crate `cf-store` has.
+    /// The history of each request in memory, in the order in which they were opened. Of requests in a store, `cf-store`'s trait `Histories` gives them.
     pub histories: Vec<History>,
     pub(crate) stored: Vec<Arc<dyn StoredHistory>>,
     pub(crate) moves: Vec<Move>,
