@@ -241,7 +241,10 @@ impl WorldStore {
     /// use serde_json::{json, Value};
     ///
     /// fn checkout(world: &World) {
-    ///     let charge = |effects: &mut Vec<Value>, order: u32| Ok::<_, String>(effects.push(json!(order)));
+    ///     let charge = |effects: &mut Vec<Value>, order: u32| {
+    ///         effects.push(json!(order));
+    ///         Ok::<_, String>(order)
+    ///     };
     ///     let functions = Functions::new().transactional("charge", 1, charge);
     ///     let store = world.store(Bounds::new().killed(1).unanswered(1));
     ///     let (one, _two) = (store.worker("one", &functions), store.worker("two", &functions));

@@ -120,9 +120,13 @@ fn others_go_on_before_the_lines_behind_a_put_of_what_composes() {
 
 // Transactional functions.
 
+fn pay(effects: &mut Vec<Value>, order: u32) -> Done {
+    effects.push(json!(order));
+    Ok(())
+}
+
 /// A transactional function of a shop's, and what its client does meanwhile.
 fn paying(world: &World, workers: usize, bounds: Bounds, meanwhile: Option<fn(&Stage)>) {
-    let pay = |effects: &mut Vec<Value>, order: u32| Ok::<_, Failed>(effects.push(json!(order)));
     let functions = Functions::new().transactional("pay", 1, pay);
     let store = world.store(bounds);
     store.pure("pay");
@@ -184,7 +188,6 @@ fn a_process_is_killed_within_a_transaction() {
 fn effects_of_two_requests_come_in_both_orders() {
     let report = orders(|world| {
         let store = world.store(Bounds::new());
-        let pay = |effects: &mut Vec<Value>, order: u32| Ok::<_, Failed>(effects.push(json!(order)));
         let functions = Functions::new().transactional("pay", 1, pay);
         store.pure("pay");
         for (number, name) in [(1, "first"), (2, "second")] {
@@ -193,6 +196,26 @@ fn effects_of_two_requests_come_in_both_orders() {
         world.end_is(move || format!("{:?}", store.effects()));
     });
     assert_eq!(ends(&report), ["[Number(1), Number(2)]", "[Number(2), Number(1)]"]);
+}
+
+#[test]
+fn others_put_before_a_commit_and_behind_it() {
+    let report = orders(|world| {
+        let store = world.store(Bounds::new());
+        let functions = Functions::new().transactional("pay", 1, pay).with("load", 1, || Done::Ok(()));
+        ["load", "pay"].iter().for_each(|name| store.pure(name));
+        ["one", "two"].iter().for_each(|name| drop(store.worker(name, &functions)));
+        let request = store.process_with("shop", &functions, ProcessOptions::new().workers(0)).request("order").unwrap();
+        request.supply("pay", &[json!(17)]).unwrap();
+        request.supply("load", &[]).unwrap();
+        let (granted, last) = (store.clone(), store.clone());
+        let is_paid_last = move || last.entries()[0].1.last().map_or(false, |entry| entry.word >> 36 & 0xfff == 0);
+        let by = move || granted.granted().into_iter().map(|it| it.0).collect::<Vec<_>>().join("+");
+        world.end_is(move || format!("by {}, paid last: {}", by(), is_paid_last()));
+    });
+    let by_one = ["by one+one, paid last: false", "by one+two, paid last: false", "by one+two, paid last: true"];
+    let by_two = ["by two+one, paid last: false", "by two+one, paid last: true", "by two+two, paid last: false"];
+    assert_eq!(ends(&report), [by_one, by_two].concat());
 }
 
 #[test]
@@ -552,7 +575,7 @@ const PLANS: [(&str, Attaches); 4] = [
     ("one stage", |request| request.supply("load", &[]).unwrap()),
     ("two in a row", |request| request.supply("load", &[]).unwrap().then("more").unwrap()),
     ("again", |request| request.supply("load", &[]).unwrap().again(1).unwrap()),
-    ("transactional", |request| request.supply("write", &[]).unwrap()),
+    ("transactional", |request| request.supply("pay", &[json!(17)]).unwrap()),
 ];
 
 fn faults() -> [(&'static str, Bounds); 6] {
@@ -584,9 +607,9 @@ pub fn stands_once(store: &WorldStore) -> bool {
 
 fn small(world: &World, plan: Attaches, workers: usize, bounds: Bounds) {
     let functions = Functions::new().with("load", 1, || Ok::<_, Failed>(1)).with("more", 1, |one: u32| Ok::<_, Failed>(one + 1));
-    let functions = functions.transactional("write", 1, |effects: &mut Vec<Value>| Ok::<_, Failed>(effects.push(json!(1))));
+    let functions = functions.transactional("pay", 1, pay);
     let store = world.store(bounds);
-    ["load", "more", "write"].iter().for_each(|name| store.pure(name));
+    ["load", "more", "pay"].iter().for_each(|name| store.pure(name));
     let one = store.worker("one", &functions);
     store.process_with("two", &functions, ProcessOptions::new().workers(workers - 1).takes_all());
     plan(&one.request("order").unwrap());
