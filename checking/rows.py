@@ -125,8 +125,9 @@ def rows_of_rust(tools: Tools, made: Path) -> List[Row]:
         Row("services of Rust's in every order", needs, [[python, offline, "test", "-q", "-p", "cf", "--features", "testing", "--lib", "--test", "orders"]]),
         Row("Rust's order that charges twice", needs, [[*testing, "twice"]], ("docs/TESTING.md", "twice.rs")),
         Row("Rust's orders that charge once", needs, [[*testing, "once"]], ("docs/TESTING.md", "once.rs")),
-        Row("services of Rust's over a store in every order", [*needs, DEBIANS],
-            [[python, offline, "--debian", "test", "-q", "-p", "cf-store", "--features", "testing", kind] for kind in ["--tests", "--doc"]]),
+        Row("services of Rust's over a store in every order", [*needs, "cf_look", DEBIANS],
+            [["env", f"CF_LOOK={tools['cf_look']}", python, offline, "--debian", "test", "-q", "-p", "cf-store", "--features", "testing", kind]
+             for kind in ["--tests", "--doc"]]),
         Row("Rust's order over a store that charges twice", [*needs, DEBIANS], [[*stored, "killed"]], ("docs/TESTING.md", "killed.rs")),
         Row("Rust's orders over a store that charge once", [*needs, DEBIANS], [[*stored, "keyed"]], ("docs/TESTING.md", "keyed.rs")),
         Row("random orders of Rust's requests beside explore", [*needs, "cf_look"],

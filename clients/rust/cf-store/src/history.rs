@@ -1,11 +1,12 @@
 //! What happened to a request, told as texts by the library. The row has no times, and names sessions by their numbers.
 use crate::error::{Failed, StoreError};
+use crate::host::Host;
 use crate::plan;
-use crate::service::Shared;
-use crate::store::Opened;
+use crate::store::{Opened, Store};
+use crate::view::sure;
 use cf_graph::{Answer, Call, Entry, Event, Refused, Said, Tale, Telling, Value};
 use serde_json::Value as Json;
-use std::collections::BTreeMap;
+use std::collections::{BTreeMap, BTreeSet};
 
 /// How many characters are told of a value or an error.
 const LONGEST: usize = 60;
@@ -22,6 +23,8 @@ pub struct History {
     names: Vec<String>,
     values: Vec<String>,
     errors: Vec<String>,
+    /// What sessions are called, as far as that is known.
+    sessions: BTreeMap<u64, String>,
 }
 
 /// What a history is to tell something of.
@@ -56,20 +59,33 @@ impl What<'_> {
 }
 
 impl History {
-    pub(crate) fn new(service: &Shared, opened: Opened, tells: impl Fn(What<'_>) -> String) -> Result<History, StoreError> {
-        let entries = service.sure(|| service.store.read(&opened.name, opened.number, 0))?;
+    pub(crate) fn new(store: &dyn Store, host: &dyn Host, opened: Opened, tells: impl Fn(What<'_>) -> String) -> Result<History, StoreError> {
+        let (name, number) = (opened.name.clone(), opened.number);
+        let entries = sure(host, || store.read(&name, number, 0))?;
         let names = plan::read(&opened.plan, &opened.name)?.stages.into_iter().map(|(_, _, said)| said.name).collect();
         let (values, errors) = (vec![String::new(); entries.len() + 1], vec![String::new(); entries.len() + 1]);
-        let mut made = History { opened, entries, attached: 0, names, values, errors };
-        for (k, entry) in made.entries.clone().into_iter().enumerate() {
-            made.read(service, k + 1, entry.word, &tells)?;
+        let mut made = History { opened, entries, attached: 0, names, values, errors, sessions: BTreeMap::new() };
+        for (place, entry) in (1..).zip(made.entries.clone()) {
+            made.read(place, entry.word, || sure(host, || store.payload(&name, number, place)), &tells)?;
         }
         made.tale()?; // (each of its words can be done)
         Ok(made)
     }
 
+    /// The same, in which sessions are called so.
+    #[cfg(feature = "testing")]
+    pub(crate) fn named(self, sessions: BTreeMap<u64, String>) -> History {
+        History { sessions, ..self }
+    }
+
     /// Takes in what the payload of a word says.
-    fn read(&mut self, service: &Shared, place: usize, word: u64, tells: &impl Fn(What<'_>) -> String) -> Result<(), StoreError> {
+    fn read(
+        &mut self,
+        place: usize,
+        word: u64,
+        payload: impl FnOnce() -> Result<Option<Vec<u8>>, StoreError>,
+        tells: &impl Fn(What<'_>) -> String,
+    ) -> Result<(), StoreError> {
         let broken = |why: &dyn std::fmt::Display| StoreError::broken(&self.opened.name, place, why);
         let names = match Event::of_word(word).map_err(|refused| broken(&refused))?.call {
             Call::Complete(_, Value::Int(_)) | Call::Finish(_, Answer::Give(Value::Int(_))) => Names::Value,
@@ -77,8 +93,7 @@ impl History {
             Call::Attach(..) => Names::Stage,
             _ => return Ok(()),
         };
-        let payload = service.sure(|| service.store.payload(&self.opened.name, self.opened.number, place))?;
-        let payload = payload.ok_or_else(|| broken(&"no payload is there, and a word names it"))?;
+        let payload = payload()?.ok_or_else(|| broken(&"no payload is there, and a word names it"))?;
         let unreadable = |why: serde_json::Error| broken(&format!("its payload can't be read: {why}"));
         match names {
             Names::Value => self.values[place] = tells(What::Value(&serde_json::from_slice(&payload).map_err(unreadable)?)),
@@ -142,14 +157,28 @@ impl History {
     }
 
     fn text(&self, as_what: Telling) -> Result<String, StoreError> {
-        let callers = self.entries.iter().map(|entry| (entry.word >> 48 & 0xff) + 1).max().unwrap_or(0);
         let mut tale = self.tale()?;
         tale.say(Said::Name, [&self.opened.name])?;
         tale.say(Said::Stages, &self.names)?;
-        tale.say(Said::Callers, (0..callers).map(|who| format!("session {who}")))?;
+        tale.say(Said::Callers, self.callers())?;
         tale.say(Said::Values, &self.values)?;
         tale.say(Said::Errors, &self.errors)?;
         Ok(tale.text(as_what)?)
+    }
+
+    /// What callers are called: all the names that sessions of a caller's number have.
+    fn callers(&self) -> Vec<String> {
+        let mut callers: Vec<BTreeSet<&str>> = Vec::new();
+        for entry in &self.entries {
+            let who = (entry.word >> 48 & 0xff) as usize;
+            callers.resize_with(callers.len().max(who + 1), BTreeSet::new);
+            callers[who].extend(self.sessions.get(&entry.session()).map(String::as_str));
+        }
+        let called = |(who, names): (usize, BTreeSet<&str>)| match names.len() {
+            0 => format!("session {who}"),
+            _ => names.into_iter().collect::<Vec<_>>().join(" or "),
+        };
+        callers.into_iter().enumerate().map(called).collect()
     }
 
     fn tale(&self) -> Result<Tale, StoreError> {

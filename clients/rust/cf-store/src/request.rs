@@ -133,11 +133,16 @@ impl Inner {
 
     /// Runs a transactional function of it, and what comes before and behind that in its transaction.
     pub(crate) fn transacting<T>(&self, act: impl FnOnce() -> T) -> T {
+        struct Transacts;
+        impl Drop for Transacts {
+            fn drop(&mut self) {
+                TRANSACTS.with(|it| it.set(0));
+            }
+        }
         let _others_wait = self.writing();
         TRANSACTS.with(|it| it.set(self as *const Inner as usize));
-        let told = act(); // (it doesn't panic: what a function panics with is its failure)
-        TRANSACTS.with(|it| it.set(0));
-        told
+        let _transacts = Transacts; // (what a function panics with is its failure, but a search of all orders leaves one by a panic)
+        act()
     }
 
     /// Has those who wait told that it can't be gone on with.
@@ -241,7 +246,7 @@ impl Request {
     /// The same, of which `tells` says what is told of a value or an error: less than all, where a history is to hold no secrets.
     pub fn history_by(&self, tells: impl Fn(What<'_>) -> String) -> Result<History, StoreError> {
         let opened = self.inner.view().opened.clone();
-        History::new(&self.service, opened, tells)
+        History::new(&*self.service.store, &*self.service.host, opened, tells)
     }
 
     /// Closes the request: nothing is left to do in it, and workers look at it no more. Its timers are forgotten. A flow's request is closed by itself

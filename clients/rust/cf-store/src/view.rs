@@ -250,7 +250,9 @@ impl View {
             Ok(true) => {
                 self.row.met(entries[0])?;
                 self.own.extend(payloads);
-                self.take(entries[0]).map(|_| true)
+                let done = self.take(entries[0])?;
+                self.tells(entries[0].word, &done);
+                Ok(true)
             }
             Ok(false) => self.row.give_up().map(|()| false).map_err(StoreError::from),
             Err(error) => {

@@ -258,19 +258,7 @@ impl History {
     /// assert!(shipment.history().page_by("/no/such/program").is_err());
     /// ```
     pub fn page_by(&self, program: impl AsRef<OsStr>) -> io::Result<String> {
-        let mut command = Command::new(program);
-        let mut looking = command.arg("page").stdin(Stdio::piped()).stdout(Stdio::piped()).stderr(Stdio::piped()).spawn()?;
-        let (account, input) = (self.account(), looking.stdin.take());
-        let ended = thread::scope(|scope| {
-            // A program that reads no further says why by its status.
-            scope.spawn(|| input.map(|mut input| input.write_all(account.as_bytes())));
-            looking.wait_with_output()
-        })?;
-        if !ended.status.success() {
-            let said = String::from_utf8_lossy(&ended.stderr);
-            return Err(io::Error::new(io::ErrorKind::Other, format!("cf_look ended with {}: {}", ended.status, said.trim())));
-        }
-        String::from_utf8(ended.stdout).map_err(|error| io::Error::new(io::ErrorKind::InvalidData, error))
+        page_of(&self.account(), program.as_ref())
     }
 
     /// All in one line, for a log: how much happened, how long that took, how many stages failed and which was the first, which are open. A `;` of a
@@ -333,6 +321,23 @@ impl History {
         };
         Ok(done_again(&self.words, self.names.len() as u16)?.into_iter().map(apart).map(by_relay).collect())
     }
+}
+
+/// The page of an account, by a program.
+pub(crate) fn page_of(account: &str, program: &OsStr) -> io::Result<String> {
+    let mut command = Command::new(program);
+    let mut looking = command.arg("page").stdin(Stdio::piped()).stdout(Stdio::piped()).stderr(Stdio::piped()).spawn()?;
+    let input = looking.stdin.take();
+    let ended = thread::scope(|scope| {
+        // A program that reads no further says why by its status.
+        scope.spawn(|| input.map(|mut input| input.write_all(account.as_bytes())));
+        looking.wait_with_output()
+    })?;
+    if !ended.status.success() {
+        let said = String::from_utf8_lossy(&ended.stderr);
+        return Err(io::Error::new(io::ErrorKind::Other, format!("cf_look ended with {}: {}", ended.status, said.trim())));
+    }
+    String::from_utf8(ended.stdout).map_err(|error| io::Error::new(io::ErrorKind::InvalidData, error))
 }
 
 /// What the callers are called, up to the last that did something.

@@ -33,20 +33,23 @@
 //! - `bounds.rs` says how often what may go wrong, and in which ways a call of the store may be answered.
 //! - `memory.rs` is the store. `rows.rs` has what a reader of all its words knows.
 //! - `process.rs` is a process: a [`Service`](crate::Service) whose host and store are the search's.
-//! - `sharing.rs` has the moves of processes.
+//! - `sharing.rs` has the moves of processes. `transaction.rs` has what becomes of transactional functions.
 mod bounds;
 mod memory;
 mod process;
 mod rows;
 mod sharing;
+mod transaction;
 
 use crate::error::Error;
 use crate::functions::Functions;
-use cf::testing::World;
+use crate::history::History;
+use cf::testing::{Failure, StoredHistory, World};
 use cf_graph::Entry;
 use rows::{end_of, ended, locked, Rows};
 use serde_json::Value;
 use sharing::{Shared, Shop};
+use std::any::Any;
 use std::fmt;
 use std::sync::Arc;
 use std::time::Duration;
@@ -69,6 +72,51 @@ impl Stores for World {
         let shop = Arc::new(Shop::new(self.seam(), bounds));
         self.seam().keep(|| Arc::new(Shared(Arc::clone(&shop))));
         WorldStore(shop)
+    }
+}
+
+/// What a [`Failure`] has of requests in a store.
+///
+/// ```
+/// use cf::testing::{orders, World};
+/// use cf_store::testing::{Bounds, Histories, Stores};
+/// use cf_store::Functions;
+///
+/// fn approval(world: &World) {
+///     let store = world.store(Bounds::new());
+///     let clerk = store.process("the clerk", &Functions::new());
+///     let approval = clerk.request("order 17").unwrap().promise("approval").unwrap();
+///     clerk.calls("the clerk", move || approval.complete("yes"));
+///     world.at_end("nobody approves", move || !store.is_settled("order 17", "approval"));
+/// }
+///
+/// let failure = &orders(approval).failed[0];
+/// let told = failure.in_store()[0].lines().unwrap();
+/// assert!(told.contains("the clerk completes 0 approval with \"yes\""), "{told}");
+/// ```
+pub trait Histories {
+    /// The history of each request in the store, in the order in which they were opened, by all words that stand. Sessions are called as their
+    /// processes. [`Failure::account`], `script` and `page` tell of these requests, too: they are counted on from those in memory.
+    fn in_store(&self) -> Vec<&History>;
+}
+
+impl Histories for Failure {
+    fn in_store(&self) -> Vec<&History> {
+        self.stored().iter().filter_map(|it| it.as_any().downcast_ref()).collect()
+    }
+}
+
+impl StoredHistory for History {
+    fn account(&self) -> String {
+        History::account(self).expect("memory for a text") + "\n"
+    }
+
+    fn script(&self) -> String {
+        History::script(self).expect("memory for a text")
+    }
+
+    fn as_any(&self) -> &dyn Any {
+        self
     }
 }
 
@@ -132,9 +180,7 @@ impl WorldStore {
     /// A process with a service over this store, which works on the requests that it has opened, and runs functions on one thread. `name` is what it
     /// is called where an order is told.
     ///
-    /// # Panics
-    ///
-    /// Where a function is transactional, here and in the next two.
+    /// Of a [transactional](Functions::transactional) function the connection is a `Vec<Value>`, for [`effects`](WorldStore::effects).
     pub fn process(&self, name: &str, functions: &Functions) -> Process {
         self.process_with(name, functions, ProcessOptions::new())
     }
@@ -183,6 +229,33 @@ impl WorldStore {
             told.extend(lines.unwrap_or_default());
         }
         told
+    }
+
+    /// What transactional functions have pushed to their connection, in the order in which they were committed: it stands exactly where the finish of
+    /// the function's stage does.
+    ///
+    /// ```
+    /// use cf::testing::{orders, World};
+    /// use cf_store::testing::{Bounds, Stores};
+    /// use cf_store::Functions;
+    /// use serde_json::{json, Value};
+    ///
+    /// fn checkout(world: &World) {
+    ///     let charge = |effects: &mut Vec<Value>, order: u32| {
+    ///         effects.push(json!(order));
+    ///         Ok::<_, String>(order)
+    ///     };
+    ///     let functions = Functions::new().transactional("charge", 1, charge);
+    ///     let store = world.store(Bounds::new().killed(1).unanswered(1));
+    ///     let (one, _two) = (store.worker("one", &functions), store.worker("two", &functions));
+    ///     one.request("order 17").unwrap().supply("charge", &[json!(17)]).unwrap().again(1).unwrap();
+    ///     world.check("charged at most once", move || store.effects().len() <= 1);
+    /// }
+    ///
+    /// assert!(orders(checkout).failed.is_empty());
+    /// ```
+    pub fn effects(&self) -> Vec<Value> {
+        self.0.effects()
     }
 
     /// The claims that processes were told to be theirs: the process's name, the request's, and the stage. For what has to hold at the end.

@@ -1,12 +1,13 @@
 //! A process of a world: a service over the world's store, whose threads, clock and chance are the search's.
 use super::bounds::{OF_CALLS, OF_PUTS, OF_READS, OF_WRITES};
 use super::sharing::Shop;
+use super::transaction::WorldTransaction;
 use crate::error::{Failed, StoreError};
 use crate::functions::panicked;
 use crate::host::Host;
 use crate::request::Given;
 use crate::service::{Job, Service};
-use crate::store::{Mark, Opened, Put, Store, Timer};
+use crate::store::{Mark, Opened, Put, Store, Timer, Transaction};
 use crate::view::View;
 use cf::testing::{Seam, Waits};
 use cf_graph::Entry;
@@ -286,5 +287,13 @@ impl Store for ProcessStore {
     fn drop_timer(&self, timer: &Timer) -> Result<(), StoreError> {
         let stage = self.shop.rows.stage(&timer.request, timer.stage);
         self.change(&timer.request, format!("forgets the limit of {stage}"), || self.shop.rows.memory.drop_timer(timer))
+    }
+
+    fn transacts(&self) -> bool {
+        true
+    }
+
+    fn transaction(&self) -> Result<Box<dyn Transaction + '_>, StoreError> {
+        Ok(Box::new(WorldTransaction::new(&self.shop, self.number)))
     }
 }

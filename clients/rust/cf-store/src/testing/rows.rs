@@ -1,6 +1,7 @@
 //! What stands in a world's store, and what a reader of all words knows of it.
 use super::memory::Memory;
 use crate::error::{Error, StoreError};
+use crate::history::History;
 use crate::host::Host;
 use crate::plan;
 use crate::store::{Opened, Put, Store};
@@ -129,6 +130,12 @@ impl Rows {
             }
         }
         Ok(None)
+    }
+
+    /// What happened to a request, in which sessions are called so. Nothing of a row that can't be told.
+    pub(super) fn history(&self, name: &str, sessions: BTreeMap<u64, String>) -> Option<History> {
+        let opened = self.memory.find(name).ok()??;
+        Some(History::new(&*self.memory, &Reader, opened, |it| it.all()).ok()?.named(sessions))
     }
 
     /// The entries of each request, in the order in which they were opened.

@@ -11,8 +11,9 @@ use crate::functions::Functions;
 use crate::service::{Job, Options, Service};
 use crate::store::{Mark, Put, Store, Timer};
 use crate::view::{View, PATIENCE};
-use cf::testing::{Seam, Sharing, Stored, Then, Waits};
+use cf::testing::{Seam, Sharing, Stored, StoredHistory, Then, Waits};
 use cf_graph::Entry;
+use serde_json::Value;
 use std::collections::{BTreeMap, BTreeSet, VecDeque};
 use std::sync::{Arc, Mutex};
 use std::time::{Duration, Instant};
@@ -23,6 +24,7 @@ const PROCESS: &str = "process";
 const KILLS: &str = "kills";
 const FAULTS: &str = "faults";
 const LANDED: &str = "landed";
+const EFFECTS: &str = "effects"; // of transactional functions
 /// At beats, until a silent process is taken for gone.
 const LOOKS: u32 = 5;
 
@@ -113,6 +115,7 @@ pub(super) struct Shop {
     bounds: Mutex<Bounds>,
     processes: Mutex<Vec<Its>>,
     flying: Mutex<Vec<Flying>>,
+    effects: Mutex<Vec<Value>>,
     marks: Mutex<BTreeMap<String, Vec<&'static str>>>,
 }
 
@@ -134,6 +137,7 @@ impl Shop {
             bounds: Mutex::new(bounds),
             processes: Mutex::default(),
             flying: Mutex::default(),
+            effects: Mutex::default(),
             marks: Mutex::default(),
         }
     }
@@ -157,7 +161,7 @@ impl Shop {
         let options = Options { threads: said.workers, lease: said.lease, takes_all: said.takes_all, ..Options::default() };
         let store = ProcessStore { shop: Arc::clone(self), number };
         let host = ProcessHost { shop: Arc::clone(self), number, zero };
-        let service = Service::hosted(Arc::new(store), functions.clone(), options, Arc::new(host)).expect("functions without transactions");
+        let service = Service::hosted(Arc::new(store), functions.clone(), options, Arc::new(host)).expect("a store with transactions");
         let service = Arc::new(service);
         let _never_refused = self.rows.memory.beat(service.shared.session);
         self.its(number, |its| its.service = Some(Arc::clone(&service)));
@@ -284,6 +288,22 @@ impl Shop {
         let told = self.rows.append(put);
         self.touch_row(put.request, !matches!(told, Ok(Some(_))));
         told
+    }
+
+    /// Puts what a transaction puts, with its effects: whether the place was free.
+    pub(super) fn commit(&self, put: Put<'_>, effects: Vec<Value>) -> Result<bool, StoreError> {
+        let is_free = self.append(put)?.is_none();
+        if is_free {
+            self.seam.touch(EFFECTS, 0, true);
+            locked(&self.effects).extend(effects);
+        }
+        Ok(is_free)
+    }
+
+    /// The effects that stand.
+    pub(super) fn effects(&self) -> Vec<Value> {
+        self.seam.touch(EFFECTS, 0, false);
+        locked(&self.effects).clone()
     }
 
     /// A process is told that a word of its own stands.
@@ -650,6 +670,14 @@ impl Sharing for Shared {
 
     fn words(&self) -> Vec<Vec<u64>> {
         self.0.rows.entries().into_iter().map(|row| row.into_iter().map(|entry| entry.word).collect()).collect()
+    }
+
+    fn histories(&self) -> Vec<Arc<dyn StoredHistory>> {
+        let shop = &self.0;
+        let session = |process: u16| Some((shop.service(process)?.shared.session, shop.name_of(process)));
+        let sessions: BTreeMap<u64, String> = shop.numbers().into_iter().filter_map(session).collect();
+        let history = |name: &String| Some(Arc::new(shop.rows.history(name, sessions.clone())?) as Arc<dyn StoredHistory>);
+        shop.rows.names().iter().filter_map(history).collect()
     }
 
     fn close(&self) {

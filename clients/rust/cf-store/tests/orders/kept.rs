@@ -1,37 +1,15 @@
-//! Random programs over a store, which the search has to bring to the same ends with and without what it leaves out. In each of their orders no claim
-//! may be granted twice, and each put stands as its process was told.
-//!
-//! `CF_PROGRAMS` says which, as `FIRST COUNT MOST`: the seeds from FIRST on, of which those with over MOST orders are left out. `CF_ENDS` names a file
-//! for each that differs, and last what was compared.
+//! Random programs over a store. In each of their orders no claim may be granted twice, and each put stands as its process was told.
+use crate::random::{come_to_the_same_ends, Dice, Mark, Program};
 use crate::services::{is_done, Shared};
 use crate::{is_granted_once, stands_once};
-use cf::testing::{Orders, Report, World};
+use cf::testing::World;
 use cf_store::testing::{Bounds, Process, ProcessOptions, Stores, WorldStore};
-use cf_store::{Error, Failed, Functions, Request, Stage, StoreError};
-use serde_json::Value;
-use std::collections::BTreeSet;
-use std::panic::catch_unwind;
+use cf_store::{Error, Failed, Flow, Functions, Request, Stage, StoreError};
+use serde_json::{json, Value};
 use std::time::Duration;
 
 /// Variables.
 const SHARED: usize = 2;
-
-/// Numbers by a seed (SplitMix64).
-struct Dice(u64);
-
-impl Dice {
-    fn below(&mut self, most: usize) -> usize {
-        self.0 = self.0.wrapping_add(0x9e37_79b9_7f4a_7c15);
-        let mut mixed = self.0;
-        mixed = (mixed ^ mixed >> 30).wrapping_mul(0xbf58_476d_1ce4_e5b9);
-        mixed = (mixed ^ mixed >> 27).wrapping_mul(0x94d0_49bb_1331_11eb);
-        ((mixed ^ mixed >> 31) % most as u64) as usize
-    }
-
-    fn one_of<T: Copy>(&mut self, of: &[T]) -> T {
-        of[self.below(of.len())]
-    }
-}
 
 #[derive(Clone, Copy, Debug)]
 enum Does {
@@ -42,13 +20,6 @@ enum Does {
     Nothing,
 }
 
-#[derive(Clone, Copy, Debug)]
-enum Mark {
-    None,
-    Pure,
-    Touches,
-}
-
 /// What a function does, to a variable.
 #[derive(Clone, Copy, Debug)]
 struct Act(Does, usize, Mark);
@@ -56,11 +27,13 @@ struct Act(Does, usize, Mark);
 #[derive(Clone, Copy, Debug)]
 enum Kind {
     Supply,
+    Transact,
     Promise,
     Then,
     Handle,
     Again,
     Combine,
+    Compose,
 }
 
 /// A stage: its function, and the one behind which it stands.
@@ -78,10 +51,11 @@ enum Word {
     Open,
 }
 
-/// A program by a seed.
 #[derive(Clone, Debug)]
-struct Program {
+struct OverStore {
     workers: usize,
+    /// Whether the request is a flow's, of a promise that has its value from the beginning, and a function behind it.
+    is_flow: bool,
     acts: [Act; 2],
     stages: Vec<Said>,
     /// What a client does to a stage, with a variable.
@@ -91,12 +65,13 @@ struct Program {
     has_limit: bool,
 }
 
-impl Program {
-    fn of(seed: u64) -> Program {
-        let dice = &mut Dice(seed);
+impl Program for OverStore {
+    const WHERE: &'static str = " over a store";
+
+    fn of(dice: &mut Dice) -> OverStore {
         let workers = dice.one_of(&[1, 1, 1, 2]);
         let does = [Does::Set, Does::Add, Does::Copy, Does::Fail, Does::Nothing];
-        let act = |dice: &mut Dice| Act(dice.one_of(&does), dice.below(SHARED), dice.one_of(&[Mark::None, Mark::None, Mark::Pure, Mark::Touches]));
+        let act = |dice: &mut Dice| Act(dice.one_of(&does), dice.below(SHARED), dice.mark());
         let acts = [act(dice), act(dice)];
         let stages: Vec<Said> = (0..dice.one_of(&[1, 1, 2])).map(|at| Said::of(dice, at)).collect();
         let words = [Word::Cancel, Word::Abandon, Word::Complete, Word::Attach, Word::Wait, Word::Looks, Word::Open];
@@ -105,14 +80,48 @@ impl Program {
         let bounds = [none.lost(1), none.unanswered(1), none.late(1), none.silent(1), none.killed(1), none.slow(1)];
         let bounds = if dice.below(10) < 8 { dice.one_of(&bounds) } else { none };
         let check = (dice.below(10) < 3).then(|| dice.below(SHARED));
-        Program { workers, acts, stages, call, bounds, check, has_limit: dice.below(100) < 15 }
+        OverStore { workers, is_flow: dice.below(8) == 0, acts, stages, call, bounds, check, has_limit: dice.below(100) < 15 }
+    }
+
+    fn run(&self, world: &World) {
+        let made = Kept { shared: Shared::default(), log: Shared::default(), told: Shared::default(), stages: Shared::default() };
+        let (functions, store) = (made.functions(self.acts), world.store(self.bounds));
+        for (number, act) in self.acts.iter().enumerate() {
+            (0..3).for_each(|arguments| match act.2 {
+                Mark::None => {}
+                Mark::Pure => store.pure(&name(number, arguments)),
+                Mark::Touches => store.touches(&name(number, arguments), &["log"]),
+            });
+        }
+        (0..self.workers).for_each(|number| drop(store.worker(&format!("worker {number}"), &functions)));
+        let shop = store.process_with("shop", &functions, ProcessOptions::new().workers(0));
+        let request = if self.is_flow { begun(&shop) } else { shop.request("order").unwrap() };
+        for said in &self.stages {
+            let stage = made.attach(&request, *said);
+            made.stages.get().push(stage);
+        }
+        if self.has_limit {
+            made.stages.get()[0].or_timeout(Duration::from_secs(2)).unwrap();
+        }
+        if let Some(call) = self.call {
+            let (made, clients) = (made.clone(), shop.clone());
+            shop.calls("a client", move || made.call(&clients, call));
+        }
+        if let Some(variable) = self.check {
+            let (shared, store) = (made.shared.clone(), store.clone());
+            world.check("checked", move || shared.get()[variable] < 2 || store.outcomes()[0].ends_with("is open"));
+        }
+        let (granted, stands) = (store.clone(), store.clone());
+        world.at_end("no claim is granted twice", move || is_granted_once(&granted));
+        world.at_end("no word stands twice, and each as it was told", move || stands_once(&stands));
+        world.end_is(move || made.end(&store));
     }
 }
 
 impl Said {
     fn of(dice: &mut Dice, at: usize) -> Said {
-        let first = [Kind::Supply, Kind::Supply, Kind::Supply, Kind::Promise];
-        let behind = [Kind::Then, Kind::Handle, Kind::Again, Kind::Combine];
+        let first = [Kind::Supply, Kind::Supply, Kind::Transact, Kind::Promise];
+        let behind = [Kind::Then, Kind::Handle, Kind::Again, Kind::Combine, Kind::Compose];
         let kinds = if at > 0 { [&first[..], &behind, &behind].concat() } else { first.to_vec() };
         Said(dice.one_of(&kinds), dice.below(2), dice.below(at.max(1)))
     }
@@ -153,10 +162,13 @@ impl Kept {
         Ok(shared[variable])
     }
 
-    /// Each act by as many arguments as there may be.
+    /// Each act by as many arguments as there may be, in a transaction, and as that of a stage that composes.
     fn functions(&self, acts: [Act; 2]) -> Functions {
         acts.into_iter().enumerate().fold(Functions::new(), |functions, (number, act)| {
-            let (none, one, two) = (self.clone(), self.clone(), self.clone());
+            let (none, one, two, there) = (self.clone(), self.clone(), self.clone(), self.clone());
+            let transacts = move |effects: &mut Vec<Value>| there.act(act, 0).map(|did| effects.push(json!(did)));
+            let composes = move |request: &Request, _: Value| request.supply(&name(number, 0), &[]);
+            let functions = functions.transactional(&in_transaction(number), 1, transacts).composing(&composing(number), 1, composes);
             let functions = functions.with(&name(number, 0), 1, move || none.act(act, 0));
             let functions = functions.with(&name(number, 1), 1, move |_: Value| one.act(act, 1));
             functions.with(&name(number, 2), 1, move |_: Value, _: Value| two.act(act, 2))
@@ -168,11 +180,13 @@ impl Kept {
         let of = || of.as_ref().expect("it is there");
         let attached = match kind {
             Kind::Supply => request.supply(&name(function, 0), &[]),
+            Kind::Transact => request.supply(&in_transaction(function), &[]),
             Kind::Promise => request.promise("promise"),
             Kind::Then => of().then(&name(function, 1)),
             Kind::Handle => of().handle(&name(function, 2)),
             Kind::Again => of().again(1),
             Kind::Combine => of().combine(of(), &name(function, 2)),
+            Kind::Compose => of().compose(&composing(function)),
         };
         attached.expect("the test is always answered")
     }
@@ -205,7 +219,7 @@ impl Kept {
     }
 
     fn end(&self, store: &WorldStore) -> String {
-        format!("{:?} {:?} {:?} {:?}", store.outcomes(), *self.shared.get(), *self.log.get(), *self.told.get())
+        format!("{:?} {:?} {:?} {:?} {:?}", store.outcomes(), store.effects(), *self.shared.get(), *self.log.get(), *self.told.get())
     }
 }
 
@@ -213,85 +227,23 @@ fn name(act: usize, arguments: usize) -> String {
     format!("f{act} of {arguments}")
 }
 
-fn run(program: &Program, world: &World) {
-    let made = Kept { shared: Shared::default(), log: Shared::default(), told: Shared::default(), stages: Shared::default() };
-    let (functions, store) = (made.functions(program.acts), world.store(program.bounds));
-    for (number, act) in program.acts.iter().enumerate() {
-        (0..3).for_each(|arguments| match act.2 {
-            Mark::None => {}
-            Mark::Pure => store.pure(&name(number, arguments)),
-            Mark::Touches => store.touches(&name(number, arguments), &["log"]),
-        });
-    }
-    (0..program.workers).for_each(|number| drop(store.worker(&format!("worker {number}"), &functions)));
-    let shop = store.process_with("shop", &functions, ProcessOptions::new().workers(0));
-    let request = shop.request("order").unwrap();
-    for said in &program.stages {
-        let stage = made.attach(&request, *said);
-        made.stages.get().push(stage);
-    }
-    if program.has_limit {
-        made.stages.get()[0].or_timeout(Duration::from_secs(2)).unwrap();
-    }
-    if let Some(call) = program.call {
-        let (made, clients) = (made.clone(), shop.clone());
-        shop.calls("a client", move || made.call(&clients, call));
-    }
-    if let Some(variable) = program.check {
-        let (shared, store) = (made.shared.clone(), store.clone());
-        world.check("checked", move || shared.get()[variable] < 2 || store.outcomes()[0].ends_with("is open"));
-    }
-    let (granted, stands) = (store.clone(), store.clone());
-    world.at_end("no claim is granted twice", move || is_granted_once(&granted));
-    world.at_end("no word stands twice, and each as it was told", move || stands_once(&stands));
-    world.end_is(move || made.end(&store));
+fn in_transaction(act: usize) -> String {
+    format!("f{act} in a transaction")
 }
 
-/// The ends, and why orders fail.
-fn both(report: &Report) -> (BTreeSet<&str>, BTreeSet<&str>) {
-    (report.ends.keys().map(String::as_str).collect(), report.failed.iter().map(|failure| failure.why.as_str()).collect())
+fn composing(act: usize) -> String {
+    format!("f{act} composes")
 }
 
-/// What a program comes to with and without what is left out, if it isn't too large: how many orders there are, how many runs were enough, and
-/// what differs.
-fn compared(seed: u64, most: u64) -> Option<(u64, u64, Option<String>)> {
-    let program = Program::of(seed);
-    let orders = Orders::new().failures(usize::MAX).as_found().time(Duration::from_secs(60));
-    let (plainly, reduced) = (program.clone(), program.clone());
-    let plain = orders.clone().all().most(most).run(move |world| run(&plainly, world));
-    if !plain.whole {
-        return None;
-    }
-    let reduced = orders.most(2 * most + 1_000).run(move |world| run(&reduced, world));
-    let is_same = reduced.whole && both(&plain) == both(&reduced);
-    let differs = || format!("program {seed} over a store: {:?}, and with what is left out {:?}: {program:?}", both(&plain), both(&reduced));
-    Some((plain.orders, reduced.orders + reduced.cut, (!is_same).then(differs)))
+/// A request of a flow.
+fn begun(shop: &Process) -> Request {
+    let mut flow = Flow::new("orders");
+    let order = flow.promise("promise");
+    flow.then(order, &name(0, 1));
+    shop.start(&flow, "order", &[json!(1)]).unwrap()
 }
 
 #[test]
 fn random_programs_come_to_the_same_ends() {
-    let said = std::env::var("CF_PROGRAMS").unwrap_or_else(|_| "0 20 60".into());
-    let numbers: Vec<u64> = said.split_whitespace().map(|word| word.parse().unwrap()).collect();
-    let (first, count, most) = (numbers[0], numbers[1], numbers[2]);
-    let (mut programs, mut all, mut tried, mut otherwise) = (0, 0, 0, Vec::new());
-    for seed in first..first + count {
-        match catch_unwind(|| compared(seed, most)) {
-            Ok(Some((orders, runs, differs))) => {
-                (programs, all, tried) = (programs + 1, all + orders, tried + runs);
-                otherwise.extend(differs);
-            }
-            Ok(None) => {}
-            Err(payload) => otherwise.push(format!("program {seed} over a store panics: {:?}", payload.downcast_ref::<String>())),
-        }
-    }
-    let told = format!(
-        "{programs} programs over a store of {all} orders have the same ends in {tried} runs; {} were too large; {} otherwise",
-        count - programs,
-        otherwise.len()
-    );
-    let lines = [&otherwise[..], &[told]].concat().join("\n");
-    if let Some(path) = std::env::var_os("CF_ENDS") {
-        std::fs::write(path, &lines).unwrap();
-    }
-    assert!(otherwise.is_empty() && programs > count / 4, "{lines}");
+    come_to_the_same_ends::<OverStore>("0 20 60");
 }

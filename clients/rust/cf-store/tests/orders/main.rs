@@ -1,12 +1,16 @@
 //! What does the search find in services over a store, what may go wrong there, and what does it say of the crate?
+#[path = "../common/mod.rs"]
+mod common;
 mod kept;
+#[path = "../../../cf/tests/orders/random.rs"]
+mod random;
 mod services;
 
 use cf::testing::{Orders, Report, World};
-use cf_store::testing::{Bounds, ProcessOptions, Stores, WorldStore};
+use cf_store::testing::{Bounds, Histories, ProcessOptions, Stores, WorldStore};
 use cf_store::{context, within, Failed, Flow, Functions, Request, Stage, StoreError};
 use serde_json::{json, Value};
-use services::{charged_again, is_done, own_word_for_anothers, Done, Shared, SERVICES};
+use services::{charged_again, done_elsewhere, is_done, own_word_for_anothers, Done, Shared, SERVICES};
 use std::collections::{BTreeMap, BTreeSet};
 use std::sync::{Arc, Weak};
 use std::time::Duration;
@@ -59,7 +63,7 @@ fn each_sound_service_is_sound_in_all_orders() {
 
 #[test]
 fn what_goes_wrong_is_tried_by_chance() {
-    for service in [charged_again, own_word_for_anothers] {
+    for service in [charged_again, done_elsewhere, own_word_for_anothers] {
         let report = Orders::new().time(LIMIT).chance(500, 3).run(move |world| service(world, false));
         assert!(!report.failed.is_empty(), "{report}");
     }
@@ -114,13 +118,123 @@ fn others_go_on_before_the_lines_behind_a_put_of_what_composes() {
     assert_eq!(ends(&report), ["0", "1"]);
 }
 
-#[test]
-#[should_panic(expected = "no transactions that a function can take part in")]
-fn a_process_has_no_transactional_functions() {
-    let pay = |_: &mut String, _: u32| Ok::<_, String>(());
+// Transactional functions.
+
+fn pay(effects: &mut Vec<Value>, order: u32) -> Done {
+    effects.push(json!(order));
+    Ok(())
+}
+
+/// A transactional function of a shop's, and what its client does meanwhile.
+fn paying(world: &World, workers: usize, bounds: Bounds, meanwhile: Option<fn(&Stage)>) {
     let functions = Functions::new().transactional("pay", 1, pay);
-    let report = orders(move |world| drop(world.store(Bounds::new()).worker("one", &functions)));
-    panic!("{report}");
+    let store = world.store(bounds);
+    store.pure("pay");
+    (0..workers).for_each(|number| drop(store.worker(&format!("worker {number}"), &functions)));
+    let shop = store.process_with("shop", &functions, ProcessOptions::new().workers(0));
+    let paid = shop.request("order").unwrap().supply("pay", &[json!(17)]).unwrap();
+    if let Some(meanwhile) = meanwhile {
+        shop.calls("client", move || meanwhile(&paid));
+    }
+    let stands = store.clone();
+    let is_paid = move || stands.effects().len() == usize::from(stands.outcome("order", "pay") == Some(Ok(Value::Null)));
+    world.check("an effect stands exactly if its finish does", is_paid);
+    world.end_is(move || format!("{} {}", store.effects().len(), store.outcomes().join(", ")));
+}
+
+#[test]
+fn an_effect_stands_exactly_if_its_finish_does() {
+    let (paid, cancelled) = ("1 order: pay ends: null", "0 order: pay is cancelled");
+    let gone = "0 order: pay ends: the worker that ran pay is gone, and it may have run";
+    for (fault, bounds) in faults() {
+        let takes_for_gone = ["killed", "slow"].contains(&fault);
+        let report = orders(move |world| paying(world, 1 + usize::from(takes_for_gone), bounds, None));
+        assert_eq!(ends(&report), if takes_for_gone { vec![gone, paid] } else { vec![paid] }, "{fault}");
+    }
+    for bounds in [Bounds::new(), Bounds::new().late(1)] {
+        let report = orders(move |world| paying(world, 1, bounds, Some(|paid| drop(paid.cancel()))));
+        assert_eq!(ends(&report), [cancelled, paid]);
+    }
+}
+
+#[test]
+fn what_a_transaction_puts_is_told() {
+    is_sound(&orders(|world| {
+        let (store, its) = (world.store(Bounds::new()), world.clone());
+        let functions = Functions::new().transactional("pay", 1, |_: &mut Vec<Value>| Done::Ok(()));
+        store.worker("one", &functions).request("order").unwrap().supply("pay", &[]).unwrap();
+        its.at_end("three words are told", move || store.answered().into_iter().map(|it| it.2).eq(1..=3));
+    }));
+}
+
+#[test]
+fn a_process_is_killed_within_a_transaction() {
+    let report = orders(|world| {
+        let (store, its) = (world.store(Bounds::new().killed(1)), world.clone());
+        let pay = move |effects: &mut Vec<Value>| {
+            effects.push(json!(17));
+            its.point();
+            Done::Ok(())
+        };
+        let functions = Functions::new().transactional("pay", 1, pay);
+        let request = store.worker("one", &functions).request("order").unwrap();
+        (0..2).for_each(|_| drop(request.supply("pay", &[]).unwrap()));
+        world.end_is(move || format!("{} of {}", store.effects().len(), store.outcomes().iter().filter(|it| it.contains("pay ends: null")).count()));
+    });
+    assert_eq!(ends(&report), ["0 of 0", "1 of 1", "2 of 2"]);
+}
+
+#[test]
+fn effects_of_two_requests_come_in_both_orders() {
+    let report = orders(|world| {
+        let store = world.store(Bounds::new());
+        let functions = Functions::new().transactional("pay", 1, pay);
+        store.pure("pay");
+        for (number, name) in [(1, "first"), (2, "second")] {
+            store.process(name, &functions).request(name).unwrap().supply("pay", &[json!(number)]).unwrap();
+        }
+        world.end_is(move || format!("{:?}", store.effects()));
+    });
+    assert_eq!(ends(&report), ["[Number(1), Number(2)]", "[Number(2), Number(1)]"]);
+}
+
+#[test]
+fn others_put_before_a_commit_and_behind_it() {
+    let report = orders(|world| {
+        let store = world.store(Bounds::new());
+        let functions = Functions::new().transactional("pay", 1, pay).with("load", 1, || Done::Ok(()));
+        ["load", "pay"].iter().for_each(|name| store.pure(name));
+        ["one", "two"].iter().for_each(|name| drop(store.worker(name, &functions)));
+        let request = store.process_with("shop", &functions, ProcessOptions::new().workers(0)).request("order").unwrap();
+        request.supply("pay", &[json!(17)]).unwrap();
+        request.supply("load", &[]).unwrap();
+        let (granted, last) = (store.clone(), store.clone());
+        let is_paid_last = move || last.entries()[0].1.last().map_or(false, |entry| entry.word >> 36 & 0xfff == 0);
+        let by = move || granted.granted().into_iter().map(|it| it.0).collect::<Vec<_>>().join("+");
+        world.end_is(move || format!("by {}, paid last: {}", by(), is_paid_last()));
+    });
+    let by_one = ["by one+one, paid last: false", "by one+two, paid last: false", "by one+two, paid last: true"];
+    let by_two = ["by two+one, paid last: false", "by two+one, paid last: true", "by two+two, paid last: false"];
+    assert_eq!(ends(&report), [by_one, by_two].concat());
+}
+
+#[test]
+fn what_a_function_that_fails_has_done_is_undone() {
+    let report = orders(|world| {
+        let store = world.store(Bounds::new().lost(1));
+        let pay = |effects: &mut Vec<Value>| {
+            effects.push(json!(17));
+            Err::<(), _>(Failed::new("CardDeclined", "no card"))
+        };
+        let other = |_: &mut String| Done::Ok(());
+        let functions = Functions::new().transactional("pay", 1, pay).transactional("other", 1, other);
+        let request = store.worker("one", &functions).request("order").unwrap();
+        request.supply("pay", &[]).unwrap();
+        request.supply("other", &[]).unwrap();
+        world.end_is(move || format!("{} {}", store.effects().len(), store.outcomes().join(", ")));
+    });
+    let (pay, other) = ("pay ends: CardDeclined: no card", "other ends: TypeError: it takes the connection of another engine");
+    assert_eq!(ends(&report), [format!("0 order: {pay}, order: {other}")]);
 }
 
 // What is told.
@@ -151,6 +265,32 @@ fn what_was_lost_is_told() {
     let failure = &orders(|world| own_word_for_anothers(world, false)).failed[0];
     let wanted = "a client puts to lock: owner is completed; it stands, and the store is silent for a minute";
     assert!(failure.told.iter().any(|it| it.text == wanted), "{failure}");
+}
+
+#[test]
+fn a_failure_has_the_histories_of_its_requests() {
+    let report = orders(|world| {
+        world.request("in memory").promise().complete(1).unwrap();
+        charged_again(world, false);
+    });
+    let failure = &report.failed[0];
+    let [history] = &*failure.in_store() else { panic!("{failure}") };
+    let told = history.lines().unwrap();
+    let gone = "the worker that ran charge is gone, and it may...";
+    let wanted = [
+        "order 17: 5 events, 2 stages".into(),
+        "the shop attaches 0 charge, supply".into(),
+        "the shop attaches 1 charge again, exceptionally behind 0 charge".into(),
+        "worker 1 claims 0 charge and calls it".into(),
+        format!("worker 2 fails 0 charge with Abandoned: {gone}"),
+        format!("              0 charge ends: Abandoned: {gone}"),
+        format!("worker 2 claims 1 charge again and calls it with Abandoned: {gone}"),
+    ];
+    assert_eq!(told.lines().collect::<Vec<_>>(), wanted);
+    assert_eq!(failure.account(1), history.account().unwrap() + "\n");
+    assert_eq!(failure.script(1), history.script().unwrap());
+    assert!(failure.account(0).contains("in memory") && failure.account(1).contains("worker 2"));
+    common::fits(&failure.account(1));
 }
 
 // What each bound lets go wrong.
@@ -431,10 +571,11 @@ fn what_a_test_keeps_of_a_run_is_let_go() {
 
 type Attaches = fn(&Request) -> Stage;
 
-const PLANS: [(&str, Attaches); 3] = [
+const PLANS: [(&str, Attaches); 4] = [
     ("one stage", |request| request.supply("load", &[]).unwrap()),
     ("two in a row", |request| request.supply("load", &[]).unwrap().then("more").unwrap()),
     ("again", |request| request.supply("load", &[]).unwrap().again(1).unwrap()),
+    ("transactional", |request| request.supply("pay", &[json!(17)]).unwrap()),
 ];
 
 fn faults() -> [(&'static str, Bounds); 6] {
@@ -466,8 +607,9 @@ pub fn stands_once(store: &WorldStore) -> bool {
 
 fn small(world: &World, plan: Attaches, workers: usize, bounds: Bounds) {
     let functions = Functions::new().with("load", 1, || Ok::<_, Failed>(1)).with("more", 1, |one: u32| Ok::<_, Failed>(one + 1));
+    let functions = functions.transactional("pay", 1, pay);
     let store = world.store(bounds);
-    ["load", "more"].iter().for_each(|name| store.pure(name));
+    ["load", "more", "pay"].iter().for_each(|name| store.pure(name));
     let one = store.worker("one", &functions);
     store.process_with("two", &functions, ProcessOptions::new().workers(workers - 1).takes_all());
     plan(&one.request("order").unwrap());
@@ -475,7 +617,7 @@ fn small(world: &World, plan: Attaches, workers: usize, bounds: Bounds) {
     world.at_end("no claim is granted twice", move || is_granted_once(&granted));
     world.at_end("a put stands once or never, and where its process was told", move || stands_once(&stands));
     world.at_end("all stages are settled", move || one.is_dead() && workers == 1 || settles.outcomes().iter().all(|it| !it.ends_with("is open")));
-    world.end_is(move || format!("{:?} {:?}", store.outcomes(), store.granted()));
+    world.end_is(move || format!("{:?} {:?} {:?}", store.outcomes(), store.granted(), store.effects()));
 }
 
 #[test]
@@ -521,6 +663,34 @@ fn functions_in_two_processes_are_tried_in_both_orders() {
     });
     assert_eq!(ends(&report), ["[1, 2]", "[2, 1]"]);
     assert!(report.orders + report.cut < 6, "{report}");
+}
+
+#[test]
+fn each_of_two_workers_may_have_a_claim() {
+    let report = orders(|world| {
+        let store = world.store(Bounds::new());
+        let functions = Functions::new().with("load", 1, || Done::Ok(()));
+        store.pure("load");
+        store.worker("one", &functions).request("order").unwrap().supply("load", &[]).unwrap();
+        store.worker("two", &functions);
+        world.end_is(move || store.granted().into_iter().map(|it| it.0).collect());
+    });
+    assert_eq!(ends(&report), ["one", "two"]);
+}
+
+#[test]
+fn a_stage_is_seen_by_what_a_thread_of_its_process_has_put() {
+    let report = orders(|world| {
+        let (store, seen) = (world.store(Bounds::new()), Shared::<usize>::default());
+        let functions = Functions::new().with("load", 1, || Ok::<_, Failed>(1)).with("more", 1, |one: u32| Ok::<_, Failed>(one + 1));
+        ["load", "more"].iter().for_each(|name| store.pure(name));
+        let one = store.process("one", &functions);
+        let first = one.request("order").unwrap().supply("load", &[]).unwrap();
+        let (stages, sees) = ([first.then("more").unwrap(), first], seen.clone());
+        one.calls("client", move || *sees.get() = stages.iter().filter(|it| is_done(it)).count());
+        world.end_is(move || seen.get().to_string());
+    });
+    assert_eq!(ends(&report), ["0", "1", "2"]);
 }
 
 #[test]

@@ -13,7 +13,7 @@ pub struct Service {
     pub runs: fn(&World, bool),
 }
 
-pub const SERVICES: [Service; 11] = [
+pub const SERVICES: [Service; 12] = [
     Service { name: "charged again", why: "charged at most once", runs: charged_again },
     Service { name: "goes on without its claim", why: "booked at most once", runs: goes_on_without_claim },
     Service { name: "told unanswered", why: "what is told to be approved is", runs: told_unanswered },
@@ -24,6 +24,7 @@ pub const SERVICES: [Service; 11] = [
     Service { name: "own word for another's", why: "nobody else has it", runs: own_word_for_anothers },
     Service { name: "asked by an old view", why: "ordered at one place", runs: asked_by_old_view },
     Service { name: "abandoned and done", why: "charged at most once", runs: abandoned_and_done },
+    Service { name: "done elsewhere", why: "exactly one mail", runs: done_elsewhere },
     Service { name: "told before it came", why: "what is told not to be cancelled isn't", runs: told_before_it_came },
 ];
 
@@ -88,21 +89,23 @@ pub fn charged_again(world: &World, by_key: bool) {
 }
 
 /// A function goes on, though its process was taken for gone, and another has its place.
-fn goes_on_without_claim(world: &World, by_key: bool) {
-    let written = Shared::<Vec<u32>>::default();
-    let (writes, its) = (written.clone(), world.clone());
+fn goes_on_without_claim(world: &World, in_transaction: bool) {
+    let written = Shared::<u32>::default();
+    let (writes, its, there) = (written.clone(), world.clone(), world.clone());
     let book = move || {
         its.point();
-        let mut written = writes.get();
-        if !(by_key && written.contains(&17)) {
-            written.push(17);
-        }
+        *writes.get() += 1;
         Done::Ok(())
     };
-    let functions = Functions::new().with("book slowly", 1, book);
-    let (_, shop) = shop_and_workers(world, &functions, 1, Bounds::new().slow(1));
-    shop.request("trip").unwrap().supply("book slowly", &[]).unwrap().again(1).unwrap();
-    world.check("booked at most once", move || written.get().len() <= 1);
+    let book_there = move |effects: &mut Vec<Value>| {
+        there.point();
+        effects.push(json!("booked"));
+        Done::Ok(())
+    };
+    let functions = Functions::new().with("book", 1, book).transactional("book there", 1, book_there);
+    let (store, shop) = shop_and_workers(world, &functions, 1, Bounds::new().slow(1));
+    shop.request("trip").unwrap().supply(if in_transaction { "book there" } else { "book" }, &[]).unwrap().again(1).unwrap();
+    world.check("booked at most once", move || store.effects().len() <= 1 && *written.get() <= 1);
 }
 
 /// A client tells an outcome whose put wasn't answered.
@@ -272,6 +275,21 @@ fn abandoned_and_done(world: &World, by_hand: bool) {
     let (_, shop) = shop_and_workers(world, &functions, 2, Bounds::new().killed(1));
     shop.request("order 17").unwrap().supply("charge", &[]).unwrap().recover("charge after all").unwrap();
     world.at_end("charged at most once", move || *charges.get() <= 1);
+}
+
+/// A transactional function is called again where its commit never came, and what it did elsewhere stands.
+pub fn done_elsewhere(world: &World, by_connection: bool) {
+    let mails = Shared::<usize>::default();
+    let mailed = mails.clone();
+    let write = move |effects: &mut Vec<Value>| {
+        effects.push(json!("a mail"));
+        *mailed.get() += 1;
+        Done::Ok(())
+    };
+    let functions = Functions::new().transactional("write", 1, write);
+    let (store, shop) = shop_and_workers(world, &functions, 1, Bounds::new().lost(1).unanswered(1));
+    shop.request("order 17").unwrap().supply("write", &[]).unwrap();
+    world.at_end("exactly one mail", move || 1 == if by_connection { store.effects().len() } else { *mails.get() });
 }
 
 /// A put that was given up comes later.

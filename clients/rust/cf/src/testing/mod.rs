@@ -79,6 +79,6 @@ pub use moves::Stored;
 pub use orders::{every_order, orders, Orders};
 pub use report::{Failure, Pair, Report, Told};
 #[doc(hidden)]
-pub use stored::{Seam, Sharing, Then, Waits};
+pub use stored::{Seam, Sharing, StoredHistory, Then, Waits};
 pub(crate) use watch::Watch;
 pub use world::{Awaited, Calls, World};

@@ -1,9 +1,11 @@
 //! What a search found: how many orders it tried, and those that failed, each as a value that can be told and done again.
 use super::moves::{row_of, Move};
-use crate::history::History;
+use super::stored::StoredHistory;
+use crate::history::{page_of, History};
 use std::collections::BTreeMap;
 use std::fmt;
 use std::io;
+use std::sync::Arc;
 use std::time::Duration;
 
 /// What a search found.
@@ -73,14 +75,15 @@ pub struct Failure {
     pub told: Vec<Told>,
     /// The pairs of moves that decide.
     pub pairs: Vec<Pair>,
-    /// The history of each request, in the order in which they were opened.
+    /// The history of each request in memory, in the order in which they were opened. Of requests in a store, `cf-store`'s trait `Histories` gives them.
     pub histories: Vec<History>,
+    pub(crate) stored: Vec<Arc<dyn StoredHistory>>,
     pub(crate) moves: Vec<Move>,
 }
 
 impl Failure {
-    pub(crate) fn new(why: String, moves: Vec<Move>, told: Vec<Told>, histories: Vec<History>) -> Failure {
-        Failure { why, told, pairs: Vec::new(), histories, moves }
+    pub(crate) fn new(why: String, moves: Vec<Move>, told: Vec<Told>, histories: Vec<History>, stored: Vec<Arc<dyn StoredHistory>>) -> Failure {
+        Failure { why, told, pairs: Vec::new(), histories, stored, moves }
     }
 
     /// The order as a text, which [`Orders::row`](super::Orders::row) takes.
@@ -93,13 +96,14 @@ impl Failure {
         self.moves.windows(2).filter(|pair| pair[0].actor() != pair[1].actor()).count()
     }
 
-    /// The account of a request, for `cf_look check`. Requests are counted from 0, in the order in which they were opened.
+    /// The account of a request, for `cf_look check`. Requests are counted from 0, in the order in which they were opened, those in a store behind
+    /// those in memory.
     ///
     /// # Panics
     ///
     /// Where the order has no such request.
     pub fn account(&self, request: usize) -> String {
-        self.histories[request].account()
+        self.histories.get(request).map_or_else(|| self.of_store(request).account(), History::account)
     }
 
     /// The script of a request, for `cf run` and `cf_look dot`.
@@ -108,7 +112,7 @@ impl Failure {
     ///
     /// As [`account`](Failure::account).
     pub fn script(&self, request: usize) -> String {
-        self.histories[request].script()
+        self.histories.get(request).map_or_else(|| self.of_store(request).script(), History::script)
     }
 
     /// The page of a request for a browser, as [`History::page`] makes it.
@@ -121,7 +125,17 @@ impl Failure {
     ///
     /// As [`account`](Failure::account).
     pub fn page(&self, request: usize) -> io::Result<String> {
-        self.histories[request].page()
+        page_of(&self.account(request), "cf_look".as_ref())
+    }
+
+    /// The history of each request in the store, in the order in which they were opened.
+    #[doc(hidden)]
+    pub fn stored(&self) -> &[Arc<dyn StoredHistory>] {
+        &self.stored
+    }
+
+    fn of_store(&self, request: usize) -> &dyn StoredHistory {
+        &*self.stored[request - self.histories.len()]
     }
 }
 

@@ -7,6 +7,7 @@ use super::carrier::{Act, Carriers, Leaves};
 use super::footprint::{Footprint, How, Thing};
 use super::moves::{Move, Place, Stored, Who};
 use super::state::{Check, Claim, Flight, Rings, Settings, State, Until, Wait, Way};
+use super::stored::StoredHistory;
 use super::watch::Here;
 use super::world::World;
 use crate::core::Core;
@@ -25,6 +26,16 @@ pub(crate) type Test = Arc<dyn Fn(&World) -> Vec<super::state::Open> + Send + Sy
 
 /// The order ends here: it fails, or is to be begun again with threads, as the state says.
 pub(crate) struct Stopped;
+
+/// What is left of a run that has ended.
+pub(crate) struct Left {
+    /// In the order in which they were opened.
+    pub(crate) requests: Vec<Arc<Core>>,
+    /// The words of a store's requests.
+    pub(crate) words: Vec<Vec<u64>>,
+    /// The histories of a store's requests, if the run has failed.
+    pub(crate) stored: Vec<Arc<dyn StoredHistory>>,
+}
 
 /// How many workers histories tell apart.
 const NUMBERS: usize = 60;
@@ -479,13 +490,14 @@ impl Run {
         here.during(|| catch_unwind(AssertUnwindSafe(end))).ok()
     }
 
-    /// Ends code that waits, and lets go of all that is left. The requests, in the order in which they were opened, and the words of a store's.
-    pub(crate) fn close(&self, carriers: &mut Carriers) -> (Vec<Arc<Core>>, Vec<Vec<u64>>) {
+    /// Ends code that waits, and lets go of all but what is told of the run.
+    pub(crate) fn close(&self, carriers: &mut Carriers) -> Left {
         let state = self.lock();
         let waiting: Vec<_> = state.flights.iter().map(|it| &it.1).chain(&state.dead).filter_map(|it| it.carrier.clone()).collect();
-        let sharing = state.sharing.clone();
+        let (sharing, has_failed) = (state.sharing.clone(), !state.why.is_empty());
         drop(state);
-        let words = sharing.map_or(Vec::new(), |sharing| sharing.words());
+        let words = sharing.as_ref().map_or(Vec::new(), |sharing| sharing.words());
+        let stored = sharing.filter(|_| has_failed).map_or(Vec::new(), |sharing| sharing.histories());
         for carrier in waiting {
             if carrier.end() {
                 carriers.give(carrier);
@@ -505,7 +517,7 @@ impl Run {
         if let Some(sharing) = sharing {
             quietly(|| sharing.close());
         }
-        (requests.into_iter().map(|request| request.core).collect(), words)
+        Left { requests: requests.into_iter().map(|request| request.core).collect(), words, stored }
     }
 
     // In words.

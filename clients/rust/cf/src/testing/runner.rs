@@ -3,10 +3,9 @@ use super::carrier::Carriers;
 use super::footprint::{Footprint, Thing};
 use super::moves::{row_of, Move};
 use super::report::{Failure, Told};
-use super::run::{histories, Run, Stopped, Test};
+use super::run::{histories, Left, Run, Stopped, Test};
 use super::state::Settings;
 use super::watch::Here;
-use crate::core::Core;
 use crate::spawn::quietly;
 use std::collections::{BTreeSet, VecDeque};
 use std::panic::{catch_unwind, resume_unwind, AssertUnwindSafe};
@@ -40,26 +39,24 @@ pub(crate) struct Ran {
     pub(crate) weight: u128,
     /// Whether there are checks.
     pub(crate) is_checked: bool,
-    requests: Vec<Arc<Core>>,
-    /// The words of a store's requests.
-    stored: Vec<Vec<u64>>,
+    left: Left,
 }
 
 impl Ran {
     /// A run that failed and was told, as a value.
     pub(crate) fn failure(&self) -> Failure {
-        Failure::new(self.why.clone(), self.row.clone(), self.told.clone(), histories(&self.requests))
+        Failure::new(self.why.clone(), self.row.clone(), self.told.clone(), histories(&self.left.requests), self.left.stored.clone())
     }
 
     fn words(&self) -> Vec<Vec<u64>> {
-        self.requests.iter().map(|core| core.lock().ledger.words()).chain(self.stored.iter().cloned()).collect()
+        self.left.requests.iter().map(|core| core.lock().ledger.words()).chain(self.left.words.iter().cloned()).collect()
     }
 }
 
 impl Drop for Ran {
     /// A function that was never called may have its own request, so all that is left is cancelled.
     fn drop(&mut self) {
-        for core in self.requests.drain(..) {
+        for core in self.left.requests.drain(..) {
             quietly(|| core.cancel_all(crate::spawn::CALLER));
             quietly(|| drop(core));
         }
@@ -95,12 +92,12 @@ impl Runner {
             }))
         });
         let is_checked = !run.lock().checks.is_empty();
-        let (requests, stored) = run.close(&mut self.carriers);
+        let left = run.close(&mut self.carriers);
         let state = run.lock();
         let (why, weight, needs_threads) = (state.why.clone(), state.weight, state.needs_threads);
         drop(state);
         let (ended, panicked) = ended.map_or_else(|payload| ((How::Failed, None), Some(payload)), |ended| (ended, None));
-        let ran = Ran { how: ended.0, row, why, told, end: ended.1, weight, is_checked, requests, stored };
+        let ran = Ran { how: ended.0, row, why, told, end: ended.1, weight, is_checked, left };
         if let Some(payload) = panicked {
             resume_unwind(payload);
         }

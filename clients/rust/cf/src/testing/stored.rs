@@ -7,6 +7,7 @@ use super::run::{Run, Stopped};
 use super::state::{Flight, Until, Wait};
 use super::watch::Here;
 use super::world::World;
+use std::any::Any;
 use std::fmt;
 use std::sync::Arc;
 
@@ -27,8 +28,23 @@ pub trait Sharing: Send + Sync {
     /// The words of all rows.
     fn words(&self) -> Vec<Vec<u64>>;
 
+    /// The history of each row, in the order in which they were opened.
+    fn histories(&self) -> Vec<Arc<dyn StoredHistory>>;
+
     /// Lets go of what processes have.
     fn close(&self);
+}
+
+/// What happened to a request in a store, for a [`Failure`](super::Failure).
+pub trait StoredHistory: Send + Sync + fmt::Debug {
+    /// What `cf_look check` judges, a line.
+    fn account(&self) -> String;
+
+    /// What `cf run` does again.
+    fn script(&self) -> String;
+
+    /// The history as the crate `cf-store` has it.
+    fn as_any(&self) -> &dyn Any;
 }
 
 /// What a thread is to do in a move.

@@ -1,37 +1,12 @@
-//! Random programs of user code, which `cf::testing` has to bring to the same ends with and without what it leaves out.
-//!
-//! `CF_PROGRAMS` says which, as `FIRST COUNT MOST`: the seeds from FIRST on, of which those with over MOST orders are left out. `CF_ENDS` names a file
-//! for each that differs, and last what was compared.
+//! Random programs of user code.
+use crate::random::{come_to_the_same_ends, Dice, Mark, Program};
 use crate::services::Shared;
-use cf::testing::{Orders, Report, World};
+use cf::testing::World;
 use cf::{AnyStage, Request, Stage};
-use std::collections::BTreeSet;
-use std::panic::catch_unwind;
 use std::time::Duration;
 
 /// Variables.
 const SHARED: usize = 3;
-
-/// Numbers by a seed (SplitMix64).
-struct Dice(u64);
-
-impl Dice {
-    fn below(&mut self, most: usize) -> usize {
-        self.0 = self.0.wrapping_add(0x9e37_79b9_7f4a_7c15);
-        let mut mixed = self.0;
-        mixed = (mixed ^ mixed >> 30).wrapping_mul(0xbf58_476d_1ce4_e5b9);
-        mixed = (mixed ^ mixed >> 27).wrapping_mul(0x94d0_49bb_1331_11eb);
-        ((mixed ^ mixed >> 31) % most as u64) as usize
-    }
-
-    fn one_of<T: Copy>(&mut self, of: &[T]) -> T {
-        of[self.below(of.len())]
-    }
-
-    fn many<T>(&mut self, from: usize, to: usize, mut make: impl FnMut(&mut Dice) -> T) -> Vec<T> {
-        (0..from + self.below(to - from)).map(|_| make(self)).collect()
-    }
-}
 
 #[derive(Clone, Copy, Debug)]
 enum Does {
@@ -65,13 +40,6 @@ enum Kind {
     Compose,
 }
 
-#[derive(Clone, Copy, Debug, PartialEq)]
-enum Mark {
-    None,
-    Pure,
-    Touches,
-}
-
 #[derive(Clone, Debug)]
 struct Said {
     kind: Kind,
@@ -82,9 +50,8 @@ struct Said {
     comes: usize,
 }
 
-/// A program by a seed: what its functions do is drawn once, so that each run does the same.
 #[derive(Clone, Debug)]
-struct Program {
+struct OfRequests {
     requests: usize,
     stages: Vec<Said>,
     callers: Vec<Vec<Act>>,
@@ -92,16 +59,44 @@ struct Program {
     check: Option<(usize, i32, usize)>,
 }
 
-impl Program {
-    fn of(seed: u64) -> Program {
-        let mut dice = Dice(seed);
+impl Program for OfRequests {
+    const WHERE: &'static str = "";
+
+    fn of(dice: &mut Dice) -> OfRequests {
         let requests = dice.one_of(&[1, 1, 2]);
-        let stages: Vec<Said> = (0..2 + dice.below(3)).map(|at| Said::of(&mut dice, at)).collect();
+        let stages: Vec<Said> = (0..2 + dice.below(3)).map(|at| Said::of(dice, at)).collect();
         let count = stages.len();
-        let callers = dice.many(0, 3, |dice| dice.many(1, 3, |dice| Act::of(dice, count)));
+        let callers = many(dice, 0, |dice| many(dice, 1, |dice| Act::of(dice, count)));
         let limits = (0..dice.one_of(&[0, 0, 1, 2])).map(|_| (dice.below(count), 1 + dice.below(3) as u64)).collect();
         let check = (dice.below(10) < 3).then(|| (dice.below(SHARED), 1 + dice.below(3) as i32, dice.below(count)));
-        Program { requests, stages, callers, limits, check }
+        OfRequests { requests, stages, callers, limits, check }
+    }
+
+    fn run(&self, world: &World) {
+        let made = Made { shared: Shared::new([0; SHARED]), log: Shared::new(Vec::new()), stages: Shared::new(Vec::new()) };
+        let requests: Vec<Request> = (0..self.requests).map(|number| world.request(&format!("request {number}"))).collect();
+        for (at, said) in self.stages.iter().enumerate() {
+            let stage = made.make(world, &requests[at % requests.len()], said);
+            made.stages.get().push(stage);
+        }
+        for (number, seconds) in &self.limits {
+            drop(made.stage(*number).or_timeout(Duration::from_secs(*seconds)));
+        }
+        for (number, acts) in self.callers.iter().enumerate() {
+            let call = |act: Act| {
+                let made = made.clone();
+                move || made.act(act, false)
+            };
+            let mut calls = world.calls(&format!("caller {number}"), call(acts[0]));
+            for act in &acts[1..] {
+                calls = calls.and_then(call(*act));
+            }
+        }
+        if let Some((variable, most, number)) = self.check {
+            let (shared, stage) = (made.shared.clone(), made.stage(number));
+            world.check("checked", move || shared.get()[variable] < most || !stage.is_settled());
+        }
+        world.end_is(move || made.end());
     }
 }
 
@@ -111,8 +106,8 @@ impl Said {
         let behind = [Kind::Then, Kind::Handle, Kind::Recover, Kind::Combine, Kind::Either, Kind::AllOf, Kind::Compose];
         let kinds = if at > 0 { [&first[..], &behind].concat() } else { first.to_vec() };
         let of = if at > 0 { [dice.below(at), dice.below(at)] } else { [0, 0] };
-        let acts = dice.many(0, 3, |dice| Act::of(dice, at));
-        Said { kind: dice.one_of(&kinds), of, acts, mark: dice.one_of(&[Mark::None, Mark::None, Mark::Pure, Mark::Touches]), comes: dice.below(3) }
+        let acts = many(dice, 0, |dice| Act::of(dice, at));
+        Said { kind: dice.one_of(&kinds), of, acts, mark: dice.mark(), comes: dice.below(3) }
     }
 }
 
@@ -123,6 +118,11 @@ impl Act {
         let kinds = if count > 0 { [&own[..], &others].concat() } else { own.to_vec() };
         Act(dice.one_of(&kinds), dice.below(SHARED), dice.below(4) as i32, dice.below(count.max(1)))
     }
+}
+
+/// So many or more, up to two.
+fn many<T>(dice: &mut Dice, least: usize, mut make: impl FnMut(&mut Dice) -> T) -> Vec<T> {
+    (0..least + dice.below(3 - least)).map(|_| make(dice)).collect()
 }
 
 /// One run of a program.
@@ -246,78 +246,7 @@ impl Made {
     }
 }
 
-fn run(program: &Program, world: &World) {
-    let made = Made { shared: Shared::new([0; SHARED]), log: Shared::new(Vec::new()), stages: Shared::new(Vec::new()) };
-    let requests: Vec<Request> = (0..program.requests).map(|number| world.request(&format!("request {number}"))).collect();
-    for (at, said) in program.stages.iter().enumerate() {
-        let stage = made.make(world, &requests[at % requests.len()], said);
-        made.stages.get().push(stage);
-    }
-    for (number, seconds) in &program.limits {
-        drop(made.stage(*number).or_timeout(Duration::from_secs(*seconds)));
-    }
-    for (number, acts) in program.callers.iter().enumerate() {
-        let call = |act: Act| {
-            let made = made.clone();
-            move || made.act(act, false)
-        };
-        let mut calls = world.calls(&format!("caller {number}"), call(acts[0]));
-        for act in &acts[1..] {
-            calls = calls.and_then(call(*act));
-        }
-    }
-    if let Some((variable, most, number)) = program.check {
-        let (shared, stage) = (made.shared.clone(), made.stage(number));
-        world.check("checked", move || shared.get()[variable] < most || !stage.is_settled());
-    }
-    world.end_is(move || made.end());
-}
-
-/// The ends, and why orders fail.
-fn both(report: &Report) -> (BTreeSet<&str>, BTreeSet<&str>) {
-    (report.ends.keys().map(String::as_str).collect(), report.failed.iter().map(|failure| failure.why.as_str()).collect())
-}
-
-/// What a program comes to with and without what is left out, if it isn't too large: how many orders there are, how many runs were enough, and
-/// what differs.
-fn compared(seed: u64, most: u64) -> Option<(u64, u64, Option<String>)> {
-    let program = Program::of(seed);
-    let orders = Orders::new().failures(usize::MAX).as_found().time(Duration::from_secs(60));
-    let (plainly, reduced) = (program.clone(), program.clone());
-    let plain = orders.clone().all().most(most).run(move |world| run(&plainly, world));
-    if !plain.whole {
-        return None;
-    }
-    let reduced = orders.most(2 * most + 1_000).run(move |world| run(&reduced, world));
-    let is_same = reduced.whole && both(&plain) == both(&reduced);
-    let differs = || format!("program {seed}: {:?}, and with what is left out {:?}: {program:?}", both(&plain), both(&reduced));
-    Some((plain.orders, reduced.orders + reduced.cut, (!is_same).then(differs)))
-}
-
 #[test]
 fn random_programs_come_to_the_same_ends() {
-    let said = std::env::var("CF_PROGRAMS").unwrap_or_else(|_| "0 60 200".into());
-    let numbers: Vec<u64> = said.split_whitespace().map(|word| word.parse().unwrap()).collect();
-    let (first, count, most) = (numbers[0], numbers[1], numbers[2]);
-    let (mut programs, mut all, mut tried, mut otherwise) = (0, 0, 0, Vec::new());
-    for seed in first..first + count {
-        match catch_unwind(|| compared(seed, most)) {
-            Ok(Some((orders, runs, differs))) => {
-                (programs, all, tried) = (programs + 1, all + orders, tried + runs);
-                otherwise.extend(differs);
-            }
-            Ok(None) => {}
-            Err(payload) => otherwise.push(format!("program {seed} panics: {:?}", payload.downcast_ref::<String>())),
-        }
-    }
-    let told = format!(
-        "{programs} programs of {all} orders have the same ends in {tried} runs; {} were too large; {} otherwise",
-        count - programs,
-        otherwise.len()
-    );
-    let lines = [&otherwise[..], &[told]].concat().join("\n");
-    if let Some(path) = std::env::var_os("CF_ENDS") {
-        std::fs::write(path, &lines).unwrap();
-    }
-    assert!(otherwise.is_empty() && programs > count / 4, "{lines}");
+    come_to_the_same_ends::<OfRequests>("0 60 200");
 }

@@ -1,6 +1,7 @@
 //! What does `cf::testing` find, what does it tell, and what does it leave out?
 mod layer;
 mod made;
+mod random;
 mod services;
 
 use cf::testing::{every_order, Orders, Report, World};
