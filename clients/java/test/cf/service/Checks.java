@@ -1,9 +1,11 @@
 package cf.service;
 
+import java.io.IOException;
 import java.lang.management.LockInfo;
 import java.lang.management.ManagementFactory;
 import java.lang.management.ThreadInfo;
 import java.lang.reflect.Proxy;
+import java.nio.charset.StandardCharsets;
 import java.nio.file.Files;
 import java.nio.file.Path;
 import java.nio.file.Paths;
@@ -15,7 +17,7 @@ import java.util.concurrent.CountDownLatch;
 import java.util.concurrent.TimeUnit;
 
 /** What tests check by, and odd stages and functions that several tests use: they refuse, break, or stand for another future. */
-final class Checks {
+public final class Checks {
     /** Its executor is the common pool. */
     static final Service SERVICE = new Service();
     /** Its executor calls each function at once, in the thread that hands it over. */
@@ -27,9 +29,32 @@ final class Checks {
         void run() throws Exception;
     }
 
-    static void is(Object found, Object wanted) {
+    public static void is(Object found, Object wanted) {
         if (!Objects.equals(found, wanted)) {
             throw new AssertionError(found + " and not " + wanted);
+        }
+    }
+
+    public static void has(String text, String part) {
+        if (!text.contains(part)) {
+            throw new AssertionError(text + " hasn't " + part);
+        }
+    }
+
+    /** {@code cf_look check} says that an account fits, where that program is. */
+    public static void fits(String account) throws IOException, InterruptedException {
+        String program = System.getProperty("cf.look", "");
+        if (program.isEmpty() || !Files.isExecutable(Paths.get(program))) {
+            return;
+        }
+        Path input = Files.createTempFile("cf", ".json"), said = Files.createTempFile("cf", ".said");
+        try {
+            Files.write(input, account.getBytes(StandardCharsets.UTF_8));
+            int status = new ProcessBuilder(program, "check").redirectInput(input.toFile()).redirectOutput(said.toFile()).start().waitFor();
+            is(status + " " + new String(Files.readAllBytes(said), StandardCharsets.UTF_8).split("\n")[0], "0 fits");
+        } finally {
+            Files.delete(input);
+            Files.delete(said);
         }
     }
 

@@ -1,6 +1,7 @@
 package cf.service.testing;
 
 import cf.service.Store;
+import cf.service.StoreException;
 import cf.service.testing.Footprint.How;
 import cf.service.watch.Reader;
 import cf.service.watch.Watched;
@@ -15,13 +16,19 @@ import java.util.function.BiConsumer;
 final class Rows {
     /** Which requests there are. */
     static final String ROWS = "rows";
+    /** What transactional functions have done. */
+    static final String EFFECTS = "effects";
 
     final Memory memory = new Memory();
     /** Of requests, in the order in which they were opened. */
     final List<String> names = new ArrayList<>();
     /** With the number of each, by its stage. */
     final Map<String, Due> timers = new LinkedHashMap<>();
+    /** What transactional functions have done, and what stands. */
+    final List<Effect> effects = new ArrayList<>();
     private final Map<String, Reader> readers = new LinkedHashMap<>();
+    /** The open transactions that have a place of a request's row. */
+    private final Map<String, ProcessTransaction> held = new LinkedHashMap<>();
     private final BiConsumer<Object, How> touch;
     /** Is told what a put settles, in words; null where nobody asks. */
     private Consumer<String> tells;
@@ -73,9 +80,14 @@ final class Rows {
         return opened;
     }
 
+    private static String place(String name) {
+        return "place of " + name;
+    }
+
     List<Store.Entry> append(Store.Put put) {
         List<Store.Entry> stands = memory.append(put);
         touch.accept(row(put.request()), stands == null ? How.CHANGES : How.READS);
+        touch.accept(place(put.request()), How.READS);
         if (stands != null) {
             tell("another's word stands there");
             return stands;
@@ -87,6 +99,49 @@ final class Rows {
             }
         }
         return null;
+    }
+
+    // Transactions.
+
+    /** Whether an open transaction has a place of a request's row. */
+    boolean isHeld(String name) {
+        return held.containsKey(name);
+    }
+
+    /** Takes a put's place for a transaction, if it is free. */
+    boolean takes(ProcessTransaction transaction, Store.Put put) {
+        if (!read(put.request(), put.number(), put.at()).isEmpty()) {
+            return false;
+        }
+        transaction.put = put;
+        touch.accept(place(put.request()), How.CHANGES);
+        held.put(put.request(), transaction);
+        return true;
+    }
+
+    /** Lets all of a transaction stand, and ends it. {@code Unknown} where others have put to its row otherwise: then nothing stands. */
+    void commit(ProcessTransaction transaction) {
+        boolean stands = append(transaction.put) == null;
+        if (stands) {
+            touch.accept(EFFECTS, How.CHANGES);
+            effects.addAll(transaction.effects);
+        }
+        frees(transaction);
+        if (!stands) {
+            throw new StoreException.Unknown("its place was taken", null);
+        }
+    }
+
+    /** It has ended. */
+    void frees(ProcessTransaction transaction) {
+        if (transaction.put != null && held.remove(transaction.put.request(), transaction)) {
+            touch.accept(place(transaction.put.request()), How.CHANGES);
+        }
+    }
+
+    /** Undoes the transactions of a process, but for commits that are on their way. */
+    void freesAllOf(StoreProcess process) {
+        new ArrayList<>(held.values()).stream().filter(it -> it.process == process && !it.isOnItsWay).forEach(this::frees);
     }
 
     private void tell(String text) {

@@ -7,21 +7,20 @@ import cf.service.StoredStage;
 import cf.service.testing.Answer.Bound;
 import java.util.ArrayList;
 import java.util.Arrays;
-import java.util.HashSet;
 import java.util.List;
 import java.util.Random;
-import java.util.Set;
 import java.util.concurrent.CancellationException;
 import java.util.concurrent.ExecutionException;
 import java.util.concurrent.TimeUnit;
 import java.util.concurrent.TimeoutException;
+import java.util.function.Supplier;
 
 /**
  * Random programs over a store, which the kit has to bring to the same ends with and without what it leaves out. In each of their orders no claim
  * may be granted twice, and each put stands as its process was told.
  */
 public final class StoredPrograms {
-    private static final int SHARED = 2, SECONDS = 60;
+    private static final int SHARED = 2;
 
     private final Random random;
     private final int workers;
@@ -66,6 +65,10 @@ public final class StoredPrograms {
     @SafeVarargs
     private final <T> T one(T... of) {
         return of[random.nextInt(of.length)];
+    }
+
+    private Supplier<String> begin(World world) {
+        return new Now(world)::end;
     }
 
     /** One run of it. */
@@ -169,45 +172,8 @@ public final class StoredPrograms {
         }
     }
 
-    private static Report report(StoredPrograms program, boolean isReduced, int most) {
-        Now[] now = new Now[1];
-        Orders orders = Orders.of(world -> now[0] = program.new Now(world)).asFound().seconds(SECONDS).most(most).ends(world -> now[0].end());
-        return (isReduced ? orders : orders.unreduced()).run();
-    }
-
-    private static Set<String> whys(Report report) {
-        Set<String> whys = new HashSet<>();
-        report.failed().forEach(failure -> whys.add(failure.why()));
-        return whys;
-    }
-
-    /** Compares the programs of so many seeds from the first one on, of at most so many orders: FIRST COUNT MOST. */
+    /** FIRST COUNT MOST, as of {@link Compared#main}. */
     public static void main(String[] args) {
-        int first = Integer.parseInt(args[0]), count = Integer.parseInt(args[1]), most = Integer.parseInt(args[2]);
-        long plainOrders = 0, tried = 0;
-        int programs = 0, tooLarge = 0, wrong = 0;
-        for (int seed = first; seed < first + count; seed++) {
-            StoredPrograms program = new StoredPrograms(seed);
-            Report plain = report(program, false, most);
-            if (!plain.whole() && plain.failed().isEmpty()) {
-                tooLarge++;
-                continue;
-            }
-            Report reduced = report(program, true, Integer.MAX_VALUE);
-            programs++;
-            plainOrders += plain.orders();
-            tried += reduced.orders() + reduced.cut();
-            boolean isAlike = whys(plain).equals(whys(reduced)) && (!plain.failed().isEmpty() || plain.ends().keySet().equals(reduced.ends().keySet()));
-            if (!isAlike || reduced.failed().isEmpty() && !reduced.whole()) {
-                wrong++;
-                Set<Object> missed = new HashSet<>(plain.ends().keySet());
-                missed.removeAll(reduced.ends().keySet());
-                System.out.println("program " + seed + " over a store: " + plain.ends().size() + " ends and " + whys(plain) + ", and with orders left out "
-                        + reduced.ends().size() + " and " + whys(reduced) + (reduced.whole() ? "" : ", not whole") + "; missed " + missed);
-            }
-        }
-        System.out.println(programs + " programs over a store of " + plainOrders + " orders have the same ends in " + tried + " runs; " + tooLarge
-                + " were too large; " + wrong + " otherwise");
-        System.exit(wrong == 0 ? 0 : 1);
+        Compared.main("programs over a store", true, args, seed -> new StoredPrograms(seed)::begin);
     }
 }
