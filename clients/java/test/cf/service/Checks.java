@@ -10,7 +10,10 @@ import java.nio.file.Files;
 import java.nio.file.Path;
 import java.nio.file.Paths;
 import java.util.Arrays;
+import java.util.HashSet;
+import java.util.List;
 import java.util.Objects;
+import java.util.Set;
 import java.util.concurrent.CompletableFuture;
 import java.util.concurrent.CompletionStage;
 import java.util.concurrent.CountDownLatch;
@@ -39,6 +42,19 @@ public final class Checks {
         if (!text.contains(part)) {
             throw new AssertionError(text + " hasn't " + part);
         }
+    }
+
+    /** The stages of a row that a finish with a value has settled, since no word has settled them before. */
+    public static Set<Integer> finished(List<Store.Entry> row) {
+        Set<Integer> settled = new HashSet<>(), finished = new HashSet<>();
+        for (Store.Entry entry : row) {
+            int kind = Words.kind(entry.word);
+            if (kind != Words.ATTACH && kind != Words.CLAIM && !Words.linking(entry.word) && settled.add(Words.stage(entry.word))
+                    && kind == Words.FINISH && !Words.throwing(entry.word)) {
+                finished.add(Words.stage(entry.word));
+            }
+        }
+        return finished;
     }
 
     /** {@code cf_look check} says that an account fits, where that program is. */

@@ -68,6 +68,11 @@ final class Rows {
         return "row " + name;
     }
 
+    /** Who may put next to a request's row. */
+    static String place(String name) {
+        return "place of " + name;
+    }
+
     Store.Opened open(String name, String plan) {
         boolean isNew = memory.find(name) == null;
         touch.accept(ROWS, isNew ? How.CHANGES : How.READS);
@@ -78,10 +83,6 @@ final class Rows {
             names.add(name);
         }
         return opened;
-    }
-
-    private static String place(String name) {
-        return "place of " + name;
     }
 
     List<Store.Entry> append(Store.Put put) {

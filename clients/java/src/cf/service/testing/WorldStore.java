@@ -300,12 +300,15 @@ public final class WorldStore {
             return act.get();
         }
         flight.isFresh = false;
-        Answer chosen = (Answer) run.waitFor(Flight.Wait.asks(text, ways, () -> waitsForPlace(coming) ? Collections.emptyList() : possible(ways)), -1);
+        Answer chosen = (Answer) run.waitFor(Flight.Wait.asks(text, ways, () -> possible(ways)), -1);
         for (Bound cost : chosen.costs) {
             touch(FAULTS, How.CHANGES);
             bounds[cost.ordinal()]--;
         }
         try {
+            if (chosen.stands && coming != null && coming.commits == null) {
+                awaitPlace(coming.put.request());
+            }
             if (chosen == Answer.ANSWERED) {
                 return act.get();
             }
@@ -329,17 +332,20 @@ public final class WorldStore {
         }
     }
 
-    /** Whether a transaction has the place of a put that isn't its own. */
-    private boolean waitsForPlace(Coming coming) {
-        return coming != null && coming.commits == null && rows.isHeld(coming.put.request());
+    /**
+     * Waits until no other transaction has a place of a request's row. The wait begins within the move that asks for it: so that move races with the
+     * one that took the place, which is no longer possible once that is given back.
+     */
+    private void awaitPlace(String request) {
+        touch(Rows.place(request), How.READS);
+        while (rows.isHeld(request)) {
+            run.waitFor(new Flight.Wait("its place in " + request, Rows.place(request), () -> !rows.isHeld(request), null), -1);
+        }
     }
 
     /** Takes a put's place for a transaction, if it is free, once no other one has it. That is no move of its own, unless it waits. */
     boolean takes(ProcessTransaction transaction, Store.Put put) {
-        Coming taken = new Coming(put, null);
-        if (waitsForPlace(taken)) {
-            ask(transaction.process, Answer.OF_CALLS, "waits for its place in " + put.request(), taken, () -> null);
-        }
+        awaitPlace(put.request());
         return rows.takes(transaction, put);
     }
 
@@ -471,7 +477,8 @@ public final class WorldStore {
     }
 
     private boolean mayLand(int number, Coming coming) {
-        return !landed.contains(number) && !waitsForPlace(coming) && rows.reader(coming.put.request()).seen() == coming.put.at();
+        String request = coming.put.request();
+        return !landed.contains(number) && (coming.commits != null || !rows.isHeld(request)) && rows.reader(request).seen() == coming.put.at();
     }
 
     private List<Flight> flights(StoreProcess process) {

@@ -389,17 +389,21 @@ public final class StoredOrdersTest {
         }, made -> ((WorldStore) made[0]).outcomes() + " " + ((WorldStore) made[0]).effects()), set("[order: write ends: IllegalStateException: x] []"));
     }
 
-    /** A commit that is on its way keeps its place, so whoever puts there waits for it. */
+    /** A commit that is on its way keeps its place, so whoever puts there waits for it, also where its process is killed meanwhile. */
     public static void lateCommits() {
-        Failure failure = enough(world -> {
+        List<Failure> failed = enough(world -> {
             Functions functions = new Functions().transactional("write", 1, (connection, args) -> write(connection, 17));
             WorldStore store = world.store().late(1).killed(1);
             store.worker("one", functions).request("order").supply("write");
             store.worker("two", functions);
-            world.check(() -> !(store.hasLanded() && store.processes.get(0).isDead && store.effects().size() == 1), "nothing of the dead comes");
-        }).run().failed().get(0);
-        is(texts(failure).get(failure.told().size() - 1), "the commit that was on its way comes: puts to order: write is finished");
-        is(texts(failure).contains("one commits, and puts to order: write is finished; it is on its way, and no answer comes"), true);
+            world.atEnd(() -> store.effects().size() == 1 || !store.isSettled("order", "write") || store.outcome("order", "write") instanceof Throwable,
+                    "its effect stands where its finish does");
+            world.atEnd(() -> !(store.hasLanded() && store.processes.get(0).isDead && store.effects().size() == 1), "nothing of the dead comes");
+        }).asFound().failures(MOST).run().failed();
+        String late = "the commit that was on its way comes: puts to order: write is finished";
+        is(failed.stream().map(StoredOrdersTest::texts).anyMatch(told -> told.contains("one is killed") && told.indexOf("one is killed") < told.indexOf(late)
+                && told.contains("two takes one for gone")), true);
+        is(failed.stream().allMatch(failure -> failure.why().equals("nothing of the dead comes")), true);
     }
 
     /** While a transaction has its place, others wait with their puts to its request. */
@@ -421,6 +425,16 @@ public final class StoredOrdersTest {
                     "nobody puts between the call and the commit");
             world.atEnd(() -> store.effects().size() == 1, "it is written once");
         });
+        is(ends(world -> {
+            Functions functions = new Functions().transactional(WRITE, 1, (connection, args) -> StoredChecks.write(connection, WRITE));
+            WorldStore store = world.store().pure(WRITE);
+            store.worker("one", functions);
+            StoreProcess shop = store.process("shop", functions).workers(0);
+            StoredStage stage = shop.request("order").supply(WRITE);
+            shop.calls("client", stage::cancel);
+            return new Object[] {store};
+        }, made -> ((WorldStore) made[0]).outcomes() + " " + ((WorldStore) made[0]).effects()), set("[order: write by connection ends: 1] [write by connection]",
+                "[order: write by connection is cancelled] []"));
     }
 
     /** What the connection of a world does, which has no database. */
@@ -475,27 +489,28 @@ public final class StoredOrdersTest {
         void of(StoredRequest request);
     }
 
+    private static final String WRITE = "write" + StoredChecks.WRITES;
     private static final Map<String, Plan> PLANS = new HashMap<>();
 
     static {
         PLANS.put("one stage", request -> request.supply("load"));
         PLANS.put("two in a row", request -> request.supply("load").then("next"));
         PLANS.put("again", request -> request.supply("load").again(1));
-        PLANS.put("transactional", request -> request.supply("write"));
+        PLANS.put("transactional", request -> request.supply(WRITE));
     }
 
     /** A small plan that a worker or two run. */
     private static WorldStore small(World world, String plan, int workers, Bound fault) {
         Functions functions = new Functions().with("load", 1, () -> 1).with("next", 1, number -> 1)
-                .transactional("write", 1, (connection, args) -> write(connection, 1));
-        WorldStore store = world.store().pure("load").pure("next").pure("write");
+                .transactional(WRITE, 1, (connection, args) -> StoredChecks.write(connection, WRITE));
+        WorldStore store = world.store().pure("load").pure("next").pure(WRITE);
         StoredChecks.with(store, fault);
         StoreProcess one = store.worker("one", functions);
         store.worker("two", functions).workers(workers - 1);
         PLANS.get(plan).of(one.request("order"));
         world.atEnd(() -> StoredChecks.grantedOnce(store), "no claim is granted twice");
         world.atEnd(() -> StoredChecks.standsOnce(store), "a put stands once or never, and where its process was told");
-        world.atEnd(() -> store.effects().size() == (Long.valueOf(1).equals(store.outcome("order", "write")) ? 1 : 0), "its effect stands where its finish does");
+        world.atEnd(() -> StoredChecks.effectsStand(store), "effects stand where their finishes do");
         world.atEnd(() -> one.isDead && workers == 1 || store.rows.reader("order").isDone(sessions(store)), "all stages are settled");
         return store;
     }

@@ -51,7 +51,8 @@ public final class StoredPrograms {
             acts.add(new Act(one("set", "add", "copy", "throw", "none"), random.nextInt(SHARED), one("", "", "pure", "touches")));
         }
         for (int k = one(1, 1, 2), n = 0; n < k; n++) {
-            String kind = n == 0 ? one("supply", "supply", "promise") : one("supply", "promise", "then", "handle", "again", "combine", "recover");
+            String kind = n == 0 ? one("supply", "supply", "write", "promise")
+                    : one("supply", "promise", "then", "handle", "again", "combine", "recover", "compose", "write", "write then");
             stages.add(new Object[] {kind, random.nextInt(2), random.nextInt(Math.max(n, 1))});
         }
         for (int k = one(0, 1, 1); k > 0; k--) {
@@ -74,7 +75,8 @@ public final class StoredPrograms {
     /** One run of it. */
     private final class Now {
         private final int[] shared = new int[SHARED];
-        private final List<Object> log = new ArrayList<>();
+        /** What clients were told; what functions have done that touch nothing else. */
+        private final List<Object> log = new ArrayList<>(), marked = new ArrayList<>();
         private final List<StoredStage> made = new ArrayList<>();
         private final WorldStore store;
         private final StoreProcess shop;
@@ -85,12 +87,21 @@ public final class StoredPrograms {
             for (int k = 0; k < acts.size(); k++) {
                 Act act = acts.get(k);
                 String name = "f" + k;
+                String composes = name + " of a request", writes = name + StoredChecks.WRITES;
                 functions.with(name, 1, () -> called(act, 0)).with(name + " of one", 1, a -> called(act, 1)).with(name + " of two", 1, (a, b) -> called(act, 2));
-                for (String each : Arrays.asList(name, name + " of one", name + " of two")) {
+                functions.composing(composes, 1, (request, a) -> {
+                    called(act, 1);
+                    return request.supply(name);
+                });
+                functions.transactional(writes, 1, (connection, args) -> {
+                    StoredChecks.write(connection, writes);
+                    return called(act, args.size());
+                });
+                for (String each : Arrays.asList(name, name + " of one", name + " of two", composes, writes)) {
                     if (act.mark.equals("pure")) {
                         store.pure(each);
                     } else if (act.mark.equals("touches")) {
-                        store.touches(each, "log");
+                        store.touches(each, "marked");
                     }
                 }
             }
@@ -111,6 +122,7 @@ public final class StoredPrograms {
                 world.check(() -> shared[check] < 2 || !made.get(0).isDone(), "checked");
             }
             world.atEnd(() -> StoredChecks.grantedOnce(store) && StoredChecks.standsOnce(store), "no claim twice, no word twice, each as it was told");
+            world.atEnd(() -> StoredChecks.effectsStand(store), "effects stand where their finishes do");
         }
 
         private Object called(Act act, int given) {
@@ -118,7 +130,7 @@ public final class StoredPrograms {
                 return given;
             }
             if (act.mark.equals("touches")) {
-                return log.add(given);
+                return marked.add(given);
             }
             int[] its = shared;
             switch (act.kind) {
@@ -140,6 +152,9 @@ public final class StoredPrograms {
             switch (kind) {
                 case "promise": return request.promise("promise");
                 case "supply": return request.supply(function);
+                case "write": return request.supply(function + StoredChecks.WRITES);
+                case "write then": return made.get(of).then(function + StoredChecks.WRITES);
+                case "compose": return made.get(of).compose(function + " of a request");
                 case "then": return made.get(of).then(function + " of one");
                 case "handle": return made.get(of).handle(function + " of two");
                 case "again": return made.get(of).again(1);
@@ -168,7 +183,7 @@ public final class StoredPrograms {
         }
 
         String end() {
-            return store.outcomes() + Arrays.toString(shared) + log;
+            return store.outcomes() + Arrays.toString(shared) + log + marked + store.effects();
         }
     }
 
