@@ -1,7 +1,6 @@
 package cf.service.testing;
 
 import cf.service.Store;
-import cf.service.StoreException;
 import cf.service.testing.Footprint.How;
 import cf.service.watch.Reader;
 import cf.service.watch.Watched;
@@ -120,17 +119,12 @@ final class Rows {
         return true;
     }
 
-    /** Lets all of a transaction stand, and ends it. {@code Unknown} where others have put to its row otherwise: then nothing stands. */
+    /** Lets all of a transaction stand, and ends it. */
     void commit(ProcessTransaction transaction) {
-        boolean stands = append(transaction.put) == null;
-        if (stands) {
-            touch.accept(EFFECTS, How.CHANGES);
-            effects.addAll(transaction.effects);
-        }
+        append(transaction.put);
+        touch.accept(EFFECTS, How.CHANGES);
+        effects.addAll(transaction.effects);
         frees(transaction);
-        if (!stands) {
-            throw new StoreException.Unknown("its place was taken", null);
-        }
     }
 
     /** It has ended. */

@@ -287,15 +287,18 @@ public final class WorldStore {
         return flight != null && flight.process == process ? flight : null;
     }
 
-    /** Asks the store for something, which is a move of its own, and is answered as the search says. What comes is a put's, or null. */
+    /** Asks the store for something, which is a move of its own, and is answered as the search says. What comes is what a put asks for, or null. */
     <T> T ask(StoreProcess process, Answer[] ways, String text, Coming coming, Supplier<T> act) {
         Flight flight = flight(process);
         if (process.isDead || run.isClosing()) {
             throw new Leaving(Leaving.Why.GONE);
         }
+        boolean isOthers = coming != null && coming.commits == null;
         if (flight == null || flight.isFresh && ways == Answer.OF_READS) {
             if (flight != null) {
                 flight.isFresh = false;
+            } else if (isOthers && run.current() != null) {
+                awaitPlace(coming.put.request());
             }
             return act.get();
         }
@@ -306,7 +309,7 @@ public final class WorldStore {
             bounds[cost.ordinal()]--;
         }
         try {
-            if (chosen.stands && coming != null && coming.commits == null) {
+            if (chosen.stands && isOthers) {
                 awaitPlace(coming.put.request());
             }
             if (chosen == Answer.ANSWERED) {
@@ -333,8 +336,8 @@ public final class WorldStore {
     }
 
     /**
-     * Waits until no other transaction has a place of a request's row. The wait begins within the move that asks for it: so that move races with the
-     * one that took the place, which is no longer possible once that is given back.
+     * Waits until no transaction has a place of a request's row. The move that asks begins the wait, so it races with the one that took the place. If
+     * it came behind the wait, it would always come after the place was given back, and so race with nothing.
      */
     private void awaitPlace(String request) {
         touch(Rows.place(request), How.READS);

@@ -389,21 +389,22 @@ public final class StoredOrdersTest {
         }, made -> ((WorldStore) made[0]).outcomes() + " " + ((WorldStore) made[0]).effects()), set("[order: write ends: IllegalStateException: x] []"));
     }
 
-    /** A commit that is on its way keeps its place, so whoever puts there waits for it, also where its process is killed meanwhile. */
+    /** A commit that is on its way keeps its place, so it comes before all others' puts, also where its process is killed meanwhile. */
     public static void lateCommits() {
-        List<Failure> failed = enough(world -> {
-            Functions functions = new Functions().transactional("write", 1, (connection, args) -> write(connection, 17));
+        List<Failure> all = enough(world -> {
+            Functions functions = new Functions().transactional(WRITE, 1, (connection, args) -> StoredChecks.write(connection, WRITE));
             WorldStore store = world.store().late(1).killed(1);
-            store.worker("one", functions).request("order").supply("write");
+            store.worker("one", functions).request("order").supply(WRITE);
             store.worker("two", functions);
-            world.atEnd(() -> store.effects().size() == 1 || !store.isSettled("order", "write") || store.outcome("order", "write") instanceof Throwable,
-                    "its effect stands where its finish does");
-            world.atEnd(() -> !(store.hasLanded() && store.processes.get(0).isDead && store.effects().size() == 1), "nothing of the dead comes");
+            world.atEnd(() -> StoredChecks.effectsStand(store), "effects stand where their finishes do");
+            world.atEnd(() -> false, "each order is looked at");
         }).asFound().failures(MOST).run().failed();
-        String late = "the commit that was on its way comes: puts to order: write is finished";
-        is(failed.stream().map(StoredOrdersTest::texts).anyMatch(told -> told.contains("one is killed") && told.indexOf("one is killed") < told.indexOf(late)
-                && told.contains("two takes one for gone")), true);
-        is(failed.stream().allMatch(failure -> failure.why().equals("nothing of the dead comes")), true);
+        String commits = "one commits, and puts to order: write by connection is finished; it is on its way, and no answer comes";
+        String comes = "the commit that was on its way comes: puts to order: write by connection is finished";
+        List<List<String>> late = all.stream().map(StoredOrdersTest::texts).filter(told -> told.contains(commits)).collect(Collectors.toList());
+        is(late.stream().allMatch(told -> told.contains(comes)), true);
+        is(late.stream().anyMatch(told -> told.contains("two takes one for gone") && told.indexOf("one is killed") < told.indexOf(comes)), true);
+        is(all.stream().map(Failure::why).collect(Collectors.toSet()), set("each order is looked at"));
     }
 
     /** While a transaction has its place, others wait with their puts to its request. */
@@ -425,16 +426,22 @@ public final class StoredOrdersTest {
                     "nobody puts between the call and the commit");
             world.atEnd(() -> store.effects().size() == 1, "it is written once");
         });
-        is(ends(world -> {
-            Functions functions = new Functions().transactional(WRITE, 1, (connection, args) -> StoredChecks.write(connection, WRITE));
-            WorldStore store = world.store().pure(WRITE);
-            store.worker("one", functions);
-            StoreProcess shop = store.process("shop", functions).workers(0);
-            StoredStage stage = shop.request("order").supply(WRITE);
-            shop.calls("client", stage::cancel);
-            return new Object[] {store};
-        }, made -> ((WorldStore) made[0]).outcomes() + " " + ((WorldStore) made[0]).effects()), set("[order: write by connection ends: 1] [write by connection]",
-                "[order: write by connection is cancelled] []"));
+        for (boolean ofProcess : new boolean[] {true, false}) {
+            is(ends(world -> {
+                Functions functions = new Functions().transactional(WRITE, 1, (connection, args) -> StoredChecks.write(connection, WRITE));
+                WorldStore store = world.store().pure(WRITE);
+                store.worker("one", functions);
+                StoreProcess shop = store.process("shop", functions).workers(0);
+                StoredStage stage = shop.request("order").supply(WRITE);
+                if (ofProcess) {
+                    shop.calls("client", stage::cancel);
+                } else {
+                    world.calls("client", stage::cancel);
+                }
+                return new Object[] {store};
+            }, made -> ((WorldStore) made[0]).outcomes() + " " + ((WorldStore) made[0]).effects()), set(
+                    "[order: write by connection ends: 1] [write by connection]", "[order: write by connection is cancelled] []"));
+        }
     }
 
     /** What the connection of a world does, which has no database. */
