@@ -47,7 +47,7 @@ final class Compared {
             tooLarge++;
             return;
         }
-        Report reduced = orders(program, toFirstFailure ? Integer.MAX_VALUE : 2 * most).run();
+        Report reduced = orders(program, 2 * most).run();
         programs++;
         plainOrders += plain.orders();
         tried += reduced.orders() + reduced.cut();
