@@ -8,7 +8,7 @@ import java.util.stream.Collectors;
 
 /** Random programs that the kit has to bring to the same ends with and without what it leaves out. */
 final class Compared {
-    private static final int SECONDS = 60;
+    private static final int SECONDS = 600;
 
     private final String what;
     private final boolean toFirstFailure;
