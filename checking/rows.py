@@ -180,7 +180,8 @@ def rows_of_languages(tools: Tools, made: Path) -> List[Row]:
     return [Row("requests in SQLite that three languages share", ["library", "C compiler", "cargo", DEBIANS, "JDK of 17 or later", "python3", "cf_look"], [
         [python, "clients/rust/offline", "--debian", "build", "-q", "-p", "cf-store", "--features", "sqlite", "--example", "faults"],
         ["env", "JAVAC=" + javac, "clients/java/build", "--quick", str(made / "languages")],
-        [javac, "-Xlint:all", "-Werror", "-encoding", "UTF-8", "-cp", jar, "-d", classes, "clients/java/example/Faults.java"],
+        [javac, "-Xlint:all", "-Werror", "-encoding", "UTF-8", "-cp", jar, "-d", classes,
+         *(f"clients/java/example/{name}.java" for name in ["Faults", "Address"])],
         ["env", *workers, python, "conformance/stores/engines", "languages", str(made / "languages/run"), tools["cf_look"]]])]
 
 

@@ -1,6 +1,4 @@
-import cf.service.EtcdStore;
 import cf.service.Functions;
-import cf.service.JdbcStore;
 import cf.service.RemoteException;
 import cf.service.RequestFullException;
 import cf.service.Store;
@@ -72,7 +70,7 @@ public final class Faults {
         this.notes = notes;
         this.seed = seed;
         chance = new Random(Long.parseLong(seed));
-        service = new StoreService(notes.noted(opened(address)), functions(notes), 2, 700, TimeUnit.MILLISECONDS, true);
+        service = new StoreService(notes.noted(Address.opened(address)), functions(notes), 2, 700, TimeUnit.MILLISECONDS, true);
     }
 
     // The process's own log.
@@ -562,26 +560,6 @@ public final class Faults {
 
     // The process.
 
-    /** The address of SQLite or PostgreSQL, for JDBC. */
-    private static String jdbc(String address) {
-        if (address.startsWith("sqlite:///")) {
-            return "jdbc:sqlite:" + address.substring("sqlite:///".length());
-        }
-        java.net.URI uri = java.net.URI.create(address);
-        return "jdbc:postgresql://" + uri.getHost() + ":" + uri.getPort() + uri.getPath() + "?user=" + uri.getUserInfo();
-    }
-
-    /** The store, once it answers. */
-    private static Store opened(String address) throws InterruptedException {
-        while (true) {
-            try {
-                return address.startsWith("etcd://") ? EtcdStore.open(address.substring("etcd://".length())) : JdbcStore.open(jdbc(address));
-            } catch (StoreException.Unknown silent) {
-                Thread.sleep(50);
-            }
-        }
-    }
-
     /** Ends the process if its main thread doesn't go on, and tells what its threads do. */
     private static void watch(Notes notes, Path folder, long process) {
         try {
@@ -599,7 +577,7 @@ public final class Faults {
 
     /** Attaches one stage after another until it is killed, and writes a line to a file for each that it is told of. */
     private static void write(String address, String log) throws Exception {
-        StoreService service = new StoreService(opened(address), new Functions());
+        StoreService service = new StoreService(Address.opened(address), new Functions());
         try (OutputStream out = new FileOutputStream(log, true)) {
             for (int number = 0;; number++) {
                 StoredRequest request = service.request("java " + number);

@@ -1,8 +1,5 @@
 import cf.service.Functions;
-import cf.service.JdbcStore;
-import cf.service.StoreException;
 import cf.service.StoreService;
-import java.net.URI;
 import java.sql.Connection;
 import java.sql.DriverManager;
 import java.sql.PreparedStatement;
@@ -15,26 +12,6 @@ import java.util.concurrent.TimeUnit;
  */
 public final class Jobs {
     private Jobs() {}
-
-    /** The same address for JDBC. */
-    private static String jdbc(String address) {
-        if (address.startsWith("sqlite:///")) {
-            return "jdbc:sqlite:" + address.substring("sqlite:///".length());
-        }
-        URI uri = URI.create(address);
-        return "jdbc:postgresql://" + uri.getHost() + ":" + uri.getPort() + uri.getPath() + "?user=" + uri.getUserInfo();
-    }
-
-    /** The store, once it answers. */
-    private static JdbcStore opened(String url) throws InterruptedException {
-        while (true) {
-            try {
-                return JdbcStore.open(url);
-            } catch (StoreException.Unknown silent) {
-                Thread.sleep(100);
-            }
-        }
-    }
 
     private static Object outside(String effects, Object name) throws Exception {
         Thread.sleep(ThreadLocalRandom.current().nextInt(10));
@@ -57,10 +34,10 @@ public final class Jobs {
 
     /** Works until it is killed. */
     public static void main(String[] args) throws Exception {
-        String effects = jdbc(args[1]);
+        String effects = Address.jdbc(args[1]);
         Functions functions = new Functions().with("outside", 1, name -> outside(effects, name)).with("same", 1, name -> name)
                 .with("both", 1, (name, other) -> name).transactional("inside", 1, (db, name) -> inside(db, name.get(0)));
-        new StoreService(opened(jdbc(args[0])), functions, 2, 700, TimeUnit.MILLISECONDS, true);
+        new StoreService(Address.opened(args[0]), functions, 2, 700, TimeUnit.MILLISECONDS, true);
         Thread.sleep(Long.MAX_VALUE);
     }
 }

@@ -1,21 +1,10 @@
 package cf.service;
 
-import java.io.ByteArrayOutputStream;
-import java.io.IOException;
-import java.io.InputStream;
-import java.io.InterruptedIOException;
-import java.nio.charset.StandardCharsets;
-import java.nio.file.Files;
-import java.nio.file.Path;
 import java.util.Arrays;
 import java.util.List;
-import java.util.stream.IntStream;
 
-/**
- * What happened to a request: told in words, as an account that {@code cf_look check} judges, and as a script for {@code cf run}. It stays
- * as it is while the request goes on. The library does the words again for these texts, and tells the same in each language.
- */
-public final class History {
+/** What happened to a request in memory, which has times and spans, too. */
+public final class History extends RequestHistory {
     // Kinds of outcomes and of arguments, answers of claims and finishes: numbers of cf.h.
     static final int GIVES = 1, THROWN = 2, CANCELLED = 3, TIMED_OUT = 4;
     static final int NO_ARGS = 0, ONE = 1, TWO = 2, OUTCOME = 3;
@@ -23,9 +12,7 @@ public final class History {
 
     private static final int[] NO_ROWS = {};
 
-    private final String name;
     private final Flow flow;
-    private final long[] words;
     private final long[] times;
     /** When its first event was, in nanoseconds since 1970. */
     private final long began;
@@ -42,10 +29,9 @@ public final class History {
 
     /** Its request's lock is held. {@link #describe} is called once that is free. Where moments are null, they are the machine's. */
     History(String name, Flow flow, Machine machine, String[] names, Object[] values, Throwable[] errors, String[] threads, long[] moments) {
-        this.name = name;
+        super(name, Arrays.copyOf(machine.kept(), machine.events()));
         this.flow = flow;
         long[] kept = machine.kept();
-        words = Arrays.copyOf(kept, machine.events());
         times = moments != null ? moments : Machine.times(kept, words.length);
         began = Machine.began(kept, words.length);
         stages = machine.stages();
@@ -67,11 +53,6 @@ public final class History {
             describe = text -> (String) text;
         }
         return this;
-    }
-
-    /** The words of all events in their order. */
-    public long[] words() {
-        return words.clone();
     }
 
     public int events() {
@@ -173,6 +154,7 @@ public final class History {
         return names[stage] != null ? names[stage] : form.text;
     }
 
+    @Override
     String who(int who) {
         return who == Request.CLOCK ? "clock" : who == Request.RELAY ? "relay"
                 : who == Request.OTHER_THREADS ? "some thread" : threads[who - Request.FIRST_THREAD];
@@ -225,55 +207,26 @@ public final class History {
 
     // As texts, which the library tells.
 
-    /** A line for each event, and one for each stage that it settled. Names and texts can't add a line: see {@link Describe}. */
-    @Override
-    public String toString() {
-        return as(Tale.Kind.LINES);
-    }
-
-    /**
-     * The same in one line, for a log: the name, how much there was, which stage failed first, and which one is open. Between these parts
-     * stands a semicolon; one of a name or text is told as JSON's escape of it.
-     */
-    public String line() {
-        return as(Tale.Kind.LINE);
-    }
-
-    /**
-     * What {@code cf_look check} judges, and {@code cf_look page} shows: the events, with the replies and outcomes that they have by the graph.
-     * What isn't judged are names, times in nanoseconds from the first event on, values and exceptions as texts.
-     */
-    public String account() {
-        return withoutEnd(as(Tale.Kind.ACCOUNT));
-    }
-
-    /**
-     * What {@code cf run} does again, and {@code cf_look} draws and makes a page of. It is of version 3 where an event times a stage out, and
-     * else of version 2. Functions give what they gave.
-     */
-    public String script() {
-        return withoutEnd(as(Tale.Kind.SCRIPT));
-    }
-
     /** What {@code cf run} prints of the script: the replies, and what the stages hold. */
     public String report() {
         return as(Tale.Kind.REPORT);
     }
 
-    private String as(Tale.Kind kind) {
-        long[] words = kind == Tale.Kind.LINES ? byRelays() : this.words;
-        Tale tale = new Tale(flow == null ? NO_ROWS : flow.plan().rows, stages - planned(), words);
-        if (kind != Tale.Kind.SCRIPT && kind != Tale.Kind.REPORT) {
-            if (times != null) {
-                tale.time(times);
-            }
-            tale.say(Tale.Said.NAME, name);
-            tale.say(Tale.Said.STAGES, Arrays.stream(names).map(each -> each == null ? "" : each).toArray(String[]::new));
-            tale.say(Tale.Said.CALLERS, callers(words));
-            tale.say(Tale.Said.VALUES, texts(values));
-            tale.say(Tale.Said.ERRORS, texts(errors));
+    @Override
+    Tale tale(Tale.Kind kind) {
+        Tale tale = new Tale(flow == null ? NO_ROWS : flow.plan().rows, stages - planned(), kind == Tale.Kind.LINES ? byRelays() : words);
+        if (times != null && kind != Tale.Kind.SCRIPT && kind != Tale.Kind.REPORT) {
+            tale.time(times);
         }
-        return tale.text(kind);
+        return tale;
+    }
+
+    @Override
+    void says(Tale tale) {
+        tale.say(Tale.Said.STAGES, Arrays.stream(names).map(each -> each == null ? "" : each).toArray(String[]::new));
+        tale.say(Tale.Said.CALLERS, callers(tale.words));
+        tale.say(Tale.Said.VALUES, texts(values));
+        tale.say(Tale.Said.ERRORS, texts(errors));
     }
 
     /** The words, with those as a relay's that settle one of this request, which the machine does as the clock. It stands right below a composing stage. */
@@ -286,51 +239,7 @@ public final class History {
         }).toArray();
     }
 
-    /** What the callers are called, up to the last one that did something. */
-    private String[] callers(long[] words) {
-        int count = Arrays.stream(words).mapToInt(Words::who).max().orElse(-1) + 1;
-        return IntStream.range(0, count).mapToObj(this::who).toArray(String[]::new);
-    }
-
     private String[] texts(Object[] things) {
         return Arrays.stream(things).map(each -> Text.of(describe, each)).toArray(String[]::new);
-    }
-
-    private static String withoutEnd(String line) {
-        return line.substring(0, line.length() - 1);
-    }
-
-    /**
-     * A page for a browser, which loads nothing, as {@code cf_look page} makes it of the account. The program is found on the path, or the
-     * property {@code cf.look} names it.
-     *
-     * @throws IOException where the program isn't there, or fails
-     */
-    public String page() throws IOException {
-        Path input = Files.createTempFile("cf", ".json");
-        try {
-            Files.write(input, account().getBytes(StandardCharsets.UTF_8));
-            Process look = new ProcessBuilder(System.getProperty("cf.look", "cf_look"), "page").redirectInput(input.toFile()).start();
-            String page = text(look.getInputStream()), fault = text(look.getErrorStream());
-            int status = look.waitFor();
-            if (status != 0) {
-                throw new IOException("cf_look page ended with status " + status + ": " + fault);
-            }
-            return page;
-        } catch (InterruptedException interrupted) {
-            Thread.currentThread().interrupt();
-            throw new InterruptedIOException("interrupted while cf_look made a page");
-        } finally {
-            Files.delete(input);
-        }
-    }
-
-    private static String text(InputStream from) throws IOException {
-        ByteArrayOutputStream all = new ByteArrayOutputStream();
-        byte[] part = new byte[8192];
-        for (int n; (n = from.read(part)) >= 0;) {
-            all.write(part, 0, n);
-        }
-        return all.toString("UTF-8");
     }
 }

@@ -4,6 +4,7 @@ import cf.service.watch.Host;
 import cf.service.watch.Reader;
 import cf.service.watch.Serving;
 import cf.service.watch.Stores;
+import java.sql.Connection;
 import java.util.ArrayList;
 import java.util.Collection;
 import java.util.List;
@@ -23,6 +24,11 @@ final class Insight implements Stores {
     @Override
     public Reader reader(Store store, Store.Opened opened) {
         return new OfRow(new RowView(store, opened, 0, new Host()));
+    }
+
+    @Override
+    public Connection lent(Connection db) {
+        return JdbcStore.lent(db);
     }
 
     @Override
@@ -185,6 +191,11 @@ final class Insight implements Stores {
         @Override
         public boolean isDone(Collection<Long> gone) {
             return view.isDone(gone::contains);
+        }
+
+        @Override
+        public StoredHistory history() {
+            return view.facts().history(Describe.ALL);
         }
 
         @Override

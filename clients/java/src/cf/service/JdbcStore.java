@@ -257,6 +257,21 @@ public abstract class JdbcStore implements Store {
         return new Within(null);
     }
 
+    /** A connection as a transactional function has it: it refuses what ends the transaction, since the function's finish does that. */
+    static Connection lent(Connection db) {
+        InvocationHandler calls = (proxy, method, args) -> {
+            if (ENDS_IT.contains(method.getName()) && (args == null || !method.getName().equals("rollback"))) {
+                throw new SQLException("the finish of a transactional function ends its transaction, and not " + method.getName());
+            }
+            try {
+                return method.invoke(db, args);
+            } catch (InvocationTargetException thrown) {
+                throw thrown.getCause();
+            }
+        };
+        return (Connection) Proxy.newProxyInstance(JdbcStore.class.getClassLoader(), new Class<?>[] {Connection.class}, calls);
+    }
+
     /** A transaction of a function's, on a connection of its own. */
     final class Within implements Transaction {
         private final Line line;
@@ -277,20 +292,9 @@ public abstract class JdbcStore implements Store {
             db = made;
         }
 
-        /** It refuses what ends the transaction: the function's finish does that. */
         @Override
         public Connection connection() {
-            InvocationHandler calls = (proxy, method, args) -> {
-                if (ENDS_IT.contains(method.getName()) && (args == null || !method.getName().equals("rollback"))) {
-                    throw new SQLException("the finish of a transactional function ends its transaction, and not " + method.getName());
-                }
-                try {
-                    return method.invoke(db, args);
-                } catch (InvocationTargetException thrown) {
-                    throw thrown.getCause();
-                }
-            };
-            return (Connection) Proxy.newProxyInstance(JdbcStore.class.getClassLoader(), new Class<?>[] {Connection.class}, calls);
+            return lent(db);
         }
 
         @Override

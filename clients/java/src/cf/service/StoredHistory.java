@@ -1,32 +1,28 @@
 package cf.service;
 
 import java.util.ArrayList;
-import java.util.Arrays;
 import java.util.LinkedHashMap;
 import java.util.List;
 import java.util.Map;
+import java.util.Objects;
 import java.util.TreeMap;
+import java.util.stream.Collectors;
+import java.util.stream.IntStream;
 
-/**
- * What happened to a request in a store, as the row tells it: in words, as an account that {@code cf_look check} judges, and as a script for
- * {@code cf run}. It stays as it is while the request goes on. The library does the words again for these texts, and tells the same in each
- * language. A row has no times. Each text takes time by the number of words.
- */
-public final class StoredHistory {
-    private final String name;
+/** What happened to a request in a store, as the row tells it. A row has no times. */
+public final class StoredHistory extends RequestHistory {
     private final int[] rows;
     private final int attached;
-    private final long[] words, sessions;
+    private final long[] sessions;
     private final String[] names, values, errors;
     private final Map<Long, String> named;
 
     /** Of each stage its name; of each place what its payload says, one place more than there are words; and what sessions are called. */
     StoredHistory(String name, int[] rows, int attached, long[] words, long[] sessions, String[] names, String[] values, String[] errors,
             Map<Long, String> named) {
-        this.name = name;
+        super(name, words);
         this.rows = rows;
         this.attached = attached;
-        this.words = words;
         this.sessions = sessions;
         this.names = names;
         this.values = values;
@@ -34,31 +30,16 @@ public final class StoredHistory {
         this.named = named;
     }
 
-    /** The words of all events in their order. */
-    public long[] words() {
-        return words.clone();
-    }
-
-    /** A line for each event, and one for each stage that it settled. Names and texts can't add a line. */
+    /** Where several sessions had one number, each has its own records there. */
     @Override
-    public String toString() {
-        return as(Tale.Kind.LINES);
-    }
-
-    /** The same in one line, for a log: the name, how much there was, which stage failed first, and which one is open. */
-    public String line() {
-        return as(Tale.Kind.LINE);
-    }
-
-    /** What {@code cf_look check} judges, and {@code cf_look page} shows. Where several sessions had one number, each has its own records there. */
     public String account() {
-        String account = as(Tale.Kind.ACCOUNT);
+        String account = super.account();
         Map<Integer, Long> first = new TreeMap<>();
         boolean isShared = false;
         for (int k = 0; k < words.length; k++) {
             isShared |= first.computeIfAbsent(Words.who(words[k]), one(sessions[k])) != sessions[k];
         }
-        return isShared ? bySessions(account) : account.substring(0, account.length() - 1);
+        return isShared ? bySessions(account) : account;
     }
 
     private static java.util.function.Function<Integer, Long> one(long session) {
@@ -87,38 +68,24 @@ public final class StoredHistory {
         return new String(Json.write(read), java.nio.charset.StandardCharsets.UTF_8);
     }
 
-    /** What {@code cf run} does again, and {@code cf_look} draws. Functions give what they gave. */
-    public String script() {
-        String script = as(Tale.Kind.SCRIPT);
-        return script.substring(0, script.length() - 1);
+    @Override
+    Tale tale(Tale.Kind kind) {
+        return new Tale(rows, attached, words);
     }
 
-    private String as(Tale.Kind kind) {
-        Tale tale = new Tale(rows, attached, words);
-        if (kind != Tale.Kind.SCRIPT) {
-            tale.say(Tale.Said.NAME, name);
-            tale.say(Tale.Said.STAGES, names);
-            tale.say(Tale.Said.CALLERS, callers());
-            tale.say(Tale.Said.VALUES, values);
-            tale.say(Tale.Said.ERRORS, errors);
-        }
-        return tale.text(kind);
+    @Override
+    void says(Tale tale) {
+        tale.say(Tale.Said.STAGES, names);
+        tale.say(Tale.Said.CALLERS, callers(words));
+        tale.say(Tale.Said.VALUES, values);
+        tale.say(Tale.Said.ERRORS, errors);
     }
 
-    /** What callers are called, up to the last one that did something: all the names that sessions of its number have, or the number. */
-    private String[] callers() {
-        int count = Arrays.stream(words).mapToInt(Words::who).max().orElse(-1) + 1;
-        String[] callers = new String[count];
-        for (int who = 0; who < count; who++) {
-            List<String> its = new ArrayList<>();
-            for (int k = 0; k < words.length; k++) {
-                String said = Words.who(words[k]) == who ? named.get(sessions[k]) : null;
-                if (said != null && !its.contains(said)) {
-                    its.add(said);
-                }
-            }
-            callers[who] = its.isEmpty() ? "session " + who : String.join(" or ", its);
-        }
-        return callers;
+    /** All the names that sessions of its number have, or the number. */
+    @Override
+    String who(int who) {
+        String names = IntStream.range(0, words.length).filter(k -> Words.who(words[k]) == who).mapToObj(k -> named.get(sessions[k]))
+                .filter(Objects::nonNull).distinct().collect(Collectors.joining(" or "));
+        return names.isEmpty() ? "session " + who : names;
     }
 }

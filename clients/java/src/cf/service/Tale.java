@@ -14,7 +14,7 @@ final class Tale {
 
     private final int[] rows;
     private final int room;
-    private final long[] words;
+    final long[] words;
     private long[] times = {};
     private final String[][] said = new String[Said.values().length][0];
 

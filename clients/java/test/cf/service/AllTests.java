@@ -134,6 +134,7 @@ public final class AllTests {
         test("services over a store with a fault of order", StoredOrdersTest::plantedFaults);
         test("sound services over a store in every order", StoredOrdersTest::soundServices);
         test("what a failing order over a store tells", StoredOrdersTest::stories);
+        test("histories of a failing order over a store", StoredOrdersTest::histories);
         test("answers of a store that go wrong", StoredOrdersTest::answers);
         test("how often answers go wrong", StoredOrdersTest::bounds);
         test("puts that come late", StoredOrdersTest::late);
@@ -146,6 +147,10 @@ public final class AllTests {
         test("threads of a process in every order", StoredOrdersTest::threads);
         test("faults of what is tried over a store", StoredOrdersTest::faults);
         test("what hangs on stages of a store", StoredOrdersTest::heard);
+        test("transactional functions in every order", StoredOrdersTest::transactions);
+        test("commits that come late", StoredOrdersTest::lateCommits);
+        test("places of a row that a transaction has", StoredOrdersTest::places);
+        test("the connection of a world", StoredOrdersTest::connections);
         test("what is promised of a store in every order", StoredOrdersTest::promises);
         test("orders over a store that are left out", StoredOrdersTest::leftOut);
         test("orders over a store by chance", StoredOrdersTest::byChance);

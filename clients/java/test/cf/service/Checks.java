@@ -1,21 +1,26 @@
 package cf.service;
 
+import java.io.IOException;
 import java.lang.management.LockInfo;
 import java.lang.management.ManagementFactory;
 import java.lang.management.ThreadInfo;
 import java.lang.reflect.Proxy;
+import java.nio.charset.StandardCharsets;
 import java.nio.file.Files;
 import java.nio.file.Path;
 import java.nio.file.Paths;
 import java.util.Arrays;
+import java.util.HashSet;
+import java.util.List;
 import java.util.Objects;
+import java.util.Set;
 import java.util.concurrent.CompletableFuture;
 import java.util.concurrent.CompletionStage;
 import java.util.concurrent.CountDownLatch;
 import java.util.concurrent.TimeUnit;
 
 /** What tests check by, and odd stages and functions that several tests use: they refuse, break, or stand for another future. */
-final class Checks {
+public final class Checks {
     /** Its executor is the common pool. */
     static final Service SERVICE = new Service();
     /** Its executor calls each function at once, in the thread that hands it over. */
@@ -27,9 +32,45 @@ final class Checks {
         void run() throws Exception;
     }
 
-    static void is(Object found, Object wanted) {
+    public static void is(Object found, Object wanted) {
         if (!Objects.equals(found, wanted)) {
             throw new AssertionError(found + " and not " + wanted);
+        }
+    }
+
+    public static void has(String text, String part) {
+        if (!text.contains(part)) {
+            throw new AssertionError(text + " hasn't " + part);
+        }
+    }
+
+    /** The stages of a row that a finish with a value has settled, since no word has settled them before. */
+    public static Set<Integer> finished(List<Store.Entry> row) {
+        Set<Integer> settled = new HashSet<>(), finished = new HashSet<>();
+        for (Store.Entry entry : row) {
+            int kind = Words.kind(entry.word);
+            if (kind != Words.ATTACH && kind != Words.CLAIM && !Words.linking(entry.word) && settled.add(Words.stage(entry.word))
+                    && kind == Words.FINISH && !Words.throwing(entry.word)) {
+                finished.add(Words.stage(entry.word));
+            }
+        }
+        return finished;
+    }
+
+    /** {@code cf_look check} says that an account fits, where that program is. */
+    public static void fits(String account) throws IOException, InterruptedException {
+        String program = System.getProperty("cf.look", "");
+        if (program.isEmpty() || !Files.isExecutable(Paths.get(program))) {
+            return;
+        }
+        Path input = Files.createTempFile("cf", ".json"), said = Files.createTempFile("cf", ".said");
+        try {
+            Files.write(input, account.getBytes(StandardCharsets.UTF_8));
+            int status = new ProcessBuilder(program, "check").redirectInput(input.toFile()).redirectOutput(said.toFile()).start().waitFor();
+            is(status + " " + new String(Files.readAllBytes(said), StandardCharsets.UTF_8).split("\n")[0], "0 fits");
+        } finally {
+            Files.delete(input);
+            Files.delete(said);
         }
     }
 

@@ -1,15 +1,11 @@
 package cf.service;
 
+import static cf.service.Checks.fits;
 import static cf.service.Checks.is;
 import static cf.service.Checks.thrown;
 
 import cf.service.StoresTest.InFile;
 import cf.service.StoresTest.Place;
-import java.io.File;
-import java.nio.charset.StandardCharsets;
-import java.nio.file.Files;
-import java.nio.file.Path;
-import java.nio.file.Paths;
 import java.sql.Connection;
 import java.sql.DriverManager;
 import java.sql.PreparedStatement;
@@ -391,7 +387,7 @@ public final class StoredFunctionsTest {
             }
             is(history.line().startsWith("history"), true);
             is(request.history(Describe.NOTHING).toString().contains("ends: 42"), false);
-            checked(history.account());
+            fits(history.account());
             // Where sessions share a number each has its own records.
             long[] words = history.words(), sessions = new long[words.length];
             for (int k = 0; k < words.length; k++) {
@@ -404,27 +400,8 @@ public final class StoredFunctionsTest {
             is(shared.account().contains("\"sessions\":["), true);
             is(history.account().contains("\"sessions\":["), false);
             is(shared.toString().contains("Ada attaches"), true);
-            checked(shared.account());
+            fits(shared.account());
             is(history.script().contains("\"stages\""), true);
-        }
-    }
-
-    /** What {@code cf_look check} says of an account, where that program is. */
-    private static void checked(String account) throws Exception {
-        String program = System.getProperty("cf.look", "");
-        if (program.isEmpty() || !Files.isExecutable(Paths.get(program))) {
-            return;
-        }
-        Path input = Files.createTempFile("cf", ".json");
-        try {
-            Files.write(input, account.getBytes(StandardCharsets.UTF_8));
-            File said = Files.createTempFile("cf", ".said").toFile();
-            int status = new ProcessBuilder(program, "check").redirectInput(input.toFile()).redirectOutput(said).start().waitFor();
-            String text = new String(Files.readAllBytes(said.toPath()), StandardCharsets.UTF_8);
-            Files.delete(said.toPath());
-            is(status + " " + text.split("\n")[0], "0 fits");
-        } finally {
-            Files.delete(input);
         }
     }
 }

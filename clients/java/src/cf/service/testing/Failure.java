@@ -1,6 +1,6 @@
 package cf.service.testing;
 
-import cf.service.History;
+import cf.service.RequestHistory;
 import java.io.IOException;
 import java.util.ArrayList;
 import java.util.Collections;
@@ -13,7 +13,7 @@ public final class Failure {
     private final String why;
     private final Throwable cause;
     private final List<Told> told;
-    private final List<History> histories;
+    private final List<RequestHistory> histories;
 
     /** A move in words, and what it settled. */
     public static final class Told {
@@ -62,7 +62,7 @@ public final class Failure {
         }
     }
 
-    Failure(String why, Throwable cause, List<Move> moves, List<Told> told, List<History> histories) {
+    Failure(String why, Throwable cause, List<Move> moves, List<Told> told, List<RequestHistory> histories) {
         this.why = why;
         this.cause = cause;
         this.moves = new ArrayList<>(moves);
@@ -95,8 +95,11 @@ public final class Failure {
         return pairs;
     }
 
-    /** The history of each request, in the order in which the test opened them. Their times are the world's. */
-    public List<History> histories() {
+    /**
+     * The history of each request: first of those in memory, whose times are the world's, then of those in the store, by all words that stand. Each
+     * of the two has the order in which they were opened. A store's process is called by its name there.
+     */
+    public List<RequestHistory> histories() {
         return histories;
     }
 
@@ -110,7 +113,7 @@ public final class Failure {
         return histories.get(0).script();
     }
 
-    /** The page of the first request for a browser: see {@link History#page}. */
+    /** The page of the first request for a browser: see {@link RequestHistory#page}. */
     public String page() throws IOException {
         return histories.get(0).page();
     }

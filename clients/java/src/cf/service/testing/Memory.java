@@ -17,6 +17,7 @@ final class Memory implements Store {
     private final Map<String, Map<Integer, byte[]>> payloads = new HashMap<>();
     private final Set<String> closed = new HashSet<>();
     private final Map<Long, Long> beats = new HashMap<>();
+    private final Map<Long, String> named = new HashMap<>();
 
     @Override
     public Opened open(String name, String plan) {
@@ -110,7 +111,14 @@ final class Memory implements Store {
     }
 
     @Override
-    public void nameSession(long session, String name) {}
+    public void nameSession(long session, String name) {
+        named.put(session, name);
+    }
+
+    @Override
+    public Map<Long, String> sessionNames(String request, long number) {
+        return new HashMap<>(named);
+    }
 
     @Override
     public double now() {

@@ -32,7 +32,7 @@ final class ProcessStore implements Store {
 
     @Override
     public List<Entry> append(Put put) {
-        return world.ask(process, Answer.OF_PUTS, rows.reader(put.request()).text(put), put, () -> rows.append(put));
+        return world.ask(process, Answer.OF_PUTS, rows.reader(put.request()).text(put), new Coming(put, null), () -> rows.append(put));
     }
 
     @Override
@@ -109,6 +109,21 @@ final class ProcessStore implements Store {
 
     @Override
     public void nameSession(long session, String name) {}
+
+    @Override
+    public Map<Long, String> sessionNames(String request, long number) {
+        return rows.memory.sessionNames(request, number);
+    }
+
+    @Override
+    public boolean isTransactional() {
+        return true;
+    }
+
+    @Override
+    public Transaction transaction() {
+        return new ProcessTransaction(world, process);
+    }
 
     @Override
     public void close() {}

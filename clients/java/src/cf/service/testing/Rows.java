@@ -15,13 +15,19 @@ import java.util.function.BiConsumer;
 final class Rows {
     /** Which requests there are. */
     static final String ROWS = "rows";
+    /** What transactional functions have done. */
+    static final String EFFECTS = "effects";
 
     final Memory memory = new Memory();
     /** Of requests, in the order in which they were opened. */
     final List<String> names = new ArrayList<>();
     /** With the number of each, by its stage. */
     final Map<String, Due> timers = new LinkedHashMap<>();
+    /** What transactional functions have done, and what stands. */
+    final List<Effect> effects = new ArrayList<>();
     private final Map<String, Reader> readers = new LinkedHashMap<>();
+    /** The open transactions that have a place of a request's row. */
+    private final Map<String, ProcessTransaction> held = new LinkedHashMap<>();
     private final BiConsumer<Object, How> touch;
     /** Is told what a put settles, in words; null where nobody asks. */
     private Consumer<String> tells;
@@ -61,6 +67,11 @@ final class Rows {
         return "row " + name;
     }
 
+    /** Who may put next to a request's row. */
+    static String place(String name) {
+        return "place of " + name;
+    }
+
     Store.Opened open(String name, String plan) {
         boolean isNew = memory.find(name) == null;
         touch.accept(ROWS, isNew ? How.CHANGES : How.READS);
@@ -76,6 +87,7 @@ final class Rows {
     List<Store.Entry> append(Store.Put put) {
         List<Store.Entry> stands = memory.append(put);
         touch.accept(row(put.request()), stands == null ? How.CHANGES : How.READS);
+        touch.accept(place(put.request()), How.READS);
         if (stands != null) {
             tell("another's word stands there");
             return stands;
@@ -87,6 +99,44 @@ final class Rows {
             }
         }
         return null;
+    }
+
+    // Transactions.
+
+    /** Whether an open transaction has a place of a request's row. */
+    boolean isHeld(String name) {
+        return held.containsKey(name);
+    }
+
+    /** Takes a put's place for a transaction, if it is free. */
+    boolean takes(ProcessTransaction transaction, Store.Put put) {
+        if (!read(put.request(), put.number(), put.at()).isEmpty()) {
+            return false;
+        }
+        transaction.put = put;
+        touch.accept(place(put.request()), How.CHANGES);
+        held.put(put.request(), transaction);
+        return true;
+    }
+
+    /** Lets all of a transaction stand, and ends it. */
+    void commit(ProcessTransaction transaction) {
+        append(transaction.put);
+        touch.accept(EFFECTS, How.CHANGES);
+        effects.addAll(transaction.effects);
+        frees(transaction);
+    }
+
+    /** It has ended. */
+    void frees(ProcessTransaction transaction) {
+        if (transaction.put != null && held.remove(transaction.put.request(), transaction)) {
+            touch.accept(place(transaction.put.request()), How.CHANGES);
+        }
+    }
+
+    /** Undoes the transactions of a process, but for commits that are on their way. */
+    void freesAllOf(StoreProcess process) {
+        new ArrayList<>(held.values()).stream().filter(it -> it.process == process && !it.isOnItsWay).forEach(this::frees);
     }
 
     private void tell(String text) {

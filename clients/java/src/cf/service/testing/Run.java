@@ -1,8 +1,8 @@
 package cf.service.testing;
 
 import cf.service.Describe;
-import cf.service.History;
 import cf.service.Request;
+import cf.service.RequestHistory;
 import cf.service.Service;
 import cf.service.Stage;
 import cf.service.StoredStage;
@@ -537,10 +537,13 @@ final class Run implements Watch, Executor {
         return words.toString();
     }
 
-    /** The history of each request in memory. */
-    List<History> histories() {
-        List<History> histories = new ArrayList<>();
+    /** The history of each request: first of those in memory, then of those in the store, each in the order in which they were opened. */
+    List<RequestHistory> histories() {
+        List<RequestHistory> histories = new ArrayList<>();
         requests.forEach(request -> histories.add(request.history()));
+        if (store != null) {
+            histories.addAll(store.histories());
+        }
         return histories;
     }
 

@@ -104,6 +104,7 @@ public final class StoreProcess {
         if (serving == null) {
             serving = Watched.stores().service(new ProcessStore(world, this), functions, workers, lease, takesAll, host);
             world.rows.memory.beat(serving.session());
+            world.rows.memory.nameSession(serving.session(), name);
         }
         return serving;
     }

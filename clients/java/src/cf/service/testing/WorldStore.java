@@ -3,6 +3,7 @@ package cf.service.testing;
 import cf.service.Functions;
 import cf.service.Store;
 import cf.service.StoreException;
+import cf.service.StoredHistory;
 import cf.service.StoredStage;
 import cf.service.testing.Answer.Bound;
 import cf.service.testing.Footprint.How;
@@ -20,6 +21,7 @@ import java.util.List;
 import java.util.Map;
 import java.util.Objects;
 import java.util.function.Supplier;
+import java.util.stream.Collectors;
 
 /**
  * Rows in memory that processes of a world share: {@link World#store} gives it. What may go wrong is said first, for each order, and nothing else
@@ -44,7 +46,7 @@ public final class WorldStore {
     /** How many things of a kind may still go wrong. */
     private final int[] bounds = new int[Bound.values().length];
     /** Puts that are on their way, also those that have come. */
-    private final List<Store.Put> flying = new ArrayList<>();
+    private final List<Coming> flying = new ArrayList<>();
     private final List<Integer> landed = new ArrayList<>();
     private final List<Flight> dead = new ArrayList<>();
     private final Map<String, String[]> marks = new HashMap<>();
@@ -234,6 +236,12 @@ public final class WorldStore {
         return Collections.unmodifiableList(answered);
     }
 
+    /** What transactional functions have done by their connections, and what stands, in turn. */
+    public List<Effect> effects() {
+        touch(Rows.EFFECTS, How.READS);
+        return Collections.unmodifiableList(rows.effects);
+    }
+
     /** What each stage of each request came to, by all words that stand, to compare the ends of orders. */
     public List<String> outcomes() {
         List<String> outcomes = new ArrayList<>();
@@ -257,6 +265,11 @@ public final class WorldStore {
         return text.toString();
     }
 
+    /** The history of each request, by all words that stand, in the order in which they were opened. */
+    List<StoredHistory> histories() {
+        return rows.names.stream().map(name -> rows.reader(name).history()).collect(Collectors.toList());
+    }
+
     /** Whether it is a stage as a process has it that was killed. */
     boolean isOfDead(StoredStage stage) {
         return processes.stream().anyMatch(it -> it.isDead && it.serving().has(stage));
@@ -274,15 +287,18 @@ public final class WorldStore {
         return flight != null && flight.process == process ? flight : null;
     }
 
-    /** Asks the store for something, which is a move of its own, and is answered as the search says. The put is that of a put, or null. */
-    <T> T ask(StoreProcess process, Answer[] ways, String text, Store.Put put, Supplier<T> act) {
+    /** Asks the store for something, which is a move of its own, and is answered as the search says. What comes is what a put asks for, or null. */
+    <T> T ask(StoreProcess process, Answer[] ways, String text, Coming coming, Supplier<T> act) {
         Flight flight = flight(process);
         if (process.isDead || run.isClosing()) {
             throw new Leaving(Leaving.Why.GONE);
         }
+        boolean isOthers = coming != null && coming.commits == null;
         if (flight == null || flight.isFresh && ways == Answer.OF_READS) {
             if (flight != null) {
                 flight.isFresh = false;
+            } else if (isOthers && run.current() != null) {
+                awaitPlace(coming.put.request());
             }
             return act.get();
         }
@@ -293,6 +309,9 @@ public final class WorldStore {
             bounds[cost.ordinal()]--;
         }
         try {
+            if (chosen.stands && isOthers) {
+                awaitPlace(coming.put.request());
+            }
             if (chosen == Answer.ANSWERED) {
                 return act.get();
             }
@@ -300,7 +319,10 @@ public final class WorldStore {
                 stands(act);
             }
             if (chosen.has(Bound.LATE)) {
-                flying.add(put);
+                flying.add(coming);
+                if (coming.commits != null) {
+                    coming.commits.isOnItsWay = true;
+                }
             }
             if (chosen.has(Bound.SILENT)) {
                 process.host.clock += PATIENCE;
@@ -311,6 +333,32 @@ public final class WorldStore {
                 run.waitFor(Flight.Wait.asks("goes on", Answer.OF_CALLS, () -> possible(Answer.OF_CALLS)), -1);
             }
         }
+    }
+
+    /**
+     * Waits until no transaction has a place of a request's row. The move that asks begins the wait, so it races with the one that took the place. If
+     * it came behind the wait, it would always come after the place was given back, and so race with nothing.
+     */
+    private void awaitPlace(String request) {
+        touch(Rows.place(request), How.READS);
+        while (rows.isHeld(request)) {
+            run.waitFor(new Flight.Wait("its place in " + request, Rows.place(request), () -> !rows.isHeld(request), null), -1);
+        }
+    }
+
+    /** Takes a put's place for a transaction, if it is free, once no other one has it. That is no move of its own, unless it waits. */
+    boolean takes(ProcessTransaction transaction, Store.Put put) {
+        awaitPlace(put.request());
+        return rows.takes(transaction, put);
+    }
+
+    /** Lets a transaction stand. */
+    void commit(ProcessTransaction transaction) {
+        Store.Put put = transaction.put;
+        ask(transaction.process, Answer.OF_PUTS, "commits, and " + rows.reader(put.request()).text(put), new Coming(put, transaction), () -> {
+            rows.commit(transaction);
+            return null;
+        });
     }
 
     /** Does it. Nobody is told what it gives or throws. */
@@ -431,8 +479,9 @@ public final class WorldStore {
                 by -> moves.add(new Move(Word.GONE, by.key(), other.key(), 0)));
     }
 
-    private boolean mayLand(int number, Store.Put put) {
-        return !landed.contains(number) && rows.reader(put.request()).seen() == put.at();
+    private boolean mayLand(int number, Coming coming) {
+        String request = coming.put.request();
+        return !landed.contains(number) && (coming.commits != null || !rows.isHeld(request)) && rows.reader(request).seen() == coming.put.at();
     }
 
     private List<Flight> flights(StoreProcess process) {
@@ -505,7 +554,7 @@ public final class WorldStore {
             case LAND:
                 landed.add(move.a);
                 touch("land " + move.a, How.CHANGES);
-                rows.append(flying.get(move.a));
+                land(flying.get(move.a));
                 break;
             default:
                 touch(KILLS, How.CHANGES);
@@ -592,14 +641,24 @@ public final class WorldStore {
         List<Flight> flights = flights(process);
         run.flights().removeAll(flights);
         dead.addAll(flights);
+        rows.freesAllOf(process);
+    }
+
+    private void land(Coming coming) {
+        if (coming.commits == null) {
+            rows.append(coming.put);
+        } else {
+            rows.commit(coming.commits);
+        }
     }
 
     /** What a move is called. It is asked before the move is made. */
     String text(Move move) {
         switch (move.word) {
             case LAND:
-                Store.Put put = flying.get(move.a);
-                return "the put that was on its way comes: " + rows.reader(put.request()).text(put);
+                Coming coming = flying.get(move.a);
+                return "the " + (coming.commits == null ? "put" : "commit") + " that was on its way comes: "
+                        + rows.reader(coming.put.request()).text(coming.put);
             case SPARE:
                 return "nobody is killed any more";
             case JOB:

@@ -1,6 +1,7 @@
 package cf.service.watch;
 
 import cf.service.Store;
+import cf.service.StoredHistory;
 import java.util.Collection;
 import java.util.List;
 
@@ -42,6 +43,9 @@ public interface Reader {
 
     /** Whether all stages are settled, and no claim is open but for those of sessions that are gone. */
     boolean isDone(Collection<Long> gone);
+
+    /** What happened to it. */
+    StoredHistory history();
 
     /** What a put to it is called. */
     String text(Store.Put put);

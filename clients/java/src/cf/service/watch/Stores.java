@@ -2,6 +2,7 @@ package cf.service.watch;
 
 import cf.service.Functions;
 import cf.service.Store;
+import java.sql.Connection;
 
 /** Makes what a search over a store needs. {@link Watched#stores} gives it. */
 public interface Stores {
@@ -10,6 +11,9 @@ public interface Stores {
 
     /** A reader of a request that stands in a store. */
     Reader reader(Store store, Store.Opened opened);
+
+    /** A connection as a transactional function has it: it refuses what ends the transaction. */
+    Connection lent(Connection db);
 
     /** The stage that a word claims, or -1 where it is no claim. */
     int claimed(long word);

@@ -1,5 +1,7 @@
 package cf.service.testing;
 
+import static cf.service.Checks.has;
+import static cf.service.Checks.is;
 import static java.util.concurrent.TimeUnit.MILLISECONDS;
 import static java.util.concurrent.TimeUnit.SECONDS;
 
@@ -11,7 +13,6 @@ import java.util.Arrays;
 import java.util.Collections;
 import java.util.HashSet;
 import java.util.List;
-import java.util.Objects;
 import java.util.Set;
 import java.util.concurrent.CompletableFuture;
 import java.util.concurrent.CompletionException;
@@ -29,18 +30,6 @@ public final class OrdersTest {
 
     private OrdersTest() {}
 
-    private static void is(Object found, Object wanted) {
-        if (!Objects.equals(found, wanted)) {
-            throw new AssertionError(found + " and not " + wanted);
-        }
-    }
-
-    private static void has(String text, String part) {
-        if (!text.contains(part)) {
-            throw new AssertionError(text + " hasn't " + part);
-        }
-    }
-
     private static String thrown(Runnable run) {
         try {
             run.run();
@@ -55,9 +44,7 @@ public final class OrdersTest {
     }
 
     private static void isSound(Scenario scenario) {
-        Report report = Orders.of(scenario).run();
-        is(report.failed().toString(), "[]");
-        is(report.whole(), true);
+        Planted.isSound("it", Orders.of(scenario).run());
     }
 
     private static List<Integer> counts(Scenario scenario) {
@@ -67,26 +54,11 @@ public final class OrdersTest {
     // Services.
 
     public static void plantedFaults() {
-        for (Services.Service service : Services.FAULTY) {
-            Report report = service.orders().run();
-            is(service.name + ": " + report.failed().size(), service.name + ": 1");
-            has(report.failed().get(0).why(), service.why);
-            is(report.orders() <= MOST_ORDERS, true);
-            Report again = service.orders().row(report.failed().get(0).row()).run();
-            is(again.orders(), 1);
-            is(again.failed().get(0).why(), report.failed().get(0).why());
-            is(again.failed().get(0).row(), report.failed().get(0).row());
-        }
-        is(Services.FAULTY.size(), 20);
+        Services.ALL.areFound(20, MOST_ORDERS);
     }
 
     public static void soundServices() {
-        for (Services.Service service : Services.SOUND) {
-            Report report = service.orders().run();
-            is(service.name + ": " + report.failed(), service.name + ": []");
-            is(service.name + ": " + report.whole(), service.name + ": true");
-        }
-        is(Services.SOUND.size(), 20);
+        Services.ALL.areSound(100_000);
     }
 
     // What a failure tells.
@@ -137,16 +109,16 @@ public final class OrdersTest {
         } catch (AssertionError error) {
             is(error.getCause().getMessage(), "x");
         }
-        has(thrown(() -> Services.sound("overdrawn").orders().most(2).whole().check()), "which aren't all");
+        has(thrown(() -> Services.ALL.sound("overdrawn").orders().most(2).whole().check()), "which aren't all");
     }
 
     // Bounds.
 
     public static void bounds() {
-        Report most = Services.sound("overdrawn").orders().most(5).run();
+        Report most = Services.ALL.sound("overdrawn").orders().most(5).run();
         is(most.orders() + most.cut() <= 5, true);
         is(most.whole(), false);
-        Report seconds = Services.sound("overdrawn").orders().seconds(0).run();
+        Report seconds = Services.ALL.sound("overdrawn").orders().seconds(0).run();
         is(seconds.orders(), 0);
         is(seconds.whole(), false);
     }
@@ -154,7 +126,7 @@ public final class OrdersTest {
     public static void byChance() {
         List<List<String>> rows = new ArrayList<>();
         for (int seed : new int[] {1, 1, 2}) {
-            rows.add(Services.faulty("overdrawn").orders().chance(50, seed).failures(50).asFound().run().failed().stream().map(Failure::row)
+            rows.add(Services.ALL.faulty("overdrawn").orders().chance(50, seed).failures(50).asFound().run().failed().stream().map(Failure::row)
                     .collect(Collectors.toList()));
         }
         is(rows.get(0), rows.get(1));
@@ -325,7 +297,7 @@ public final class OrdersTest {
             is(whys(report), whys(all));
             is(all.ends().size() + " " + whys(all).size(), "1 1");
         }
-        Report many = everyFailure(Services.faulty("overdrawn").orders().unreduced());
+        Report many = everyFailure(Services.ALL.faulty("overdrawn").orders().unreduced());
         is(many.whole(), true);
         is(many.orders() > 100 && many.failed().size() > 1, true);
     }

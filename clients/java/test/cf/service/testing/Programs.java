@@ -4,10 +4,8 @@ import cf.service.Request;
 import cf.service.Stage;
 import java.util.ArrayList;
 import java.util.Arrays;
-import java.util.HashSet;
 import java.util.List;
 import java.util.Random;
-import java.util.Set;
 import java.util.concurrent.CompletionException;
 import java.util.concurrent.TimeUnit;
 import java.util.concurrent.TimeoutException;
@@ -18,7 +16,7 @@ import java.util.function.Supplier;
  * drawn once, so that each run does the same.
  */
 public final class Programs {
-    private static final int SHARED = 3, SECONDS = 60;
+    private static final int SHARED = 3;
     private static final String[] KINDS = {"set", "add", "read", "none", "complete", "cancel", "fail", "done", "attach", "now", "wait"};
     private static final String[] FORMS = {"supply", "promise", "adopt", "apply", "handle", "exceptionally", "combine", "either", "allOf", "anyOf", "compose", "copy"};
 
@@ -90,6 +88,10 @@ public final class Programs {
                     random.nextInt(Math.max(stages, 1))));
         }
         return acts;
+    }
+
+    private Supplier<String> begin(World world) {
+        return new Now(world)::end;
     }
 
     /** One run of it. */
@@ -231,45 +233,8 @@ public final class Programs {
         }
     }
 
-    private static Report report(Programs program, boolean isReduced, int most) {
-        Now[] now = new Now[1];
-        Orders orders = Orders.of(world -> now[0] = program.new Now(world)).failures(Integer.MAX_VALUE).asFound().seconds(SECONDS).most(most)
-                .ends(world -> now[0].end());
-        return (isReduced ? orders : orders.unreduced()).run();
-    }
-
-    private static Set<String> whys(Report report) {
-        Set<String> whys = new HashSet<>();
-        report.failed().forEach(failure -> whys.add(failure.why()));
-        return whys;
-    }
-
-    /** Compares the programs of so many seeds from the first one on, of at most so many orders: FIRST COUNT MOST. */
+    /** FIRST COUNT MOST, as of {@link Compared#main}. */
     public static void main(String[] args) {
-        int first = Integer.parseInt(args[0]), count = Integer.parseInt(args[1]), most = Integer.parseInt(args[2]);
-        long plainOrders = 0, tried = 0;
-        int programs = 0, tooLarge = 0, wrong = 0;
-        for (int seed = first; seed < first + count; seed++) {
-            Programs program = new Programs(seed);
-            Report plain = report(program, false, most);
-            if (!plain.whole()) {
-                tooLarge++;
-                continue;
-            }
-            Report reduced = report(program, true, 2 * most);
-            programs++;
-            plainOrders += plain.orders();
-            tried += reduced.orders() + reduced.cut();
-            if (!plain.ends().keySet().equals(reduced.ends().keySet()) || !whys(plain).equals(whys(reduced)) || !reduced.whole()) {
-                wrong++;
-                Set<Object> missed = new HashSet<>(plain.ends().keySet());
-                missed.removeAll(reduced.ends().keySet());
-                System.out.println("program " + seed + ": " + plain.ends().size() + " ends and " + whys(plain) + ", and with orders left out "
-                        + reduced.ends().size() + " and " + whys(reduced) + (reduced.whole() ? "" : ", not whole") + "; missed " + missed);
-            }
-        }
-        System.out.println(programs + " programs of " + plainOrders + " orders have the same ends in " + tried + " runs; " + tooLarge + " were too large; "
-                + wrong + " otherwise");
-        System.exit(wrong == 0 ? 0 : 1);
+        Compared.main("programs", false, args, seed -> new Programs(seed)::begin);
     }
 }

@@ -13,35 +13,31 @@ import java.util.HashSet;
 import java.util.List;
 import java.util.Map;
 import java.util.Set;
-import java.util.function.UnaryOperator;
 
-/**
- * Twenty services with a fault of order, and the same twenty without it. {@link #FAULTY} has what is told where each fails. Eighteen are those of
- * the kit for Python, which has two on a loop; here two pass a stage between pools instead.
- */
+/** Twenty services. Eighteen are those of the kit for Python, which has two on a loop; here two pass a stage between pools instead. */
 final class Services {
-    static final String DEADLOCK = "deadlock";
-    static final List<Service> FAULTY = new ArrayList<>(), SOUND = new ArrayList<>();
-
-    /** A test, by its name. */
-    static final class Service {
-        final String name;
-        final Scenario scenario;
-        /** What is told where it fails. */
-        final String why;
-        final UnaryOperator<Orders> options;
-
-        Service(String name, Scenario scenario, String why, UnaryOperator<Orders> options) {
-            this.name = name;
-            this.scenario = scenario;
-            this.why = why;
-            this.options = options;
-        }
-
-        Orders orders() {
-            return options.apply(Orders.of(scenario).seconds(60));
-        }
-    }
+    private static final String DEADLOCK = "deadlock";
+    static final Planted ALL = new Planted()
+            .with("charged twice", Services::charged, "charged at most once")
+            .with("a loser that keeps its connection", Services::hedged, "no connection is left")
+            .with("a stale cache", Services::cached, "the cache isn't stale")
+            .with("cancelled and shipped", Services::shipped, "what is told to be cancelled isn't shipped")
+            .with("a lost count", Services::counted, "both are counted")
+            .with("a lost wake", Services::woken, "a reader that waits is woken")
+            .with("closed by the winner", Services::closed, "the file is closed")
+            .with("locks in opposite orders", Services::locked, DEADLOCK)
+            .with("a wait in a pool of one", Services::pooled, DEADLOCK, orders -> orders.workers(1))
+            .with("told otherwise than written", Services::defaulted, "what is told is what is written")
+            .with("the failure that comes first", Services::replicated, "one good answer is enough")
+            .with("half written", Services::booked, "both are written or none")
+            .with("made twice", Services::made, "one is made")
+            .with("an older message overwrites", Services::stored, "the last message stands")
+            .with("overdrawn", Services::withdrawn, "never overdrawn")
+            .with("told after its end", Services::listened, "told after its end")
+            .with("a lost update behind an answer", Services::added, "both are added")
+            .with("never released", Services::released, "it is released")
+            .with("refunded before the charge", Services::refunded, "what isn't paid is refunded")
+            .with("handled twice", Services::delivered, "handled once");
 
     /** What fails. */
     static final class Outage extends RuntimeException {
@@ -52,51 +48,7 @@ final class Services {
         }
     }
 
-    private interface Either {
-        void run(World world, boolean isSound);
-    }
-
-    static {
-        both("charged twice", Services::charged, "charged at most once");
-        both("a loser that keeps its connection", Services::hedged, "no connection is left");
-        both("a stale cache", Services::cached, "the cache isn't stale");
-        both("cancelled and shipped", Services::shipped, "what is told to be cancelled isn't shipped");
-        both("a lost count", Services::counted, "both are counted");
-        both("a lost wake", Services::woken, "a reader that waits is woken");
-        both("closed by the winner", Services::closed, "the file is closed");
-        both("locks in opposite orders", Services::locked, DEADLOCK);
-        both("a wait in a pool of one", Services::pooled, DEADLOCK, orders -> orders.workers(1));
-        both("told otherwise than written", Services::defaulted, "what is told is what is written");
-        both("the failure that comes first", Services::replicated, "one good answer is enough");
-        both("half written", Services::booked, "both are written or none");
-        both("made twice", Services::made, "one is made");
-        both("an older message overwrites", Services::stored, "the last message stands");
-        both("overdrawn", Services::withdrawn, "never overdrawn");
-        both("told after its end", Services::listened, "told after its end");
-        both("a lost update behind an answer", Services::added, "both are added");
-        both("never released", Services::released, "it is released");
-        both("refunded before the charge", Services::refunded, "what isn't paid is refunded");
-        both("handled twice", Services::delivered, "handled once");
-    }
-
     private Services() {}
-
-    private static void both(String name, Either either, String why) {
-        both(name, either, why, UnaryOperator.identity());
-    }
-
-    private static void both(String name, Either either, String why, UnaryOperator<Orders> options) {
-        FAULTY.add(new Service(name, world -> either.run(world, false), why, options));
-        SOUND.add(new Service(name + ", mended", world -> either.run(world, true), null, options));
-    }
-
-    static Service faulty(String name) {
-        return FAULTY.stream().filter(it -> it.name.equals(name)).findFirst().get();
-    }
-
-    static Service sound(String name) {
-        return SOUND.stream().filter(it -> it.name.equals(name + ", mended")).findFirst().get();
-    }
 
     /** A payment that takes too long is tried again. */
     static void charged(World world, boolean byKey) {

@@ -1,12 +1,21 @@
 package cf.service.testing;
 
+import cf.service.Checks;
 import cf.service.Store;
 import cf.service.testing.Answer.Bound;
+import java.sql.Connection;
+import java.sql.SQLException;
+import java.sql.Statement;
+import java.util.HashMap;
 import java.util.HashSet;
+import java.util.Map;
 import java.util.Set;
 
 /** What has to hold of a store in all orders, whatever goes wrong. */
 final class StoredChecks {
+    /** With what the name of a transactional function ends. */
+    static final String WRITES = " by connection";
+
     private StoredChecks() {}
 
     /** Lets one thing go wrong once. */
@@ -32,6 +41,28 @@ final class StoredChecks {
             }
         }
         return store.answered().stream().allMatch(it -> store.rows.memory.read(it.request()).get(it.place() - 1).word() == it.word());
+    }
+
+    /** What a transactional function does: its effect is its name. */
+    static Object write(Connection connection, String function) throws SQLException {
+        try (Statement insert = connection.createStatement()) {
+            return insert.executeUpdate(function);
+        }
+    }
+
+    /** Whether each effect stands exactly where the finish of a stage of its function has settled that. */
+    static boolean effectsStand(WorldStore store) {
+        Map<String, Integer> effects = new HashMap<>();
+        store.effects().forEach(effect -> effects.merge(effect.sql(), 1, Integer::sum));
+        for (String name : store.rows.names) {
+            for (int stage : Checks.finished(store.rows.memory.read(name))) {
+                String function = store.rows.name(name, stage).replaceAll("( again)*$", "");
+                if (function.endsWith(WRITES)) {
+                    effects.merge(function, -1, Integer::sum);
+                }
+            }
+        }
+        return effects.values().stream().allMatch(left -> left == 0);
     }
 
     /** Whether no claim is granted twice. */

@@ -1,12 +1,22 @@
 package cf.service.testing;
 
+import static cf.service.Checks.fits;
+import static cf.service.Checks.has;
+import static cf.service.Checks.is;
+import static cf.service.testing.Planted.SECONDS_ENOUGH;
 import static java.util.concurrent.TimeUnit.SECONDS;
 
 import cf.service.Functions;
+import cf.service.RequestHistory;
 import cf.service.StoreException;
 import cf.service.StoredRequest;
 import cf.service.StoredStage;
 import cf.service.testing.Answer.Bound;
+import java.sql.Connection;
+import java.sql.PreparedStatement;
+import java.sql.SQLException;
+import java.sql.Statement;
+import java.sql.Types;
 import java.util.ArrayList;
 import java.util.Arrays;
 import java.util.Collection;
@@ -15,7 +25,6 @@ import java.util.HashMap;
 import java.util.HashSet;
 import java.util.List;
 import java.util.Map;
-import java.util.Objects;
 import java.util.Set;
 import java.util.TreeSet;
 import java.util.concurrent.TimeoutException;
@@ -25,23 +34,11 @@ import java.util.stream.Collectors;
 
 /** What does the kit find in services over a store, what may go wrong there, and what does it say of {@code StoreService}? */
 public final class StoredOrdersTest {
-    private static final int SECONDS_ENOUGH = 600, MOST = 500;
+    private static final int MOST = 500;
     /** By which each planted fault has to be found: so many are tried in a tenth of a second. */
     private static final int MOST_TO_FIND = 20;
 
     private StoredOrdersTest() {}
-
-    private static void is(Object found, Object wanted) {
-        if (!Objects.equals(found, wanted)) {
-            throw new AssertionError(found + " and not " + wanted);
-        }
-    }
-
-    private static void has(String text, String part) {
-        if (!text.contains(part)) {
-            throw new AssertionError(text + " hasn't " + part);
-        }
-    }
 
     @SafeVarargs
     private static <T> Set<T> set(T... of) {
@@ -52,13 +49,8 @@ public final class StoredOrdersTest {
         return Orders.of(scenario).seconds(SECONDS_ENOUGH).most(MOST);
     }
 
-    private static void isSound(String name, Report report) {
-        is(name + ": " + report.failed(), name + ": []");
-        is(name + ": " + report.whole(), name + ": true");
-    }
-
     private static void isSound(Scenario scenario) {
-        isSound("it", enough(scenario).run());
+        Planted.isSound("it", enough(scenario).run());
     }
 
     private static String why(Scenario scenario) {
@@ -70,7 +62,7 @@ public final class StoredOrdersTest {
     private static Set<Object> ends(Function<World, Object[]> test, Function<Object[], Object> end) {
         Object[][] made = new Object[1][];
         Report report = enough(world -> made[0] = test.apply(world)).ends(world -> end.apply(made[0])).run();
-        isSound("it", report);
+        Planted.isSound("it", report);
         return report.ends().keySet();
     }
 
@@ -79,30 +71,17 @@ public final class StoredOrdersTest {
     }
 
     private static Failure failure(String name) {
-        return StoredServices.FAULTY.stream().filter(it -> it.name.equals(name)).findFirst().get().orders().seconds(SECONDS_ENOUGH).run().failed().get(0);
+        return StoredServices.ALL.faulty(name).orders().run().failed().get(0);
     }
 
     // Services.
 
     public static void plantedFaults() {
-        for (Services.Service service : StoredServices.FAULTY) {
-            Report report = service.orders().seconds(SECONDS_ENOUGH).run();
-            is(service.name + ": " + report.failed().size(), service.name + ": 1");
-            is(report.failed().get(0).why(), service.why);
-            is(service.name + ": " + (report.orders() <= MOST_TO_FIND), service.name + ": true");
-            Report again = service.orders().row(report.failed().get(0).row()).run();
-            is(again.orders(), 1);
-            is(again.failed().get(0).why(), report.failed().get(0).why());
-            is(again.failed().get(0).row(), report.failed().get(0).row());
-        }
-        is(StoredServices.FAULTY.size(), 11);
+        StoredServices.ALL.areFound(12, MOST_TO_FIND);
     }
 
     public static void soundServices() {
-        for (Services.Service service : StoredServices.SOUND) {
-            isSound(service.name, service.orders().seconds(SECONDS_ENOUGH).most(MOST).run());
-        }
-        is(StoredServices.SOUND.size(), 11);
+        StoredServices.ALL.areSound(MOST);
     }
 
     // What a failure tells.
@@ -116,6 +95,32 @@ public final class StoredOrdersTest {
         has(failure.toString(), "It is so if 4 (worker 1 is killed) comes before 3 (worker 1 calls charge).");
         is(texts(failure("own word for another's")).contains(
                 "a client puts to lock: owner is completed; it stands, and the store is silent for a minute"), true);
+    }
+
+    /** A failure has the histories of requests in memory, then of those in the store, by all words that stand there. */
+    public static void histories() throws Exception {
+        Failure failure = failure("charged again");
+        is(failure.histories().size(), 1);
+        is(failure.account(), failure.histories().get(0).account());
+        fits(failure.account());
+        String gone = " Abandoned: the worker that ran charge is gone, and it may...";
+        is(failure.histories().get(0).toString().replaceAll("(?m)^ +", ""), String.join("\n", "order 17: 5 events, 2 stages",
+                "the shop attaches 0 charge, supply", "the shop attaches 1 charge again, exceptionally behind 0 charge",
+                "worker 1 claims 0 charge and calls it", "worker 2 fails 0 charge with" + gone, "0 charge ends:" + gone,
+                "worker 2 claims 1 charge again and calls it with" + gone, ""));
+        Failure both = enough(world -> {
+            Functions functions = new Functions().with("load", 1, () -> 5);
+            world.store().worker("one", functions).request("in the store").supply("load");
+            world.service().request("in memory").promise();
+            world.atEnd(() -> false, "it fails");
+        }).run().failed().get(0);
+        is(both.histories().stream().map(it -> it.line().split(":")[0]).collect(Collectors.toList()), Arrays.asList("in memory", "in the store"));
+        for (RequestHistory history : both.histories()) {
+            fits(history.account());
+        }
+        for (String name : Arrays.asList("goes on without its claim", "done elsewhere", "own word for another's", "told before it came")) {
+            fits(failure(name).account());
+        }
     }
 
     // What each bound lets go wrong.
@@ -204,7 +209,7 @@ public final class StoredOrdersTest {
             world.calls("another", () -> its.add("seen " + store.isSettled("order", "promise")));
         };
         Report report = enough(test).ends(world -> String.valueOf(log[0])).run();
-        isSound("it", report);
+        Planted.isSound("it", report);
         is(report.ends().keySet(), set("[seen false, told true]", "[seen true, told true]", "[told true, seen true]"));
         is(enough(test).unreduced().ends(world -> String.valueOf(log[0])).run().ends().keySet(), report.ends().keySet());
     }
@@ -340,30 +345,179 @@ public final class StoredOrdersTest {
         }, made -> made[0].toString()), set("[yes, told true]", "[told true, yes]"));
     }
 
+    // Transactional functions.
+
+    private static Object write(Connection connection, Object what) throws SQLException {
+        try (Statement insert = connection.createStatement()) {
+            return insert.executeUpdate("insert " + what);
+        }
+    }
+
+    /** What a transactional function comes to in all orders, with its effects. */
+    private static Set<Object> written(Consumer<WorldStore> faults) {
+        return ends(world -> {
+            Functions functions = new Functions().transactional("write", 1, (connection, args) -> write(connection, args.get(0)));
+            WorldStore store = world.store();
+            faults.accept(store);
+            store.worker("one", functions);
+            store.process("shop", functions).workers(0).request("order").supply("write", 17);
+            return new Object[] {store};
+        }, made -> ((WorldStore) made[0]).outcomes().get(0).substring(0, 20) + " " + ((WorldStore) made[0]).effects());
+    }
+
+    /** The effect stands where the finish does, and only there. */
+    public static void transactions() {
+        String done = "order: write ends: 1 [insert 17]", abandoned = "order: write ends: A []", open = "order: write is open []";
+        for (Consumer<WorldStore> faults : Arrays.<Consumer<WorldStore>>asList(store -> {}, store -> store.lost(1), store -> store.unanswered(1),
+                store -> store.late(1), store -> store.silent(1))) {
+            is(written(faults), set(done));
+        }
+        is(written(store -> store.killed(1)), set(done, abandoned, open));
+        is(written(store -> store.slow(1)), set(done, abandoned));
+        is(written(store -> {
+            store.killed(1).late(1);
+            store.process("two").takesAll();
+        }), set(done, abandoned, open));
+        is(ends(world -> {
+            Functions functions = new Functions().transactional("write", 1, (connection, args) -> {
+                write(connection, 17);
+                throw new IllegalStateException("x");
+            });
+            WorldStore store = world.store().unanswered(1);
+            store.worker("one", functions).request("order").supply("write");
+            return new Object[] {store};
+        }, made -> ((WorldStore) made[0]).outcomes() + " " + ((WorldStore) made[0]).effects()), set("[order: write ends: IllegalStateException: x] []"));
+    }
+
+    /** A commit that is on its way keeps its place, so it comes before all others' puts, also where its process is killed meanwhile. */
+    public static void lateCommits() {
+        List<Failure> all = enough(world -> {
+            Functions functions = new Functions().transactional(WRITE, 1, (connection, args) -> StoredChecks.write(connection, WRITE));
+            WorldStore store = world.store().late(1).killed(1);
+            store.worker("one", functions).request("order").supply(WRITE);
+            store.worker("two", functions);
+            world.atEnd(() -> StoredChecks.effectsStand(store), "effects stand where their finishes do");
+            world.atEnd(() -> false, "each order is looked at");
+        }).asFound().failures(MOST).run().failed();
+        String commits = "one commits, and puts to order: write by connection is finished; it is on its way, and no answer comes";
+        String comes = "the commit that was on its way comes: puts to order: write by connection is finished";
+        List<List<String>> late = all.stream().map(StoredOrdersTest::texts).filter(told -> told.contains(commits)).collect(Collectors.toList());
+        is(late.stream().allMatch(told -> told.contains(comes)), true);
+        is(late.stream().anyMatch(told -> told.contains("two takes one for gone") && told.indexOf("one is killed") < told.indexOf(comes)), true);
+        is(all.stream().map(Failure::why).collect(Collectors.toSet()), set("each order is looked at"));
+    }
+
+    /** While a transaction has its place, others wait with their puts to its request. */
+    public static void places() {
+        isSound(world -> {
+            List<String> log = new ArrayList<>();
+            Functions functions = new Functions().transactional("write", 1, (connection, args) -> {
+                log.add("behind the promise: " + world.store().isSettled("order", "promise"));
+                return write(connection, 17);
+            });
+            WorldStore store = world.store();
+            store.worker("one", functions);
+            StoreProcess shop = store.process("shop", functions).workers(0);
+            StoredRequest request = shop.request("order");
+            request.supply("write");
+            StoredStage promise = request.promise("promise");
+            shop.calls("client", () -> promise.complete(7));
+            world.check(() -> !log.contains("behind the promise: false") || !store.isSettled("order", "promise") || store.effects().size() == 1,
+                    "nobody puts between the call and the commit");
+            world.atEnd(() -> store.effects().size() == 1, "it is written once");
+        });
+        for (boolean ofProcess : new boolean[] {true, false}) {
+            is(ends(world -> {
+                Functions functions = new Functions().transactional(WRITE, 1, (connection, args) -> StoredChecks.write(connection, WRITE));
+                WorldStore store = world.store().pure(WRITE);
+                store.worker("one", functions);
+                StoreProcess shop = store.process("shop", functions).workers(0);
+                StoredStage stage = shop.request("order").supply(WRITE);
+                if (ofProcess) {
+                    shop.calls("client", stage::cancel);
+                } else {
+                    world.calls("client", stage::cancel);
+                }
+                return new Object[] {store};
+            }, made -> ((WorldStore) made[0]).outcomes() + " " + ((WorldStore) made[0]).effects()), set(
+                    "[order: write by connection ends: 1] [write by connection]", "[order: write by connection is cancelled] []"));
+        }
+    }
+
+    /** What the connection of a world does, which has no database. */
+    public static void connections() {
+        List<Object> told = new ArrayList<>();
+        isSound(world -> {
+            told.clear();
+            Functions functions = new Functions().transactional("write", 1, (connection, args) -> {
+                try (Statement plain = connection.createStatement(); PreparedStatement insert = connection.prepareStatement("insert into a values (?, ?, ?)")) {
+                    told.add(plain.execute("delete from a"));
+                    insert.setLong(1, 5);
+                    insert.setNull(2, Types.VARCHAR);
+                    insert.setString(3, "x");
+                    told.add(insert.executeLargeUpdate());
+                    insert.clearParameters();
+                    insert.setObject(2, 7L);
+                    told.add(insert.executeUpdate());
+                    for (Refused refused : Arrays.<Refused>asList(connection::commit, () -> plain.executeQuery("select 1"), insert::executeQuery,
+                            connection::getMetaData)) {
+                        told.add(refused(refused));
+                    }
+                }
+                return null;
+            });
+            WorldStore store = world.store();
+            store.worker("one", functions).request("order").supply("write");
+            world.atEnd(() -> store.effects().toString().equals("[delete from a, insert into a values (?, ?, ?) [5, null, x], insert into a values (?, ?, ?) [null, 7]]"),
+                    "all is told");
+        });
+        is(told, Arrays.asList(false, 1L, 1, "the finish of a transactional function ends its transaction, and not commit",
+                "a world's store has no database, so its Statement only writes, and has no executeQuery",
+                "a world's store has no database, so its PreparedStatement only writes, and has no executeQuery",
+                "a world's store has no database, so its Connection only writes, and has no getMetaData"));
+    }
+
+    private interface Refused {
+        void run() throws SQLException;
+    }
+
+    private static String refused(Refused call) {
+        try {
+            call.run();
+        } catch (SQLException refused) {
+            return refused.getMessage();
+        }
+        throw new AssertionError("it isn't refused");
+    }
+
     // What StoreService promises, over small plans, whatever goes wrong once.
 
     private interface Plan {
         void of(StoredRequest request);
     }
 
+    private static final String WRITE = "write" + StoredChecks.WRITES;
     private static final Map<String, Plan> PLANS = new HashMap<>();
 
     static {
         PLANS.put("one stage", request -> request.supply("load"));
         PLANS.put("two in a row", request -> request.supply("load").then("next"));
         PLANS.put("again", request -> request.supply("load").again(1));
+        PLANS.put("transactional", request -> request.supply(WRITE));
     }
 
     /** A small plan that a worker or two run. */
     private static WorldStore small(World world, String plan, int workers, Bound fault) {
-        Functions functions = new Functions().with("load", 1, () -> 1).with("next", 1, number -> 1);
-        WorldStore store = world.store().pure("load").pure("next");
+        Functions functions = new Functions().with("load", 1, () -> 1).with("next", 1, number -> 1)
+                .transactional(WRITE, 1, (connection, args) -> StoredChecks.write(connection, WRITE));
+        WorldStore store = world.store().pure("load").pure("next").pure(WRITE);
         StoredChecks.with(store, fault);
         StoreProcess one = store.worker("one", functions);
         store.worker("two", functions).workers(workers - 1);
         PLANS.get(plan).of(one.request("order"));
         world.atEnd(() -> StoredChecks.grantedOnce(store), "no claim is granted twice");
         world.atEnd(() -> StoredChecks.standsOnce(store), "a put stands once or never, and where its process was told");
+        world.atEnd(() -> StoredChecks.effectsStand(store), "effects stand where their finishes do");
         world.atEnd(() -> one.isDead && workers == 1 || store.rows.reader("order").isDone(sessions(store)), "all stages are settled");
         return store;
     }
@@ -373,10 +527,10 @@ public final class StoredOrdersTest {
     }
 
     public static void promises() {
-        for (String plan : Arrays.asList("one stage", "again", "two in a row")) {
+        for (String plan : Arrays.asList("one stage", "again", "transactional", "two in a row")) {
             for (Bound fault : Bound.values()) {
                 if (!plan.equals("two in a row") || fault == Bound.KILLED || fault == Bound.UNANSWERED) {
-                    isSound(plan + ", " + fault, enough(world -> small(world, plan, 2, fault)).run());
+                    Planted.isSound(plan + ", " + fault, enough(world -> small(world, plan, 2, fault)).run());
                 }
             }
         }
@@ -400,7 +554,7 @@ public final class StoredOrdersTest {
             one.request("first").supply("load", 1);
             two.request("second").supply("load", 2);
         }).ends(world -> String.valueOf(log[0])).run();
-        isSound("both orders", report);
+        Planted.isSound("both orders", report);
         is(report.ends().keySet(), set("[1, 2]", "[2, 1]"));
         is(report.orders() + report.cut() < 6, true);
     }
@@ -418,9 +572,8 @@ public final class StoredOrdersTest {
     }
 
     public static void byChance() {
-        for (String name : Arrays.asList("own word for another's", "charged again")) {
-            Services.Service service = StoredServices.FAULTY.stream().filter(it -> it.name.equals(name)).findFirst().get();
-            is(name + service.orders().seconds(SECONDS_ENOUGH).chance(500, 3).run().failed().isEmpty(), name + "false");
+        for (String name : Arrays.asList("own word for another's", "done elsewhere", "charged again")) {
+            is(name + StoredServices.ALL.faulty(name).orders().chance(500, 3).run().failed().isEmpty(), name + "false");
         }
     }
 }

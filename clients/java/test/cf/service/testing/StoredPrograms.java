@@ -7,21 +7,20 @@ import cf.service.StoredStage;
 import cf.service.testing.Answer.Bound;
 import java.util.ArrayList;
 import java.util.Arrays;
-import java.util.HashSet;
 import java.util.List;
 import java.util.Random;
-import java.util.Set;
 import java.util.concurrent.CancellationException;
 import java.util.concurrent.ExecutionException;
 import java.util.concurrent.TimeUnit;
 import java.util.concurrent.TimeoutException;
+import java.util.function.Supplier;
 
 /**
  * Random programs over a store, which the kit has to bring to the same ends with and without what it leaves out. In each of their orders no claim
  * may be granted twice, and each put stands as its process was told.
  */
 public final class StoredPrograms {
-    private static final int SHARED = 2, SECONDS = 60;
+    private static final int SHARED = 2;
 
     private final Random random;
     private final int workers;
@@ -52,7 +51,8 @@ public final class StoredPrograms {
             acts.add(new Act(one("set", "add", "copy", "throw", "none"), random.nextInt(SHARED), one("", "", "pure", "touches")));
         }
         for (int k = one(1, 1, 2), n = 0; n < k; n++) {
-            String kind = n == 0 ? one("supply", "supply", "promise") : one("supply", "promise", "then", "handle", "again", "combine", "recover");
+            String kind = n == 0 ? one("supply", "supply", "write", "promise")
+                    : one("supply", "promise", "then", "handle", "again", "combine", "recover", "compose", "write", "write then");
             stages.add(new Object[] {kind, random.nextInt(2), random.nextInt(Math.max(n, 1))});
         }
         for (int k = one(0, 1, 1); k > 0; k--) {
@@ -68,10 +68,15 @@ public final class StoredPrograms {
         return of[random.nextInt(of.length)];
     }
 
+    private Supplier<String> begin(World world) {
+        return new Now(world)::end;
+    }
+
     /** One run of it. */
     private final class Now {
         private final int[] shared = new int[SHARED];
-        private final List<Object> log = new ArrayList<>();
+        /** What clients were told; what functions have done that touch nothing else. */
+        private final List<Object> log = new ArrayList<>(), marked = new ArrayList<>();
         private final List<StoredStage> made = new ArrayList<>();
         private final WorldStore store;
         private final StoreProcess shop;
@@ -82,12 +87,21 @@ public final class StoredPrograms {
             for (int k = 0; k < acts.size(); k++) {
                 Act act = acts.get(k);
                 String name = "f" + k;
+                String composes = name + " of a request", writes = name + StoredChecks.WRITES;
                 functions.with(name, 1, () -> called(act, 0)).with(name + " of one", 1, a -> called(act, 1)).with(name + " of two", 1, (a, b) -> called(act, 2));
-                for (String each : Arrays.asList(name, name + " of one", name + " of two")) {
+                functions.composing(composes, 1, (request, a) -> {
+                    called(act, 1);
+                    return request.supply(name);
+                });
+                functions.transactional(writes, 1, (connection, args) -> {
+                    StoredChecks.write(connection, writes);
+                    return called(act, args.size());
+                });
+                for (String each : Arrays.asList(name, name + " of one", name + " of two", composes, writes)) {
                     if (act.mark.equals("pure")) {
                         store.pure(each);
                     } else if (act.mark.equals("touches")) {
-                        store.touches(each, "log");
+                        store.touches(each, "marked");
                     }
                 }
             }
@@ -108,6 +122,7 @@ public final class StoredPrograms {
                 world.check(() -> shared[check] < 2 || !made.get(0).isDone(), "checked");
             }
             world.atEnd(() -> StoredChecks.grantedOnce(store) && StoredChecks.standsOnce(store), "no claim twice, no word twice, each as it was told");
+            world.atEnd(() -> StoredChecks.effectsStand(store), "effects stand where their finishes do");
         }
 
         private Object called(Act act, int given) {
@@ -115,7 +130,7 @@ public final class StoredPrograms {
                 return given;
             }
             if (act.mark.equals("touches")) {
-                return log.add(given);
+                return marked.add(given);
             }
             int[] its = shared;
             switch (act.kind) {
@@ -137,6 +152,9 @@ public final class StoredPrograms {
             switch (kind) {
                 case "promise": return request.promise("promise");
                 case "supply": return request.supply(function);
+                case "write": return request.supply(function + StoredChecks.WRITES);
+                case "write then": return made.get(of).then(function + StoredChecks.WRITES);
+                case "compose": return made.get(of).compose(function + " of a request");
                 case "then": return made.get(of).then(function + " of one");
                 case "handle": return made.get(of).handle(function + " of two");
                 case "again": return made.get(of).again(1);
@@ -165,49 +183,12 @@ public final class StoredPrograms {
         }
 
         String end() {
-            return store.outcomes() + Arrays.toString(shared) + log;
+            return store.outcomes() + Arrays.toString(shared) + log + marked + store.effects();
         }
     }
 
-    private static Report report(StoredPrograms program, boolean isReduced, int most) {
-        Now[] now = new Now[1];
-        Orders orders = Orders.of(world -> now[0] = program.new Now(world)).asFound().seconds(SECONDS).most(most).ends(world -> now[0].end());
-        return (isReduced ? orders : orders.unreduced()).run();
-    }
-
-    private static Set<String> whys(Report report) {
-        Set<String> whys = new HashSet<>();
-        report.failed().forEach(failure -> whys.add(failure.why()));
-        return whys;
-    }
-
-    /** Compares the programs of so many seeds from the first one on, of at most so many orders: FIRST COUNT MOST. */
+    /** FIRST COUNT MOST, as of {@link Compared#main}. */
     public static void main(String[] args) {
-        int first = Integer.parseInt(args[0]), count = Integer.parseInt(args[1]), most = Integer.parseInt(args[2]);
-        long plainOrders = 0, tried = 0;
-        int programs = 0, tooLarge = 0, wrong = 0;
-        for (int seed = first; seed < first + count; seed++) {
-            StoredPrograms program = new StoredPrograms(seed);
-            Report plain = report(program, false, most);
-            if (!plain.whole() && plain.failed().isEmpty()) {
-                tooLarge++;
-                continue;
-            }
-            Report reduced = report(program, true, Integer.MAX_VALUE);
-            programs++;
-            plainOrders += plain.orders();
-            tried += reduced.orders() + reduced.cut();
-            boolean isAlike = whys(plain).equals(whys(reduced)) && (!plain.failed().isEmpty() || plain.ends().keySet().equals(reduced.ends().keySet()));
-            if (!isAlike || reduced.failed().isEmpty() && !reduced.whole()) {
-                wrong++;
-                Set<Object> missed = new HashSet<>(plain.ends().keySet());
-                missed.removeAll(reduced.ends().keySet());
-                System.out.println("program " + seed + " over a store: " + plain.ends().size() + " ends and " + whys(plain) + ", and with orders left out "
-                        + reduced.ends().size() + " and " + whys(reduced) + (reduced.whole() ? "" : ", not whole") + "; missed " + missed);
-            }
-        }
-        System.out.println(programs + " programs over a store of " + plainOrders + " orders have the same ends in " + tried + " runs; " + tooLarge
-                + " were too large; " + wrong + " otherwise");
-        System.exit(wrong == 0 ? 0 : 1);
+        Compared.main("programs over a store", true, args, seed -> new StoredPrograms(seed)::begin);
     }
 }

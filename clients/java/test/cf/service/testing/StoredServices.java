@@ -7,42 +7,31 @@ import cf.service.RemoteException;
 import cf.service.StoreException;
 import cf.service.StoredRequest;
 import cf.service.StoredStage;
+import java.sql.Connection;
+import java.sql.PreparedStatement;
+import java.sql.SQLException;
 import java.util.ArrayList;
 import java.util.Collections;
 import java.util.List;
 import java.util.function.Supplier;
 
-/**
- * Eleven services over a store with a fault of order, and the same eleven without it. {@link #FAULTY} has what is told where each fails. Nine are
- * those of the kit for Python; two of that have transactional functions.
- */
+/** Twelve services over a store. Eleven are those of the kit for Python. */
 final class StoredServices {
-    static final List<Services.Service> FAULTY = new ArrayList<>(), SOUND = new ArrayList<>();
-
-    private interface Either {
-        void run(World world, boolean isSound);
-    }
-
-    static {
-        both("charged again", StoredServices::chargedAgain, "charged at most once");
-        both("goes on without its claim", StoredServices::goesOn, "booked at most once");
-        both("told without an answer", StoredServices::toldUnanswered, "what is told to be approved is");
-        both("begun anew", StoredServices::begunAnew, "ordered at most once");
-        both("freed too early", StoredServices::freedTooEarly, "sold once");
-        both("charged behind its limit", StoredServices::chargedBehindLimit, "charged at most once");
-        both("own word for another's", StoredServices::ownWord, "nobody else has it");
-        both("asked by an old view", StoredServices::oldView, "ordered at one place");
-        both("abandoned and done", StoredServices::abandoned, "charged at most once");
-        both("withdrawn while it runs", StoredServices::withdrawn, "what is told to be withdrawn isn't sent");
-        both("told before it came", StoredServices::toldBefore, "what is told not to be cancelled isn't");
-    }
+    static final Planted ALL = new Planted()
+            .with("charged again", StoredServices::chargedAgain, "charged at most once")
+            .with("goes on without its claim", StoredServices::goesOn, "booked at most once")
+            .with("told without an answer", StoredServices::toldUnanswered, "what is told to be approved is")
+            .with("begun anew", StoredServices::begunAnew, "ordered at most once")
+            .with("freed too early", StoredServices::freedTooEarly, "sold once")
+            .with("charged behind its limit", StoredServices::chargedBehindLimit, "charged at most once")
+            .with("own word for another's", StoredServices::ownWord, "nobody else has it")
+            .with("asked by an old view", StoredServices::oldView, "ordered at one place")
+            .with("abandoned and done", StoredServices::abandoned, "charged at most once")
+            .with("done elsewhere", StoredServices::doneElsewhere, "exactly one mail")
+            .with("withdrawn while it runs", StoredServices::withdrawn, "what is told to be withdrawn isn't sent")
+            .with("told before it came", StoredServices::toldBefore, "what is told not to be cancelled isn't");
 
     private StoredServices() {}
-
-    private static void both(String name, Either either, String why) {
-        FAULTY.add(new Services.Service(name, world -> either.run(world, false), why, orders -> orders));
-        SOUND.add(new Services.Service(name, world -> either.run(world, true), why, orders -> orders));
-    }
 
     /** What a call is answered that may be asked again, whatever became of it before. */
     private static <T> T inTheEnd(Supplier<T> call) {
@@ -72,14 +61,22 @@ final class StoredServices {
     }
 
     /** A function goes on, though its process was taken for gone, and another has its place. */
-    private static void goesOn(World world, boolean byName) {
+    private static void goesOn(World world, boolean inTransaction) {
         List<Object> written = new ArrayList<>();
-        Functions functions = new Functions().with("book", 1, trip -> {
+        Functions functions = new Functions().with("book slowly", 1, () -> {
             world.point();
-            return byName && written.contains(trip) || written.add(trip);
-        });
-        shop(world.store().slow(1), functions, 1).request("trip").supply("book", "trip").again(1);
-        world.check(() -> written.size() <= 1, "booked at most once");
+            return written.add("booked");
+        }).transactional("book", 1, (connection, args) -> write(connection, "a booking"));
+        WorldStore store = world.store().slow(1);
+        shop(store, functions, 1).request("trip").supply(inTransaction ? "book" : "book slowly").again(1);
+        world.check(() -> (inTransaction ? store.effects() : written).size() <= 1, "booked at most once");
+    }
+
+    private static int write(Connection connection, String what) throws SQLException {
+        try (PreparedStatement insert = connection.prepareStatement("insert into written values (?)")) {
+            insert.setString(1, what);
+            return insert.executeUpdate();
+        }
     }
 
     /** A client tells an outcome whose put wasn't answered. */
@@ -215,6 +212,15 @@ final class StoredServices {
             }
         });
         world.atEnd(() -> told.isEmpty() || sent.isEmpty(), "what is told to be withdrawn isn't sent");
+    }
+
+    /** A transactional function is called again where its commit never came, and what it did elsewhere stands. */
+    private static void doneElsewhere(World world, boolean byConnection) {
+        List<String> mails = new ArrayList<>();
+        Functions functions = new Functions().transactional("write", 1, (connection, args) -> byConnection ? write(connection, "a mail") : mails.add("a mail"));
+        WorldStore store = world.store().lost(1).unanswered(1);
+        shop(store, functions, 1).request("order 17").supply("write");
+        world.atEnd(() -> (byConnection ? store.effects() : mails).size() == 1, "exactly one mail");
     }
 
     /** A put that was given up comes later. */
