@@ -1347,10 +1347,9 @@ uint32_t cf_row_abandon(cf_handle *view, uint64_t session, uint16_t from, uint32
 uint32_t cf_row_finish(cf_handle *view, const cf_task *task, uint64_t *word);
 
 /* Tells the lowest stage from the number `from` on that the view's session could claim next: one that is ready, or one
- * that is ready once what the task holds is finished. The latter waits for that stage alone, and a link makes none ready.
- * The claim is granted if it stands right behind the word of cf_row_finish, or if the task holds nothing and it stands
- * next. So a worker puts both words together. If your program can't call the stage's function, ask again from the next
- * number on.
+ * that is ready once what the task holds is finished. The latter waits for that stage alone. The claim is granted if it
+ * stands right behind the word of cf_row_finish, or if the task holds nothing and it stands next. So a worker puts both
+ * words together. If your program can't call the stage's function, ask again from the next number on.
  *   - task: as for cf_row_finish. It may hold nothing: then only ready stages are told.
  *
  * Code: CF_NOTHING if there is no such stage. */
