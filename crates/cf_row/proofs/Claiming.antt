@@ -11,7 +11,7 @@ use Rattle.cf_model.proofs.Stable.{landing-lower}
 use Rattle.cf_ledger.specs.declared.step.Held.{Held}
 use Rattle.cf_row.specs.declared.grants.Claim.{Claim}
 use Rattle.cf_row.specs.declared.next.Settling.{Settling}
-use Rattle.cf_row.specs.Next.{CanClaimIn, GoesOn, GoesOnAfter, Settles, settles_with}
+use Rattle.cf_row.specs.Next.{CanClaimIn, GoesOn, GoesOnAfter, Settles}
 
 pub can_by : (claims : List Claim) (s : State) (session : ℕ) (held : Option Held) (after : Option Settling) (i : ℕ) → Settles claims s session held after →
     (is_ready (stage_at s i) ≡ true) ⊎ GoesOnAfter s after i → CanClaimIn claims s session held i

@@ -1,9 +1,8 @@
 -- The claim that goes with a finish is granted.
-use Rattle.std.proofs.Common.{◌≡◌, ◌≢◌, ℕ, zero, suc, ◌+◌, ◌<◌, ◌⊎◌, inl, inr, Bool, true, false, cond, List, [], ◌∷◌, ◌++◌, length, length-set, map, set, take, refl, ap, sym, ◌∙◌, subst, arith}
+use Rattle.std.proofs.Common.{◌≡◌, ◌≢◌, ℕ, zero, suc, ◌<◌, ◌⊎◌, inl, inr, Bool, true, false, cond, List, [], ◌∷◌, length, map, set, take, refl, ap, sym, ◌∙◌, subst, arith}
 use Rattle.std.specs.Prelude.{Option, Some, None, ◌==◌, option_and_then, slice_get, unwrap_or}
 use Rattle.std.specs.Option.{option_map, option_map_or}
 use Rattle.std.proofs.lemmas.Bool.{eq-eqb}
-use Rattle.std.proofs.lemmas.Option.{none-some, slice_get_within}
 use Rattle.cf_outcome.specs.declared.outcome.Outcome.{Outcome}
 use Rattle.cf_outcome.specs.Outcomes.{wrap}
 use Rattle.cf_forms.specs.declared.forms.Args.{Args}
@@ -20,11 +19,9 @@ use Rattle.cf_model.specs.declared.stage.Stage.{Stage}
 use Rattle.cf_model.specs.declared.stage.Stage.TheVariants.{Pending, Ready, Claimed as IsClaimed, Linked, Settled}
 use Rattle.cf_model.specs.declared.events.Event.{Event}
 use Rattle.cf_model.specs.declared.events.Event.TheVariants.{Complete as Completes, Fail as Fails, FailAs as FailsAs, Cancel as Cancels, Claim as Claims, Finish as FinishesAs, Tick as Ticks, Attach as Attaches}
-use Rattle.cf_model.specs.declared.events.Reply.{Reply}
 use Rattle.cf_model.specs.declared.events.Reply.TheVariants.{Claim as ToldClaim}
 use Rattle.cf_model.specs.declared.replies.Claimed.{Claimed}
 use Rattle.cf_model.specs.declared.replies.Claimed.TheVariants.{Granted}
-use Rattle.cf_model.specs.declared.replies.Finished.{Finished}
 use Rattle.cf_model.specs.declared.replies.Finished.TheVariants.{NotYours}
 use Rattle.cf_model.specs.Claims.{is_claimable}
 use Rattle.cf_model.specs.States.{State, after, claim_at, due_state, is_ready, new_states, next_of, outcome_at, outcome_in, outcome_of, stage_at, start}
@@ -35,10 +32,9 @@ use Rattle.cf_model.proofs.Histories.{claiming-not_claimable, is_pending}
 use Rattle.cf_model.proofs.OpenClaims.{none_open}
 use Rattle.cf_model.proofs.StateLemmas.{after-unsettled, new_states-at, outcome_in-take, slice_get-set_other}
 use Rattle.cf_ledger.specs.declared.step.Held.{Held}
-use Rattle.cf_row.specs.declared.grants.Claim.{Claim}
 use Rattle.cf_row.specs.Rows.{Replica, history_of, state_of}
-use Rattle.cf_row.specs.Grants.{granted_by, granted_in}
-use Rattle.cf_row.specs.Next.{CanClaim, Finishes, Follows, GoesOn, IsGrant, IsMadeReady, NextClaimsAreGranted, is_needed, landed_with, settles_with}
+use Rattle.cf_row.specs.Grants.{granted_by}
+use Rattle.cf_row.specs.Next.{CanClaim, Finishes, GoesOn, IsGrant, NextClaimsAreGranted, is_needed, landed_with}
 use Rattle.cf_row.proofs.Granted.{step}
 
 -- ---- the claim of a ready stage is granted
