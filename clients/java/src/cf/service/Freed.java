@@ -53,6 +53,11 @@ final class Freed extends PhantomReference<Object> {
         free(SOME);
     }
 
+    /** Frees one of those. */
+    static void one() {
+        free(1);
+    }
+
     /** Frees all of it. */
     static void all() {
         free(Integer.MAX_VALUE);
