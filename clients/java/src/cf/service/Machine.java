@@ -72,42 +72,36 @@ final class Machine {
     static final class Core {
         final long at;
         final ByteBuffer memory;
-        private final Outside outside;
         private final Freed freed;
 
         /** What outlives a core that nobody can reach; it is told of at first, so that a core that fails to be made is freed, too. */
         private static final class Outside implements Runnable {
+            /** Of the plan that it is of. It keeps no pool of a plan that nobody has any more. */
             private final WeakReference<Pool> pool;
             private long at;
             private ByteBuffer memory;
-            private boolean isOver;
 
             private Outside(WeakReference<Pool> pool) {
                 this.pool = pool;
             }
 
-            /** The next request of its plan gets it, if there may be one and the pool has a place. */
+            /** Whether it is a whole core of that plan. */
+            boolean isOf(Pool pool) {
+                return memory != null && this.pool == pool.self;
+            }
+
             @Override
             public void run() {
-                Pool of = isOver || memory == null ? null : pool.get();
-                Core core = null;
-                try {
-                    core = of == null ? null : new Core(this);
-                } finally {
-                    if (core == null && at != 0) {
-                        LIVE.getAndDecrement();
-                        destroy(at);
-                    }
-                }
-                if (core != null && !of.put(core)) {
-                    core.free();
+                if (at != 0) {
+                    LIVE.getAndDecrement();
+                    destroy(at);
                 }
             }
         }
 
-        /** One that is to be in this pool once it is given back. */
-        Core(Pool pool) {
-            outside = new Outside(pool.self);
+        /** One of a plan. */
+        private Core(Pool pool) {
+            Outside outside = new Outside(pool.self);
             freed = new Freed(this, outside);
             at = outside.at = created();
             LIVE.getAndIncrement();
@@ -118,10 +112,29 @@ final class Machine {
         /** What was another one's, which nobody can reach. */
         private Core(Outside lost) {
             weigh();
-            outside = new Outside(lost.pool);
+            Outside outside = new Outside(lost.pool);
             freed = new Freed(this, outside);
             at = outside.at = lost.at; // Nothing fails from here on.
             memory = outside.memory = lost.memory;
+        }
+
+        /** One of this plan that nobody can reach, or a new one. Some of what else can't be reached is freed meanwhile. */
+        static Core found(Pool pool) {
+            Runnable gone;
+            for (int k = 0; k < Freed.SOME && (gone = Freed.poll()) != null; k++) {
+                Core core = null;
+                try {
+                    core = gone instanceof Outside && ((Outside) gone).isOf(pool) ? new Core((Outside) gone) : null;
+                } finally {
+                    if (core == null) {
+                        gone.run();
+                    }
+                }
+                if (core != null) {
+                    return core;
+                }
+            }
+            return new Core(pool);
         }
 
         /**
@@ -133,11 +146,6 @@ final class Machine {
             if (LIVE.get() > MANY) {
                 ballast = new byte[BYTES];
             }
-        }
-
-        void free() {
-            outside.isOver = true;
-            freed.now();
         }
 
         private static long created() {
@@ -162,7 +170,6 @@ final class Machine {
     static final class Pool {
         private static final int MOST = Math.max(1, Integer.getInteger("cf.kept", 64));
         private final AtomicReferenceArray<Core> free;
-        /** What keeps no pool of a plan that nobody has any more. */
         private final WeakReference<Pool> self = new WeakReference<>(this);
 
         Pool(int stages) {
@@ -252,7 +259,7 @@ final class Machine {
                 try {
                     again.run();
                 } catch (Throwable refused) {
-                    core.free();
+                    core.freed.now();
                     core = null;
                     kept = words;
                     throw refused;
@@ -267,13 +274,9 @@ final class Machine {
     private void open(int room) {
         Core core = pool().take();
         if (core == null) {
-            Freed.some();
-            core = pool().take();
+            core = Core.found(pool());
         } else {
-            Freed.one();
-        }
-        if (core == null) {
-            core = new Core(pool());
+            Freed.some();
         }
         long of = plan == null ? 0 : plan.at;
         int code = open(core.at, of, room, kept, keptWords, executors);
@@ -282,7 +285,7 @@ final class Machine {
             code = open(core.at, of, room, kept, keptWords, executors);
         }
         if (code != Native.OK) {
-            core.free();
+            core.freed.now();
             throw refusal(code);
         }
         this.core = core;
@@ -590,7 +593,7 @@ final class Machine {
         this.again = again;
         this.core = null;
         if (stages - planned() > MOST_KEPT || keptWords > 16 * MOST_KEPT || !pool().put(core)) {
-            core.free();
+            core.freed.now();
         }
     }
 
