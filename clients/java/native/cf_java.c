@@ -53,9 +53,6 @@ _Static_assert(offsetof(struct block, args) == 16 && offsetof(struct block, due)
                offsetof(struct block, lanes) == 576 && offsetof(struct block, told) == 640 && offsetof(struct block, claimed) == 1664 &&
                offsetof(struct block, ready) == 2176, "the places in Machine.java");
 
-/* By when so many events were done, in ticks. */
-struct moment { uint64_t at, events; };
-
 /* Of all cores, and of all plans, that aren't freed. It stands first in each. */
 struct link { struct link *before, *after; };
 static struct link cores = {&cores, &cores}, plans = {&plans, &plans};
@@ -68,8 +65,8 @@ struct core {
   const struct plan *plan; /* of which the request is */
   bool has_executors, settles; /* whether a stage is of that lane; whether the machine may have settled one by itself */
   size_t heard, within; /* up to which event, and which of its stages, what became ready for executors was told */
-  struct moment *moments;
-  size_t most_moments;
+  uint64_t *moments; /* by when events were done, in ticks, and in the lowest 8 bits how many since the moment before */
+  size_t most_moments, timed_events;
   uint64_t since; /* when the first word came that waits */
   bool timed;
 };
@@ -154,15 +151,19 @@ METHOD(jdouble, nanosPerTick)(JNIEnv *env, jclass class) {
 /* All events that have no time yet were done by then. Times never go back. Where there is no memory they get the time of those after them. */
 static void time_events(struct core *core, uint64_t at) {
   if (!core->timed) return;
-  size_t n = (size_t)core->block.moments;
-  if (n > 0 && at < core->moments[n - 1].at) at = core->moments[n - 1].at;
-  if (n == core->most_moments) {
-    struct moment *more = realloc(core->moments, 2 * n * sizeof *more);
-    if (!more) return;
-    core->moments = more, core->most_moments = 2 * n;
+  for (size_t left = (size_t)core->block.events - core->timed_events, some; left > 0; left -= some, core->timed_events += some) {
+    size_t n = (size_t)core->block.moments;
+    if (n == core->most_moments) {
+      uint64_t *more = realloc(core->moments, 2 * n * sizeof *more);
+      if (!more) return;
+      core->moments = more, core->most_moments = 2 * n;
+    }
+    some = left < 255 ? left : 255;
+    uint64_t moment = at << 8;
+    if (n > 0 && moment < core->moments[n - 1]) moment = core->moments[n - 1] & ~(uint64_t)255;
+    core->moments[n] = moment | some;
+    core->block.moments++;
   }
-  core->moments[n].at = at, core->moments[n].events = (uint64_t)core->block.events;
-  core->block.moments++;
 }
 
 METHOD(jlong, ticks)(JNIEnv *env, jclass class) {
@@ -545,7 +546,7 @@ CALL(jint, open)(JNIEnv *env, jclass class, jlong at, jlong plan, jint room, jlo
   if (room < 0 || room > MOST) return CF_ROOM;
   jsize length = n ? (*env)->GetArrayLength(env, kept) : 0, bits = executors ? (*env)->GetArrayLength(env, executors) : 0;
   if (n < 0 || n > length) return CF_NO_WORD;
-  core->block.moments = core->block.events = 0;
+  core->block.moments = core->block.events = 0, core->timed_events = 0;
   core->heard = core->within = 0, core->settles = false;
   core->has_executors = PLAN(plan)->has_executors;
   uint32_t code = open_anew(core, PLAN(plan), room);
@@ -553,9 +554,11 @@ CALL(jint, open)(JNIEnv *env, jclass class, jlong at, jlong plan, jint room, jlo
   jlong *done = (*env)->GetLongArrayElements(env, kept, NULL), *own = bits ? (*env)->GetLongArrayElements(env, executors, NULL) : NULL;
   code = !done || (bits && !own) ? CF_NO_MEMORY : do_again(core, done, n, own, bits);
   if (code == CF_OK) {
-    for (jsize k = n; k + 1 < length; k += 2) {
-      core->block.events = (int32_t)done[k + 1];
-      time_events(core, (uint64_t)done[k]);
+    core->block.events = 0;
+    for (jsize k = n; k < length; k++) {
+      core->block.events += (int32_t)(done[k] & 255);
+      if (core->block.events > n) core->block.events = n;
+      time_events(core, (uint64_t)done[k] >> 8);
     }
   }
   if (done) (*env)->ReleaseLongArrayElements(env, kept, done, JNI_ABORT);
@@ -564,13 +567,13 @@ CALL(jint, open)(JNIEnv *env, jclass class, jlong at, jlong plan, jint room, jlo
   return (jint)code;
 }
 
-/* The n words from a place on, and behind them the moments for which there is place: of each its ticks and how many events were done by then. */
+/* The n words from a place on, and behind them the moments for which there is place. */
 CALL(jint, words)(JNIEnv *env, jclass class, jlong at, jlongArray into, jint from, jint n) {
   (void)class;
   struct core *core = CORE(at);
   uint64_t words[512];
   size_t left;
-  jsize place = (*env)->GetArrayLength(env, into) - n, moments = 2 * core->block.moments;
+  jsize place = (*env)->GetArrayLength(env, into) - n, moments = core->block.moments;
   if (from < 0 || n < 0 || place < 0) return CF_NO_WORD;
   for (jint k = 0, part; k < n; k += part) {
     uint32_t code = cf_ledger_words(&core->request, (size_t)from + (size_t)k, words, 512, &left);

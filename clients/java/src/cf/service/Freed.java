@@ -11,7 +11,7 @@ final class Freed extends PhantomReference<Object> {
     private static final ReferenceQueue<Object> GONE = new ReferenceQueue<>();
     private static final Freed FIRST = new Freed();
     /** How much is freed at once, so that nobody pays for all that a collection has found. */
-    private static final int SOME = 16;
+    static final int SOME = 16;
 
     private Runnable free;
     private Freed before, after;
@@ -35,17 +35,32 @@ final class Freed extends PhantomReference<Object> {
 
     /** Frees now, once. */
     void now() {
-        Runnable act;
-        synchronized (FIRST) {
-            act = free;
-            if (act == null) {
-                return;
-            }
-            free = null;
-            before.after = after;
-            after.before = before;
+        Runnable act = take();
+        if (act != null) {
+            act.run();
         }
-        act.run();
+    }
+
+    /** What frees, for the one who calls it; null where somebody has it. */
+    private Runnable take() {
+        synchronized (FIRST) {
+            Runnable act = free;
+            if (act != null) {
+                free = null;
+                before.after = after;
+                after.before = before;
+            }
+            return act;
+        }
+    }
+
+    /** What frees something that can't be reached any more, or null. */
+    static Runnable poll() {
+        Runnable act = null;
+        for (Freed gone; act == null && (gone = (Freed) GONE.poll()) != null;) {
+            act = gone.take();
+        }
+        return act;
     }
 
     /** Frees some of what can't be reached any more. */
@@ -59,9 +74,9 @@ final class Freed extends PhantomReference<Object> {
     }
 
     private static void free(int most) {
-        Freed gone;
-        for (int k = 0; k < most && (gone = (Freed) GONE.poll()) != null; k++) {
-            gone.now();
+        Runnable gone;
+        for (int k = 0; k < most && (gone = poll()) != null; k++) {
+            gone.run();
         }
     }
 }

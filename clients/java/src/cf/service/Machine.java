@@ -1,5 +1,6 @@
 package cf.service;
 
+import java.lang.ref.WeakReference;
 import java.nio.ByteBuffer;
 import java.nio.ByteOrder;
 import java.util.ArrayList;
@@ -73,9 +74,21 @@ final class Machine {
         final ByteBuffer memory;
         private final Freed freed;
 
-        /** What is freed of it; it is told of at first, so that a core that fails to be made is freed, too. */
+        /** What outlives a core that nobody can reach; it is told of at first, so that a core that fails to be made is freed, too. */
         private static final class Outside implements Runnable {
+            /** Of the plan that it is of. It keeps no pool of a plan that nobody has any more. */
+            private final WeakReference<Pool> pool;
             private long at;
+            private ByteBuffer memory;
+
+            private Outside(WeakReference<Pool> pool) {
+                this.pool = pool;
+            }
+
+            /** Whether it is a whole core of that plan. */
+            boolean isOf(Pool pool) {
+                return memory != null && this.pool == pool.self;
+            }
 
             @Override
             public void run() {
@@ -86,18 +99,51 @@ final class Machine {
             }
         }
 
-        /**
-         * The collector doesn't see what a core takes outside the heap, and so may find late which cores nobody can reach. Where there are
-         * many, a new one also takes as much in the heap, which is garbage at once: so the collector comes as often as if it saw it. What it
-         * has found is freed by whoever opens the next ones. Nobody waits for it, and memory ends only where the system refuses it.
-         */
-        Core() {
-            Outside outside = new Outside();
+        /** One of a plan. */
+        private Core(Pool pool) {
+            Outside outside = new Outside(pool.self);
             freed = new Freed(this, outside);
             at = outside.at = created();
-            int live = LIVE.incrementAndGet();
-            memory = memory(at).order(ByteOrder.nativeOrder());
-            if (live > MANY) {
+            LIVE.getAndIncrement();
+            memory = outside.memory = memory(at).order(ByteOrder.nativeOrder());
+            weigh();
+        }
+
+        /** What was another one's, which nobody can reach. */
+        private Core(Outside lost) {
+            weigh();
+            Outside outside = new Outside(lost.pool);
+            freed = new Freed(this, outside);
+            at = outside.at = lost.at; // Nothing fails from here on.
+            memory = outside.memory = lost.memory;
+        }
+
+        /** One of this plan that nobody can reach, or a new one. Some of what else can't be reached is freed meanwhile. */
+        static Core found(Pool pool) {
+            Runnable gone;
+            for (int k = 0; k < Freed.SOME && (gone = Freed.poll()) != null; k++) {
+                Core core = null;
+                try {
+                    core = gone instanceof Outside && ((Outside) gone).isOf(pool) ? new Core((Outside) gone) : null;
+                } finally {
+                    if (core == null) {
+                        gone.run();
+                    }
+                }
+                if (core != null) {
+                    return core;
+                }
+            }
+            return new Core(pool);
+        }
+
+        /**
+         * The collector doesn't see what a core takes outside the heap, and so may find late which cores nobody can reach. Where there are
+         * many, one that wasn't given back also takes as much in the heap, which is garbage at once: so the collector comes as often as if it
+         * saw it. What it has found goes to those who open the next ones. Nobody waits for it, and memory ends only where the system refuses it.
+         */
+        private static void weigh() {
+            if (LIVE.get() > MANY) {
                 ballast = new byte[BYTES];
             }
         }
@@ -124,6 +170,7 @@ final class Machine {
     static final class Pool {
         private static final int MOST = Math.max(1, Integer.getInteger("cf.kept", 64));
         private final AtomicReferenceArray<Core> free;
+        private final WeakReference<Pool> self = new WeakReference<>(this);
 
         Pool(int stages) {
             free = new AtomicReferenceArray<>(stages <= MOST_KEPT ? MOST : Math.min(MOST, 4));
@@ -225,10 +272,11 @@ final class Machine {
 
     /** With so much room, of which the machine makes more itself. */
     private void open(int room) {
-        Freed.some();
         Core core = pool().take();
         if (core == null) {
-            core = new Core();
+            core = Core.found(pool());
+        } else {
+            Freed.some();
         }
         long of = plan == null ? 0 : plan.at;
         int code = open(core.at, of, room, kept, keptWords, executors);
@@ -486,7 +534,7 @@ final class Machine {
         return (core == null ? keptWords : core.memory.getInt(EVENTS)) + waiting;
     }
 
-    /** The words, and behind them the moments: of each its ticks, and how many events were done by then. */
+    /** The words, and behind them the moments: of each its ticks, in 56 bits, and how many events were done since the one before it. */
     long[] kept() {
         if (kept != null) {
             return kept;
@@ -494,7 +542,7 @@ final class Machine {
         core();
         flush();
         int events = events();
-        long[] all = new long[events + 2 * core.memory.getInt(MOMENTS)];
+        long[] all = new long[events + core.memory.getInt(MOMENTS)];
         check(words(core.at, all, 0, events));
         return all;
     }
@@ -513,9 +561,10 @@ final class Machine {
         }
         double rate = Native.nanosPerTick();
         long[] times = new long[count];
-        for (int k = count, at = 0; k < kept.length; k += 2) {
-            while (at < kept[k + 1] && at < count) {
-                times[at++] = Math.round((kept[k] - kept[count]) * rate);
+        for (int k = count, at = 0; k < kept.length; k++) {
+            long time = Math.round(ticks(kept[k], kept[count]) * rate);
+            for (int events = (int) kept[k] & 0xff; events > 0 && at < count; events--) {
+                times[at++] = time;
             }
         }
         return times;
@@ -524,7 +573,12 @@ final class Machine {
     /** When the first word was done, of what was kept, in nanoseconds since 1970. */
     static long began(long[] kept, int count) {
         long now = TimeUnit.MILLISECONDS.toNanos(System.currentTimeMillis());
-        return TIMES && count < kept.length ? now - Math.round((Native.ticks() - kept[count]) * Native.nanosPerTick()) : now;
+        return TIMES && count < kept.length ? now - Math.round(ticks(Native.ticks() << 8, kept[count]) * Native.nanosPerTick()) : now;
+    }
+
+    /** From one moment to another, of what was kept. */
+    private static long ticks(long moment, long since) {
+        return (moment & ~0xffL) - (since & ~0xffL) >>> 8;
     }
 
     /** Gives the core back. A word that comes nevertheless has another one do all words again, and then this, if it isn't null. */
@@ -580,6 +634,6 @@ final class Machine {
     /** A request of a plan, 0 for the one without stages, with room, in which the first n of these words are done, with their moments. */
     static native int open(long core, long plan, int room, long[] kept, int n, long[] executors);
 
-    /** The n words from a place on, and behind them the moments for which there is place: of each its ticks, and how many events were done by then. */
+    /** The n words from a place on, and behind them the moments for which there is place. */
     static native int words(long core, long[] into, int from, int n);
 }

@@ -135,6 +135,7 @@ public final class Request implements AutoCloseable {
     private static final int MOST_GATHERED = 1024;
     private static final Stage<?>[] NO_STAGES = {};
     private static final Link[] NO_LINKS = {};
+    private static final Object[] NO_VALUES = {};
     private static final long[] NO_MOMENTS = {};
 
     final Service service;
@@ -186,7 +187,7 @@ public final class Request implements AutoCloseable {
         this.describe = describe;
         within = service.captured();
         machine = new Machine(flow == null ? null : flow.plan(), room);
-        values = new Object[flow != null ? Math.max(flow.count(), 1) : 8];
+        values = flow != null ? new Object[Math.max(flow.count(), 1)] : NO_VALUES;
         stages = flow == null && room > 0 ? new Stage<?>[room] : NO_STAGES;
         if (watch != null) {
             watch.opened(this);
@@ -996,7 +997,7 @@ public final class Request implements AutoCloseable {
     /** Has a machine that was opened again follow stages and keep deadlines as it did before. */
     private void setAgain() {
         for (Stage<?> stage : stages) {
-            if (stage != null && stage.unwritten > 0) {
+            if (stage != null && stage.isUnwritten()) {
                 if (stage.more.limits != null) {
                     stage.more.limits.forEach(limit -> machine.deadline(stage.number, limit));
                 }
@@ -1009,7 +1010,7 @@ public final class Request implements AutoCloseable {
 
     /** The machine has a relay or a deadline more of this stage. */
     private void holds(Stage<?> stage) {
-        stage.unwritten++;
+        stage.more().unwritten++;
         unwritten++;
     }
 
@@ -1196,8 +1197,8 @@ public final class Request implements AutoCloseable {
         }
         if (stage != null) {
             stages[at] = null;
-            if (stage.unwritten > 0) {
-                unwritten -= stage.unwritten;
+            if (stage.isUnwritten()) {
+                unwritten -= stage.more.unwritten;
                 stage.more.limits = null;
             }
             stage.tells(told(what, number));
@@ -1314,7 +1315,7 @@ public final class Request implements AutoCloseable {
             } else {
                 stage.show();
             }
-            if (stage.unwritten > 0) {
+            if (stage.isUnwritten()) {
                 stage.request.released();
             }
             if (stage.request.single) {
@@ -1523,7 +1524,8 @@ public final class Request implements AutoCloseable {
             return valueCount - 1;
         }
         if (valueCount == values.length) {
-            values = Arrays.copyOf(values, 2 * valueCount);
+            // As a rule each stage gives one.
+            values = Arrays.copyOf(values, Math.max(2 * valueCount, machine.stages() + 1));
         }
         values[valueCount] = value;
         return valueCount++;

@@ -25,15 +25,13 @@ import java.util.function.Supplier;
  */
 public class Stage<T> extends Waits<T> {
     final Request request;
-    final int number;
+    final short number;
     final Form form;
     final Executor executor;
 
     // These are the request's, under its lock, or of the one thread that tells the news.
     Object function;
-    int dependents;
-    /** How many relays and deadlines of it the machine has. */
-    int unwritten;
+    short dependents;
     Stage<?> nextSettled, nextReady;
 
     /** What few stages have. */
@@ -41,6 +39,8 @@ public class Stage<T> extends Waits<T> {
         /** Relays of other requests that are settled as this stage is. */
         Link.Row outside;
         Observer observers;
+        /** How many relays and deadlines of it the machine has. */
+        int unwritten;
         /** What the machine has of it that isn't in the words: deadlines, in the order in which they were set, and the stage that it follows, or -1. */
         List<Limit> limits;
         int followed = -1;
@@ -61,7 +61,7 @@ public class Stage<T> extends Waits<T> {
 
     Stage(Request request, int number, Form form, Object function, Executor executor) {
         this.request = request;
-        this.number = number;
+        this.number = (short) number;
         this.form = form;
         this.function = function;
         this.executor = executor;
@@ -76,7 +76,7 @@ public class Stage<T> extends Waits<T> {
             place = at.reserve();
         }
         this.request = at;
-        number = place;
+        number = (short) place;
         form = Form.SOURCE;
         executor = null;
         at.entered(this);
@@ -85,6 +85,12 @@ public class Stage<T> extends Waits<T> {
     @Override
     final Object lock() {
         return request.lock();
+    }
+
+    /** Whether the machine has relays or deadlines of it, which aren't in the words. */
+    final boolean isUnwritten() {
+        More it = more;
+        return it != null && it.unwritten > 0;
     }
 
     /** Settles it: nobody needs its function any more. */

@@ -88,6 +88,7 @@ final class FunctionsTest {
         }
         is(tasks.size(), 2);
         source.complete(3);
+        is(tasks.size(), 152);
         Stage<Integer> third = source.thenApplyAsync(x -> x);
         calling.promise().complete(null);
         is(tasks.size(), 153);
