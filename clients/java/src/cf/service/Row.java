@@ -11,8 +11,8 @@ final class Row implements AutoCloseable {
     static final int SESSION_BITS = 39;
     /** Codes of cf.h. */
     static final int NO_ROOM = 30, ROOM = 16;
-    /** How far a stage has come. */
-    static final int PENDING = 0, READY = 1, CLAIMED = 2, LINKED = 3, SETTLED = 4;
+    /** How far a stage has come that is settled. */
+    static final int SETTLED = 4;
     /** The kinds of an outcome. */
     static final int VALUE = 1, THROWN = 2, CANCELLED = 3, TIMED_OUT = 4, BAD_ANSWER = 5;
     /** What a function is called with. */
@@ -32,7 +32,7 @@ final class Row implements AutoCloseable {
     final int[] told = new int[12];
     private long view;
 
-    /** A view of the row of a plan's request: of each stage its form, how many sources it has, these, and its function or -1. */
+    /** A view of the row of a plan's request, which is given as {@link Native#plan} has it. */
     Row(int[] plan, int room, int first, long session) {
         view = open(plan, room, first, session);
         if (view < 0) {
@@ -101,6 +101,17 @@ final class Row implements AutoCloseable {
         return ready(view, from);
     }
 
+    /** The lowest stage from this one on whose claim is open, and the session to which it was granted; or null. */
+    long[] openClaim(int from) {
+        long[] claim = new long[2];
+        return openClaim(view, from, claim) ? claim : null;
+    }
+
+    /** The word that fails the lowest stage from this one on that a session has, which names no exception yet; or -1 where it has none. */
+    long abandon(long session, int from) {
+        return abandon(view, session, from);
+    }
+
     @Override
     public void close() {
         if (view != 0) {
@@ -126,4 +137,8 @@ final class Row implements AutoCloseable {
     private static native int number(long view);
 
     private static native int ready(long view, int from);
+
+    private static native boolean openClaim(long view, int from, long[] claim);
+
+    private static native long abandon(long view, long session, int from);
 }
