@@ -156,6 +156,30 @@ CALL(jint, ready)(JNIEnv *env, jclass self, jlong view, jint from) {
   return cf_ledger_ready(&VIEW(view)->row, (uint16_t)from, &stage) == CF_OK ? stage : -1;
 }
 
+/* What the session holds, and its function's answer, if the stage isn't -1. */
+static cf_task task_of(jint stage, jint kind, jint number) {
+  cf_task task = {.held = stage >= 0, .stage = (uint16_t)stage};
+  task.answer.kind = (uint32_t)kind, task.answer.code = (uint32_t)number, task.answer.stage = (uint16_t)number;
+  task.answer.value = (cf_value){.kind = number < 0 ? CF_NIL : CF_INT, .number = number};
+  return task;
+}
+
+/* The word that finishes a stage of the session with this answer, or -1 where it hasn't the stage. */
+CALL(jlong, finish)(JNIEnv *env, jclass self, jlong view, jint stage, jint kind, jint number) {
+  (void)env, (void)self;
+  const cf_task task = task_of(stage, kind, number);
+  uint64_t word = 0;
+  return cf_row_finish(&VIEW(view)->row, &task, &word) == CF_OK ? (jlong)word : -1;
+}
+
+/* The lowest stage from a number on that the session could claim behind the finish of what it holds, or -1. */
+CALL(jint, nextClaim)(JNIEnv *env, jclass self, jlong view, jint held, jint kind, jint number, jint from) {
+  (void)env, (void)self;
+  const cf_task task = task_of(held, kind, number);
+  uint16_t stage = 0;
+  return cf_row_next_claim(&VIEW(view)->row, &task, (uint16_t)from, &stage) == CF_OK ? stage : -1;
+}
+
 /* Whether a claim is open of a stage from a number on. `claim` gets the lowest one's stage and its session. */
 CALL(jboolean, openClaim)(JNIEnv *env, jclass self, jlong view, jint from, jlongArray claim) {
   (void)self;

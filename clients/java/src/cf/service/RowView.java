@@ -56,37 +56,36 @@ final class RowView {
     /** What a stage's function came to: a value or null, an exception, or a link. */
     static final class Finish {
         final int stage;
-        /** The finish as {@link Words} has it, which names no payload yet. */
-        private final long word;
-        private final byte[] payload;
+        final byte[] payload;
+        private final int kind, to;
 
-        private Finish(int stage, long word, byte[] payload) {
+        private Finish(int stage, byte[] payload, int kind, int to) {
             this.stage = stage;
-            this.word = word;
             this.payload = payload;
+            this.kind = kind;
+            this.to = to;
         }
 
         static Finish gives(int stage, byte[] value) {
-            return new Finish(stage, Words.finish(0, stage, Words.NIL), value);
+            return new Finish(stage, value, Row.GIVE, 0);
         }
 
         static Finish throwing(int stage, byte[] thrown) {
-            return new Finish(stage, Words.finishThrowing(0, stage, 0), thrown);
+            return new Finish(stage, thrown, Row.THROW, 0);
         }
 
         /** A composing stage is linked to its promise, which the stage stands for that the payload names. */
         static Finish links(int stage, byte[] given, int promise) {
-            return new Finish(stage, Words.finishLinking(0, stage, promise), given);
+            return new Finish(stage, given, Row.LINK, promise);
         }
 
         boolean isThrown() {
-            return Words.throwing(word);
+            return kind == Row.THROW;
         }
 
-        /** Whether it makes a stage of this form ready that has the finished one as its only source. */
-        private boolean makesReady(Form form) {
-            return !Words.linking(word)
-                    && (form == Form.HANDLE || form == Form.WHEN_COMPLETE || form == (isThrown() ? Form.EXCEPTIONALLY : Form.APPLY));
+        /** The number of the answer, where the finish stands at this place. */
+        private int number(int place) {
+            return kind == Row.LINK ? to : payload == null ? -1 : place;
         }
     }
 
@@ -114,8 +113,6 @@ final class RowView {
         StoredPlan.Said said;
         final int attached;
         byte[] payload;
-        /** The stages that have it as their only source, rising. */
-        final List<Integer> behind = new ArrayList<>(0);
         /** Once it is settled: the outcome's numbers, and the place where it was. */
         int[] outcome;
         int settled;
@@ -137,18 +134,11 @@ final class RowView {
         this.session = session;
         plan = new StoredPlan(opened.plan, opened.name);
         planned = plan.forms.size();
-        room = Math.min(ROOM, MOST_STAGES - planned);
-        row = made(); // (first: it refuses a plan whose stages have no such sources)
         for (int k = 0; k < planned; k++) {
-            add(new Known(plan.forms.get(k), plan.sources.get(k), plan.said.get(k), 0));
+            stages.add(new Known(plan.forms.get(k), plan.sources.get(k), plan.said.get(k), 0));
         }
-    }
-
-    private void add(Known stage) {
-        if (stage.of.length == 1) {
-            stages.get(stage.of[0]).behind.add(stages.size());
-        }
-        stages.add(stage);
+        room = Math.min(ROOM, MOST_STAGES - planned);
+        row = made();
     }
 
     private Row made() {
@@ -204,20 +194,13 @@ final class RowView {
 
     /** The word of a finish, with its payload, or null where this session hasn't the stage. If the stage was settled meanwhile, it is late. */
     Wanted finished(Finish finish) {
-        return isHeld(finish.stage) ? new Wanted(finish.word, finish.payload) : null;
+        long word = row.finish(finish.stage, finish.kind, finish.number(seen + 1));
+        return word < 0 ? null : new Wanted(word, finish.payload);
     }
 
-    /** The lowest stage from a number on that this session could claim next, also behind a finish if that isn't null; or -1. */
+    /** The lowest stage from a number on that this session could claim next, behind a finish if that isn't null; or -1. */
     int nextClaim(Finish finish, int from) {
-        int ready = row.ready(from);
-        if (finish != null && isHeld(finish.stage) && !isSettled(finish.stage)) {
-            for (int behind : stages.get(finish.stage).behind) {
-                if (behind >= from && (ready < 0 || behind < ready) && !isSettled(behind) && finish.makesReady(stages.get(behind).form)) {
-                    return behind;
-                }
-            }
-        }
-        return ready;
+        return finish == null ? row.nextClaim(-1, 0, 0, from) : row.nextClaim(finish.stage, finish.kind, finish.number(seen + 1), from);
     }
 
     /** The stages whose claim is open, each with the session to which it was granted: also those that were settled since. */
@@ -405,7 +388,7 @@ final class RowView {
         switch (Words.kind(entry.word)) {
             case Words.ATTACH:
                 if (reply[Row.ANSWER] == 0) {
-                    add(attached(entry, place));
+                    stages.add(attached(entry, place));
                 }
                 break;
             case Words.CLAIM:

@@ -1,4 +1,4 @@
-use Rattle.std.proofs.Common.{◌≡◌, ◌+◌, ◌<◌, ◌++◌, ◌∷◌, [], length, refl, sym, ap, ◌∙◌, subst, arith, rules}
+use Rattle.std.proofs.Common.{◌≡◌, ◌<◌, ◌++◌, ◌∷◌, [], length, refl, sym, ap, ◌∙◌, subst, arith, rules}
 use Rattle.std.proofs.lemmas.List.{length_push}
 use Rattle.cf_event.specs.declared.record.Record.TheVariants.{Saw}
 use Rattle.cf_model.specs.declared.asks.Ask.TheVariants.{Outcome as AsksOutcome}
@@ -25,4 +25,5 @@ invariant_of-self-2 c =
         of_records = omega (arith, size, before, c.in_ok-make_room.ensures.room, c.push_reserved.ensures.capacity);
       };
       claims = c.self.invariant.claims;
+      grown = c.self.invariant.grown;
     }
