@@ -22,18 +22,17 @@ struct view {
 #define VIEW(at) ((struct view *)(intptr_t)(at))
 #define CALL(type, name) JNIEXPORT type JNICALL Java_cf_service_Row_##name
 
-/* Builds a plan of rows of a form, the number of sources, these, and a function or -1. */
+/* Builds a plan of rows, as cf_java.c has them: form, function or -1, count of sources, sources. */
 static uint32_t build(cf_handle *plan, const jint *rows, jsize n) {
   uint32_t code = cf_builder_new(plan, 0, 0);
   for (jsize at = 0; code == CF_OK && at < n;) {
     uint16_t of[MOST], stage;
-    const jint form = rows[at], many = at + 1 < n ? rows[at + 1] : -1;
-    if (many < 0 || many > MOST || n - at - 3 < many) return CF_WRONG_SOURCE_COUNT;
+    if (n - at < 3 || rows[at + 2] < 0 || rows[at + 2] > MOST || n - at - 3 < rows[at + 2]) return CF_WRONG_SOURCE_COUNT;
+    const jint form = rows[at], function = rows[at + 1], many = rows[at + 2];
     for (jint k = 0; k < many; k++) {
-      const jint source = rows[at + 2 + k];
+      const jint source = rows[at + 3 + k];
       of[k] = source < 0 || source >= MOST ? UINT16_MAX : (uint16_t)source;
     }
-    const jint function = rows[at + 2 + many];
     code = cf_builder_stage(plan, (uint32_t)form, of, (size_t)many, function < 0 ? CF_NO_FUNCTION : (uint32_t)function, &stage);
     at += 3 + many;
   }
@@ -157,6 +156,47 @@ CALL(jint, ready)(JNIEnv *env, jclass self, jlong view, jint from) {
   return cf_ledger_ready(&VIEW(view)->row, (uint16_t)from, &stage) == CF_OK ? stage : -1;
 }
 
+/* What the session holds, and its function's answer, if the stage isn't -1. */
+static cf_task task_of(jint stage, jint kind, jint number) {
+  cf_task task = {.held = stage >= 0, .stage = (uint16_t)stage};
+  task.answer.kind = (uint32_t)kind, task.answer.code = (uint32_t)number, task.answer.stage = (uint16_t)number;
+  task.answer.value = (cf_value){.kind = number < 0 ? CF_NIL : CF_INT, .number = number};
+  return task;
+}
+
+/* The word that finishes a stage of the session with this answer, or -1 where it hasn't the stage. */
+CALL(jlong, finish)(JNIEnv *env, jclass self, jlong view, jint stage, jint kind, jint number) {
+  (void)env, (void)self;
+  const cf_task task = task_of(stage, kind, number);
+  uint64_t word = 0;
+  return cf_row_finish(&VIEW(view)->row, &task, &word) == CF_OK ? (jlong)word : -1;
+}
+
+/* The lowest stage from a number on that the session could claim behind the finish of what it holds, or -1. */
+CALL(jint, nextClaim)(JNIEnv *env, jclass self, jlong view, jint held, jint kind, jint number, jint from) {
+  (void)env, (void)self;
+  const cf_task task = task_of(held, kind, number);
+  uint16_t stage = 0;
+  return cf_row_next_claim(&VIEW(view)->row, &task, (uint16_t)from, &stage) == CF_OK ? stage : -1;
+}
+
+/* Whether a claim is open of a stage from a number on. `claim` gets the lowest one's stage and its session. */
+CALL(jboolean, openClaim)(JNIEnv *env, jclass self, jlong view, jint from, jlongArray claim) {
+  (void)self;
+  cf_row_claim it;
+  if (cf_row_open_claim(&VIEW(view)->row, (uint16_t)from, &it) != CF_OK) return false;
+  const jlong told[] = {it.stage, (jlong)it.session};
+  (*env)->SetLongArrayRegion(env, claim, 0, 2, told);
+  return true;
+}
+
+/* The word that fails the lowest stage from a number on that a session has, or -1. */
+CALL(jlong, abandon)(JNIEnv *env, jclass self, jlong view, jlong session, jint from) {
+  (void)env, (void)self;
+  uint64_t word = 0;
+  return cf_row_abandon(&VIEW(view)->row, (uint64_t)session, (uint16_t)from, 0, &word) == CF_OK ? (jlong)word : -1;
+}
+
 /* The line in which who writes to a file of SQLite's stands. */
 
 #define LINE(type, name) JNIEXPORT type JNICALL Java_cf_service_Line_##name
@@ -181,6 +221,11 @@ LINE(jboolean, lock)(JNIEnv *env, jclass self, jint file, jboolean waits) {
   do code = flock(file, LOCK_EX | (waits ? 0 : LOCK_NB));
   while (code && errno == EINTR);
   return code == 0;
+}
+
+LINE(void, unlock)(JNIEnv *env, jclass self, jint file) {
+  (void)env, (void)self;
+  flock(file, LOCK_UN);
 }
 
 LINE(void, close)(JNIEnv *env, jclass self, jint file) {

@@ -143,8 +143,9 @@ class SQLite(TableStore):
         if mark is None or at[0] < mark[0]:
             return self.ends(), at
         opened = self._ask("select name from cf_request where id > ? and closed is null", mark[1])
+        # (By the sign, it doesn't go through all words in the order of requests.)
         longer = self._ask("select name, max(at) + 1 from cf_word join cf_request on id = request "
-                           "where n > ? and closed is null group by request", mark[0])
+                           "where n > ? and closed is null group by +request", mark[0])
         return {**{str(name): 0 for name, in opened}, **{str(name): int(many) for name, many in longer}}, at
 
     def _mark(self) -> int:
@@ -155,7 +156,7 @@ class SQLite(TableStore):
         at, words = self._mark(), mark.words
         if at < words:
             return None
-        longer = self._ask("select request, max(at) + 1 from cf_word where n > ? group by request", words)
+        longer = self._ask("select request, max(at) + 1 from cf_word where n > ? group by +request", words)
         many = {int(number): int(many) for number, many in longer}
         if not is_all:
             new = self._ask(f"{OVERVIEW} and r.id > ?", max(mark.names, default=0))

@@ -216,7 +216,8 @@ impl Store for SQLite {
             _ => return Ok((self.ask(ENDS, &[], read)?.into_iter().collect(), mark)),
         };
         let opened = "select name, 0 from cf_request where id > ? and closed is null";
-        let longer = "select name, max(at) + 1 from cf_word join cf_request on id = request where n > ? and closed is null group by request";
+        // (By the sign, it doesn't go through all words in the order of requests.)
+        let longer = "select name, max(at) + 1 from cf_word join cf_request on id = request where n > ? and closed is null group by +request";
         let mut told = self.ask(opened, &[&since.1], read)?;
         told.extend(self.ask(longer, &[&since.0], read)?);
         Ok((told.into_iter().collect(), mark))

@@ -6,30 +6,34 @@ import java.util.concurrent.RejectedExecutionException;
 import java.util.concurrent.ThreadPoolExecutor;
 import java.util.concurrent.TimeUnit;
 import java.util.function.Consumer;
+import java.util.function.Supplier;
 import java.util.logging.Level;
 import java.util.logging.Logger;
 
 /**
- * Tells a hook of requests that have ended, one after another. It does so on a thread of its own, which is there while some are left: a hook that
- * is slow or throws holds up nothing else, and the JVM waits for it. If too many requests wait for it, further ones aren't told.
+ * Tells a hook of requests that have ended, one after another, by their histories. It does so on a thread of its own, which is there while some are
+ * left: a hook that is slow or throws holds up nothing else, and the JVM waits for it. If too many requests wait for it, further ones aren't told.
  */
-final class Ends {
+final class Ends<H> {
     private static final int MOST = 2048, IDLE_MILLIS = 100;
 
-    private final Consumer<? super History> hook;
+    private final Consumer<? super H> hook;
     private final ThreadPoolExecutor thread = new ThreadPoolExecutor(1, 1, IDLE_MILLIS, TimeUnit.MILLISECONDS, new LinkedBlockingQueue<>(MOST),
             run -> new Thread(run, "cf-ends"));
     private volatile boolean isFull;
 
-    Ends(Consumer<? super History> hook) {
+    Ends(Consumer<? super H> hook) {
         this.hook = hook;
         thread.allowCoreThreadTimeOut(true);
     }
 
-    /** Has the hook told of a history, whose values are told by this function, in the context where its request was opened. It throws nothing. */
-    void tell(History history, Describe describe, Executor within) {
+    /**
+     * Has the hook told of a history, which is made on the hook's thread, in the context where its request was opened, if that isn't null. It throws
+     * nothing.
+     */
+    void tell(Supplier<? extends H> history, Executor within) {
         try {
-            thread.execute(() -> told(history, describe, within));
+            thread.execute(() -> told(history, within));
             isFull = false;
         } catch (RejectedExecutionException full) {
             if (!isFull) {
@@ -41,9 +45,9 @@ final class Ends {
         }
     }
 
-    private void told(History history, Describe describe, Executor within) {
+    private void told(Supplier<? extends H> made, Executor within) {
         try {
-            history.described(describe);
+            H history = made.get();
             if (within == null) {
                 hook.accept(history);
             } else {
@@ -52,6 +56,12 @@ final class Ends {
         } catch (Throwable thrown) {
             warn("the hook of an ended request has thrown", thrown);
         }
+    }
+
+    /** Takes no more, and waits until the hook was told of all, for so many seconds at most. */
+    void end(long seconds) throws InterruptedException {
+        thread.shutdown();
+        thread.awaitTermination(seconds, TimeUnit.SECONDS);
     }
 
     static void warn(String said, Throwable thrown) {

@@ -344,7 +344,7 @@ public final class EtcdStore implements Store {
             } catch (NumberFormatException none) {
                 // It is told as broken.
             }
-            Entry.add(entries, name, at, Long.parseLong(it.key.substring(it.key.length() - DIGITS)), word, token);
+            Entry.add(entries, name, at, Long.parseLong(it.key.substring(it.key.length() - DIGITS)), word, token, null);
         }
         return entries;
     }

@@ -7,6 +7,7 @@ import cf.service.watch.Stores;
 import java.sql.Connection;
 import java.util.ArrayList;
 import java.util.Collection;
+import java.util.Collections;
 import java.util.List;
 import java.util.Map;
 import java.util.concurrent.CancellationException;
@@ -18,7 +19,7 @@ final class Insight implements Stores {
 
     @Override
     public Serving service(Store store, Functions functions, int threads, long lease, boolean takesAll, Host host) {
-        return new OfService(new StoreService(store, functions, threads, lease, TimeUnit.NANOSECONDS, takesAll, null, host));
+        return new OfService(new StoreService(store, functions, threads, lease, TimeUnit.NANOSECONDS, takesAll, null, null, host));
     }
 
     @Override
@@ -110,17 +111,9 @@ final class Insight implements Stores {
 
         @Override
         public List<Integer> catchUp() {
-            boolean[] before = new boolean[view.size()];
-            for (int k = 0; k < before.length; k++) {
-                before[k] = view.isSettled(k);
-            }
             view.catchUp();
-            List<Integer> settled = new ArrayList<>();
-            for (int k = 0; k < view.size(); k++) {
-                if (view.isSettled(k) && (k >= before.length || !before[k])) {
-                    settled.add(k);
-                }
-            }
+            List<Integer> settled = view.takeSettled();
+            Collections.sort(settled);
             return settled;
         }
 
@@ -170,7 +163,11 @@ final class Insight implements Stores {
 
         @Override
         public List<Integer> ready() {
-            return view.ready();
+            List<Integer> ready = new ArrayList<>();
+            for (int stage = view.ready(0); stage >= 0; stage = view.ready(stage + 1)) {
+                ready.add(stage);
+            }
+            return ready;
         }
 
         @Override

@@ -5,15 +5,14 @@ import java.lang.reflect.InvocationTargetException;
 import java.lang.reflect.Proxy;
 import java.sql.Connection;
 import java.sql.DriverManager;
-import java.sql.PreparedStatement;
 import java.sql.ResultSet;
 import java.sql.SQLException;
-import java.sql.Statement;
 import java.util.ArrayList;
 import java.util.Arrays;
 import java.util.HashMap;
 import java.util.List;
 import java.util.Map;
+import java.util.concurrent.ConcurrentHashMap;
 import java.util.concurrent.ConcurrentLinkedDeque;
 
 /**
@@ -27,7 +26,7 @@ public abstract class JdbcStore implements Store {
     private static final List<String> ENDS_IT = Arrays.asList("commit", "rollback", "setAutoCommit", "close", "abort");
 
     private final String url;
-    private final ConcurrentLinkedDeque<Connection> idle = new ConcurrentLinkedDeque<>();
+    private final ConcurrentLinkedDeque<PreparedConnection> idle = new ConcurrentLinkedDeque<>();
     private volatile boolean isClosed;
 
     JdbcStore(String url) {
@@ -58,7 +57,7 @@ public abstract class JdbcStore implements Store {
     abstract void setUp();
 
     /** Makes a new connection safe; {@code StoreException} where it can't be. */
-    abstract void prepare(Connection db) throws SQLException;
+    abstract void prepare(PreparedConnection db) throws SQLException;
 
     /** Whether it isn't known what became of a statement, or the engine can't write now. */
     abstract boolean isAway(SQLException error);
@@ -70,28 +69,25 @@ public abstract class JdbcStore implements Store {
     abstract String clock();
 
     /** Begins a transaction of a function's; then commits it. */
-    abstract void begin(Connection db) throws SQLException;
+    abstract void begin(PreparedConnection db) throws SQLException;
 
-    abstract void commit(Connection db) throws SQLException;
+    abstract void commit(PreparedConnection db) throws SQLException;
 
-    /** It has ended, in the thread that began it. */
-    void ended() {}
+    /** Takes this thread's turn to write, and gives it to the next one. */
+    void take() {}
+
+    void give() {}
 
     /** Undoes what such a transaction did, and says whether the engine can't write now. */
-    abstract boolean undoes(Connection db) throws SQLException;
+    abstract boolean undoes(PreparedConnection db) throws SQLException;
 
     /** Something that is done on a connection. */
     interface Act<T> {
-        T on(Connection db) throws SQLException;
+        T on(PreparedConnection db) throws SQLException;
     }
 
-    /** Reads one row of an answer. */
-    interface Reader<T> {
-        T read(ResultSet row) throws SQLException;
-    }
-
-    final Connection connect() throws SQLException {
-        Connection db = DriverManager.getConnection(url);
+    final PreparedConnection connect() throws SQLException {
+        PreparedConnection db = new PreparedConnection(DriverManager.getConnection(url));
         try {
             prepare(db);
         } catch (SQLException | RuntimeException fault) {
@@ -103,7 +99,7 @@ public abstract class JdbcStore implements Store {
 
     /** Uses a connection. One that failed isn't used again, unless it was the statement's fault. */
     final <T> T using(Act<T> act) {
-        Connection db = idle.pollFirst();
+        PreparedConnection db = idle.pollFirst();
         boolean isKept = false;
         try {
             if (db == null) {
@@ -122,9 +118,9 @@ public abstract class JdbcStore implements Store {
         }
     }
 
-    private void giveBack(Connection db, boolean isKept) {
+    private void giveBack(PreparedConnection db, boolean isKept) {
         try {
-            if (isKept && !isClosed && db.getAutoCommit()) {
+            if (isKept && !isClosed && db.db.getAutoCommit()) {
                 idle.addFirst(db);
                 return;
             }
@@ -138,63 +134,44 @@ public abstract class JdbcStore implements Store {
         return isAway(error) ? new StoreException.Unknown(error.getMessage(), error) : new StoreException(error.getMessage(), error);
     }
 
-    static PreparedStatement bound(Connection db, String statement, Object... values) throws SQLException {
-        PreparedStatement made = db.prepareStatement(statement);
-        for (int k = 0; k < values.length; k++) {
-            if (values[k] == null) {
-                made.setNull(k + 1, java.sql.Types.BINARY);
-            } else {
-                made.setObject(k + 1, values[k]);
-            }
-        }
-        return made;
-    }
-
-    static int change(Connection db, String statement, Object... values) throws SQLException {
-        try (PreparedStatement made = bound(db, statement, values)) {
-            return made.executeUpdate();
-        }
-    }
-
-    static <T> List<T> rows(Connection db, String statement, Reader<T> reader, Object... values) throws SQLException {
-        try (PreparedStatement made = bound(db, statement, values); ResultSet rows = made.executeQuery()) {
-            List<T> read = new ArrayList<>();
-            while (rows.next()) {
-                read.add(reader.read(rows));
-            }
-            return read;
-        }
-    }
-
-    static void execute(Connection db, String statement) throws SQLException {
-        try (Statement made = db.createStatement()) {
-            made.execute(statement);
+    /** Acts on a connection in this thread's turn to write. */
+    final <T> T writing(Act<T> act) {
+        take();
+        try {
+            return using(act);
+        } finally {
+            give();
         }
     }
 
     /** Acts in a transaction of its own. */
-    <T> T within(Act<T> act) {
-        return using(db -> {
-            db.setAutoCommit(false);
+    final <T> T within(Act<T> act) {
+        return writing(inTransaction(act));
+    }
+
+    static <T> Act<T> inTransaction(Act<T> act) {
+        return it -> {
+            it.db.setAutoCommit(false);
             try {
-                T told = act.on(db);
-                db.commit();
+                T told = act.on(it);
+                it.db.commit();
                 return told;
             } catch (SQLException | RuntimeException fault) {
-                db.rollback();
+                it.db.rollback();
                 throw fault;
             } finally {
-                db.setAutoCommit(true);
+                it.db.setAutoCommit(true);
             }
-        });
+        };
     }
 
-    final <T> List<T> ask(String statement, Reader<T> reader, Object... values) {
-        return using(db -> rows(db, statement, reader, values));
+    final <T> List<T> ask(String statement, PreparedConnection.Reader<T> reader, Object... values) {
+        return using(db -> db.rows(statement, reader, values));
     }
 
+    /** How many rows a statement changed, which is a transaction of its own. */
     final int change(String statement, Object... values) {
-        return within(db -> change(db, statement, values));
+        return writing(db -> db.change(statement, values));
     }
 
     /** {@code Gone} where a request of this number isn't there. */
@@ -224,12 +201,7 @@ public abstract class JdbcStore implements Store {
     public final List<Entry> append(Put put) {
         boolean landed;
         try {
-            landed = within(db -> {
-                for (int k = 0; k < put.entries.size(); k++) {
-                    put(db, put, k);
-                }
-                return !rows(db, "select 1 from cf_request where id = ?", row -> 1, put.number).isEmpty();
-            });
+            landed = puts(put);
         } catch (StoreException refused) {
             if (!(refused.getCause() instanceof SQLException) || !isTaken((SQLException) refused.getCause())) {
                 throw refused;
@@ -254,7 +226,7 @@ public abstract class JdbcStore implements Store {
 
     @Override
     public Transaction transaction() {
-        return new Within(null);
+        return new Within();
     }
 
     /** A connection as a transactional function has it: it refuses what ends the transaction, since the function's finish does that. */
@@ -272,21 +244,19 @@ public abstract class JdbcStore implements Store {
         return (Connection) Proxy.newProxyInstance(JdbcStore.class.getClassLoader(), new Class<?>[] {Connection.class}, calls);
     }
 
-    /** A transaction of a function's, on a connection of its own. */
-    final class Within implements Transaction {
-        private final Line line;
-        private final Connection db;
+    /** A transaction of a function's, on a connection of its own, in the turn of the thread that makes it. */
+    class Within implements Transaction {
+        private final PreparedConnection db;
 
-        /** In its turn in this line, if there is one. */
-        Within(Line line) {
-            this.line = line;
-            Connection made = null;
+        Within() {
+            take();
+            PreparedConnection made = null;
             try {
                 made = connect();
                 begin(made);
-                execute(made, "savepoint cf_function");
+                made.execute("savepoint cf_function");
             } catch (SQLException | RuntimeException fault) {
-                give(made);
+                leave(made);
                 throw fault instanceof SQLException ? told((SQLException) fault) : (RuntimeException) fault;
             }
             db = made;
@@ -294,7 +264,7 @@ public abstract class JdbcStore implements Store {
 
         @Override
         public Connection connection() {
-            return lent(db);
+            return lent(db.db);
         }
 
         @Override
@@ -309,14 +279,8 @@ public abstract class JdbcStore implements Store {
         @Override
         public boolean append(Put put) {
             try {
-                execute(db, "release savepoint cf_function"); // (it is there, unless the function has ended the transaction)
-                for (int k = 0; k < put.entries.size(); k++) {
-                    put(db, put, k);
-                }
-                if (rows(db, "select 1 from cf_request where id = ?", row -> 1, put.number).isEmpty()) {
-                    throw new StoreException.Gone(put.request);
-                }
-                return true;
+                db.execute("release savepoint cf_function"); // (it is there, unless the function has ended the transaction)
+                return put(db, put);
             } catch (SQLException error) {
                 if (isTaken(error)) {
                     return false;
@@ -337,11 +301,10 @@ public abstract class JdbcStore implements Store {
 
         @Override
         public void close() {
-            ended();
-            give(db);
+            leave(db);
         }
 
-        private void give(Connection made) {
+        private void leave(PreparedConnection made) {
             try {
                 if (made != null) {
                     made.close(); // What wasn't committed is undone by that.
@@ -349,17 +312,47 @@ public abstract class JdbcStore implements Store {
             } catch (SQLException lost) {
                 // It is gone anyway.
             } finally {
-                if (line != null) {
-                    line.close();
-                }
+                give();
             }
         }
     }
 
-    /** Puts one entry of a group, within its transaction. A place that is taken is an error, so nothing of the group stands. */
-    abstract void put(Connection db, Put put, int k) throws SQLException;
+    /** Puts a group in a transaction, and says whether it landed. A place that is taken may be an error, too. Nothing of the group stands then. */
+    abstract boolean put(PreparedConnection db, Put put) throws SQLException;
 
-    static final String PUT = "insert into cf_word (request, at, word, token, payload) select id, ?, ?, ?, ? from cf_request where id = ?";
+    /** Puts a group, and says whether it landed. What it throws may be due to a place that {@link #isTaken}. */
+    boolean puts(Put put) {
+        return using(db -> put(db, put));
+    }
+
+    private static final String PUT = "insert into cf_word (request, at, word, token, payload) ";
+    private static final String PUT_ONE = PUT + "select id, ?, ?, ?, ? from cf_request where id = ? on conflict do nothing";
+    private static final Map<Integer, String> PUT_GROUPS = new ConcurrentHashMap<>();
+
+    /** Puts a group by one statement, but for payloads of more bytes; whether its request is there and its first place was free. */
+    static boolean putAtOnce(PreparedConnection db, Put put, int most) throws SQLException {
+        int many = put.entries.size();
+        Object[] values = new Object[4 * many + 1];
+        for (int k = 0, at = 0; k < many; k++) {
+            Entry entry = put.entries.get(k);
+            byte[] payload = put.payloads.get(put.at + 1 + k);
+            values[at++] = put.at + k;
+            values[at++] = entry.word;
+            values[at++] = entry.token;
+            values[at++] = payload == null || payload.length > most ? null : payload;
+        }
+        values[4 * many] = put.number;
+        return db.change(many == 1 ? PUT_ONE : PUT_GROUPS.computeIfAbsent(many, JdbcStore::putGroup), values) == many;
+    }
+
+    /** Of a group, a place that is taken is an error: else words behind it might stand. */
+    private static String putGroup(int many) {
+        String values = String.join(", ", java.util.Collections.nCopies(many, "(?, ?, ?, ?)"));
+        return PUT + "select id, v.* from cf_request, (values " + values + ") as v where id = ?";
+    }
+
+    /** The payload of a word, or null where it is large. */
+    abstract String smallPayload();
 
     /** Something was put. */
     abstract void hasPut();
@@ -368,15 +361,15 @@ public abstract class JdbcStore implements Store {
     public final List<Entry> read(String name, long number, int at) {
         List<Entry> entries = new ArrayList<>();
         boolean[] isThere = {false};
-        ask("select at, word, token from cf_request left join cf_word on request = id and at >= ? where id = ? order by at", row -> {
-            isThere[0] = true;
-            long place = row.getLong(1);
-            if (row.wasNull()) {
-                return null;
-            }
-            Entry.add(entries, name, at, place, row.getLong(2), row.getLong(3));
-            return null;
-        }, at, number);
+        ask("select at, word, token, " + smallPayload() + " from cf_request left join cf_word on request = id and at >= ? where id = ? order by at",
+                row -> {
+                    isThere[0] = true;
+                    long place = row.getLong(1);
+                    if (!row.wasNull()) {
+                        Entry.add(entries, name, at, place, row.getLong(2), row.getLong(3), row.getBytes(4));
+                    }
+                    return null;
+                }, at, number);
         if (!isThere[0]) {
             throw new StoreException.Gone(name);
         }
@@ -408,8 +401,8 @@ public abstract class JdbcStore implements Store {
 
     @Override
     public final void dropBeat(long session) {
-        within(db -> change(db, "delete from cf_beat where session = ?", session)
-                + change(db, "delete from cf_name where request = 0 and session = ?", session));
+        within(db -> db.change("delete from cf_beat where session = ?", session)
+                + db.change("delete from cf_name where request = 0 and session = ?", session));
     }
 
     @Override
@@ -449,7 +442,7 @@ public abstract class JdbcStore implements Store {
     @Override
     public void close() {
         isClosed = true;
-        for (Connection db = idle.pollFirst(); db != null; db = idle.pollFirst()) {
+        for (PreparedConnection db = idle.pollFirst(); db != null; db = idle.pollFirst()) {
             giveBack(db, false);
         }
     }

@@ -6,6 +6,7 @@ import java.util.ArrayList;
 import java.util.LinkedHashMap;
 import java.util.List;
 import java.util.Map;
+import java.util.regex.Pattern;
 
 /**
  * JSON as bytes, and back. A value is null, a Boolean, a Long, a BigInteger or a Double, a String, a List, or a Map by Strings. Other numbers are
@@ -13,6 +14,7 @@ import java.util.Map;
  */
 final class Json {
     private static final int DEEPEST = 500;
+    private static final Pattern NUMBER = Pattern.compile("-?(0|[1-9][0-9]*)(\\.[0-9]+)?([eE][+-]?[0-9]+)?"), WHOLE = Pattern.compile("-?[0-9]+");
 
     private final String text;
     private int at;
@@ -208,11 +210,11 @@ final class Json {
             at++;
         }
         String number = text.substring(from, at);
-        if (!number.matches("-?(0|[1-9][0-9]*)(\\.[0-9]+)?([eE][+-]?[0-9]+)?")) {
+        if (!NUMBER.matcher(number).matches()) {
             at = from;
             throw refusal("a value");
         }
-        if (!number.matches("-?[0-9]+")) {
+        if (!WHOLE.matcher(number).matches()) {
             return Double.valueOf(number);
         }
         BigInteger whole = new BigInteger(number);

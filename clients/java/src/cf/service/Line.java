@@ -4,32 +4,47 @@ import java.nio.charset.StandardCharsets;
 import java.util.concurrent.ArrayBlockingQueue;
 import java.util.concurrent.BlockingQueue;
 import java.util.concurrent.ConcurrentHashMap;
+import java.util.concurrent.Executor;
+import java.util.concurrent.SynchronousQueue;
+import java.util.concurrent.ThreadPoolExecutor;
 import java.util.concurrent.TimeUnit;
 import java.util.concurrent.atomic.AtomicBoolean;
 import java.util.concurrent.locks.ReentrantLock;
 
 /**
- * The line in which who writes to a file of SQLite's stands, in any language: first the threads of this process, and then, for the system's lock on
- * {@code FILE-line} by {@code flock}, which a killed process leaves. SQLite's own wait sleeps longer and longer, and is unfair.
+ * A store's place in the line in which who writes to a file of SQLite's stands, in any language: first the threads of this process, and then, for the
+ * system's lock on {@code FILE-line} by {@code flock}, which a killed process leaves. SQLite's own wait sleeps longer and longer, and is unfair. The
+ * file stays open until the line is closed, and while a thread has its turn.
  */
 final class Line implements AutoCloseable {
     private static final ConcurrentHashMap<String, ReentrantLock> TURNS = new ConcurrentHashMap<>();
+    /** Waits for the system's lock in others' places, by threads that stay for a second after that. */
+    private static final Executor WAITS = new ThreadPoolExecutor(0, Integer.MAX_VALUE, 1, TimeUnit.SECONDS, new SynchronousQueue<>(), Line::daemon);
+
+    private final String path;
+    private final ReentrantLock turn;
+    /** The file, or -1 where it isn't open; whether a thread has it; and whether it is to be closed then. Under this object's lock. */
+    private int file = -1;
+    private boolean isUsed, isClosed;
 
     static {
         Native.load();
     }
 
-    private final ReentrantLock turn;
-    private final int file;
-
-    private Line(ReentrantLock turn, int file) {
-        this.turn = turn;
-        this.file = file;
+    /** That of one who writes to this file. */
+    Line(String path) {
+        this.path = path;
+        turn = TURNS.computeIfAbsent(path, it -> new ReentrantLock(true));
     }
 
-    /** One's turn to write to this file, once it comes, which ends by {@link #close}. {@code Unknown} where others have it for so many seconds. */
-    static Line taken(String path, int seconds) {
-        ReentrantLock turn = TURNS.computeIfAbsent(path, it -> new ReentrantLock(true));
+    private static Thread daemon(Runnable run) {
+        Thread made = new Thread(run, "cf-line");
+        made.setDaemon(true);
+        return made;
+    }
+
+    /** Takes this thread's turn to write, once it comes, which {@link #give} ends. {@code Unknown} where others have it for so many seconds. */
+    void take(int seconds) {
         try {
             if (!turn.tryLock() && !turn.tryLock(seconds, TimeUnit.SECONDS)) {
                 throw new StoreException.Unknown(path + ": a thread of this process has the file for " + seconds + " s", null);
@@ -39,41 +54,66 @@ final class Line implements AutoCloseable {
             throw new StoreException.Unknown(path + ": interrupted in the line", interrupted);
         }
         try {
-            return new Line(turn, locked(path, seconds));
+            int its = used();
+            if (!lock(its, false)) {
+                await(its, seconds);
+            }
         } catch (RuntimeException | Error fault) {
+            unused();
             turn.unlock();
             throw fault;
         }
     }
 
-    private static int locked(String path, int seconds) {
-        int file = open((path + "-line").getBytes(StandardCharsets.UTF_8));
+    /** Ends this thread's turn. */
+    void give() {
+        try {
+            unlock(file);
+        } finally {
+            unused();
+            turn.unlock();
+        }
+    }
+
+    /** The file, which is opened if it isn't open. */
+    private synchronized int used() {
         if (file < 0) {
-            throw new StoreException.Unknown(path + "-line can't be opened: error " + -file + " of the system", null);
+            int opened = open((path + "-line").getBytes(StandardCharsets.UTF_8));
+            if (opened < 0) {
+                throw new StoreException.Unknown(path + "-line can't be opened: error " + -opened + " of the system", null);
+            }
+            file = opened;
         }
-        if (lock(file, false)) {
-            return file;
+        isUsed = true;
+        return file;
+    }
+
+    private synchronized void unused() {
+        isUsed = false;
+        if (isClosed) {
+            close();
         }
-        return waited(path, file, seconds);
+    }
+
+    /** The file is another thread's by now, which waits for its lock and closes it. */
+    private synchronized void forget() {
+        file = -1;
     }
 
     /** A wait for the system's lock can't be given up, and who has it may have been stopped: a thread waits in this one's place. */
-    private static int waited(String path, int file, int seconds) {
+    private void await(int its, int seconds) {
         BlockingQueue<Boolean> has = new ArrayBlockingQueue<>(1);
         AtomicBoolean isOver = new AtomicBoolean(); // whoever sets it second closes the file, or has the lock
-        Thread waits = new Thread(() -> {
-            boolean is = lock(file, true);
-            if (isOver.compareAndSet(false, true)) {
-                has.add(is);
-            } else {
-                close(file);
-            }
-        }, "cf-line");
-        waits.setDaemon(true);
         try {
-            waits.start();
+            WAITS.execute(() -> {
+                boolean is = lock(its, true);
+                if (isOver.compareAndSet(false, true)) {
+                    has.add(is);
+                } else {
+                    close(its);
+                }
+            });
         } catch (OutOfMemoryError noThread) {
-            close(file);
             throw new StoreException.Unknown(path + ": another process has the file, and no thread can wait for it", noThread);
         }
         Boolean is = null;
@@ -85,6 +125,7 @@ final class Line implements AutoCloseable {
             interrupted = caught;
         }
         if (is == null && isOver.compareAndSet(false, true)) {
+            forget();
             throw new StoreException.Unknown(path + ": another process has the file for " + seconds + " s", interrupted);
         }
         while (is == null) { // (it is just coming)
@@ -92,16 +133,18 @@ final class Line implements AutoCloseable {
             is = has.poll();
         }
         if (!is) {
-            close(file);
             throw new StoreException.Unknown(path + "-line can't be locked", null);
         }
-        return file;
     }
 
+    /** Closes the file, once no thread has its turn. */
     @Override
-    public void close() {
-        close(file);
-        turn.unlock();
+    public synchronized void close() {
+        isClosed = true;
+        if (!isUsed && file >= 0) {
+            close(file);
+            file = -1;
+        }
     }
 
     /** A file, which is made if it isn't there; or the system's error, negated. */
@@ -109,6 +152,8 @@ final class Line implements AutoCloseable {
 
     /** Locks a file for one alone, and waits for that if it is told to. Whether it is locked. */
     private static native boolean lock(int file, boolean waits);
+
+    private static native void unlock(int file);
 
     /** Closes a file, which unlocks it. */
     private static native void close(int file);

@@ -1,7 +1,6 @@
 package cf.service;
 
 import java.lang.reflect.Method;
-import java.sql.Connection;
 import java.sql.SQLException;
 import java.util.HashMap;
 import java.util.List;
@@ -34,9 +33,17 @@ final class PostgresStore extends JdbcStore {
     private static final int CLOSING = 6_318_043;
     /** Settings with which nothing that was answered is lost. */
     private static final String[][] SAFE = {{"fsync", "on"}, {"full_page_writes", "on"}, {"transaction_read_only", "off"}};
+    private static final String MARK = "pg_snapshot_xmin(pg_current_snapshot())::text::bigint";
+    /** The next mark, and what came since one. */
+    private static final String NEWS = "select null, " + MARK + " union all "
+            + "select name, 0 from cf_request where closed is null and made_by >= ?::text::xid8 union all "
+            + "select name, max(at) + 1 from cf_word w join cf_request on id = request "
+            + "where closed is null and w.made_by >= ?::text::xid8 group by name";
+    private static final String SETTINGS = "select name, current_setting(name) from "
+            + "unnest(array['fsync', 'full_page_writes', 'transaction_read_only', 'synchronous_commit']) as name";
     private static final long BETWEEN_NOTICES = 10;
 
-    private Connection listens;
+    private PreparedConnection listens;
     private Thread notifier;
     private boolean isWanted, isOver;
 
@@ -47,27 +54,31 @@ final class PostgresStore extends JdbcStore {
     @Override
     void setUp() {
         within(db -> {
-            rows(db, "select pg_advisory_xact_lock(" + SET_UP + ")", row -> null); // (two that make a table at once are refused)
-            execute(db, SCHEMA);
+            db.rows("select pg_advisory_xact_lock(" + SET_UP + ")", row -> null); // (two that make a table at once are refused)
+            db.execute(SCHEMA);
             return null;
         });
     }
 
     @Override
-    void prepare(Connection db) throws SQLException {
+    void prepare(PreparedConnection db) throws SQLException {
+        Map<String, String> shown = shown(db);
         for (String[] setting : SAFE) {
-            String found = shown(db, setting[0]);
+            String found = shown.get(setting[0]);
             if (!found.equals(setting[1])) {
                 throw new StoreException(setting[0] + " is " + found + ", with which words are lost or can't be put");
             }
         }
-        if (shown(db, "synchronous_commit").matches("off|local")) {
-            execute(db, "set synchronous_commit = on");
+        if (shown.get("synchronous_commit").matches("off|local")) {
+            db.execute("set synchronous_commit = on");
         }
     }
 
-    private static String shown(Connection db, String setting) throws SQLException {
-        return rows(db, "select current_setting(?)", row -> row.getString(1), setting).get(0);
+    /** What is set, by one question. */
+    private static Map<String, String> shown(PreparedConnection db) throws SQLException {
+        Map<String, String> shown = new HashMap<>();
+        db.rows(SETTINGS, row -> shown.put(row.getString(1), row.getString(2)));
+        return shown;
     }
 
     @Override
@@ -87,25 +98,29 @@ final class PostgresStore extends JdbcStore {
     }
 
     @Override
-    void begin(Connection db) throws SQLException {
-        db.setAutoCommit(false);
+    void begin(PreparedConnection it) throws SQLException {
+        it.db.setAutoCommit(false);
     }
 
     @Override
-    void commit(Connection db) throws SQLException {
-        db.commit();
+    void commit(PreparedConnection it) throws SQLException {
+        it.db.commit();
     }
 
     @Override
-    boolean undoes(Connection db) throws SQLException {
-        db.rollback();
-        return shown(db, "transaction_read_only").equals("on");
+    boolean undoes(PreparedConnection it) throws SQLException {
+        it.db.rollback();
+        return shown(it).get("transaction_read_only").equals("on");
     }
 
     @Override
-    void put(Connection db, Put put, int k) throws SQLException {
-        Entry entry = put.entries.get(k);
-        change(db, PUT, put.at + k, entry.word, entry.token, put.payloads.get(put.at + 1 + k), put.number);
+    String smallPayload() {
+        return "case when octet_length(payload) <= 512 then payload end";
+    }
+
+    @Override
+    boolean put(PreparedConnection db, Put put) throws SQLException {
+        return putAtOnce(db, put, Integer.MAX_VALUE);
     }
 
     @Override
@@ -121,16 +136,18 @@ final class PostgresStore extends JdbcStore {
     @Override
     public News news(Object mark) {
         // All transactions below the mark had ended when it was read, so what they did was told.
-        Long next = ask("select pg_snapshot_xmin(pg_current_snapshot())::text::bigint", row -> row.getLong(1)).get(0);
         Map<String, Integer> ends = new HashMap<>();
         if (mark == null) {
+            Long next = ask("select " + MARK, row -> row.getLong(1)).get(0);
             tell(ends, ask(ENDS, JdbcStore::end));
-        } else {
-            tell(ends, ask("select name, 0 from cf_request where closed is null and made_by >= ?::text::xid8", JdbcStore::end, mark.toString()));
-            tell(ends, ask("select name, max(at) + 1 from cf_word w join cf_request on id = request "
-                    + "where closed is null and w.made_by >= ?::text::xid8 group by name", JdbcStore::end, mark.toString()));
+            return new News(ends, next);
         }
-        return new News(ends, next);
+        Long[] next = new Long[1];
+        ask(NEWS, row -> {
+            String name = row.getString(1);
+            return name == null ? next[0] = row.getLong(2) : (Object) ends.merge(name, row.getInt(2), Math::max);
+        }, mark.toString(), mark.toString());
+        return new News(ends, next[0]);
     }
 
     @Override
@@ -138,13 +155,13 @@ final class PostgresStore extends JdbcStore {
         try {
             if (listens == null) {
                 listens = connect();
-                execute(listens, "listen cf");
+                listens.execute("listen cf");
                 return;
             }
             // (the driver's own class, which isn't there where the store is compiled)
-            Class<?> kind = Class.forName("org.postgresql.PGConnection", true, listens.getClass().getClassLoader());
+            Class<?> kind = Class.forName("org.postgresql.PGConnection", true, listens.db.getClass().getClassLoader());
             Method get = kind.getMethod("getNotifications", int.class);
-            get.invoke(listens.unwrap(kind), (int) Math.max(millis, 1));
+            get.invoke(listens.db.unwrap(kind), (int) Math.max(millis, 1));
         } catch (SQLException error) {
             listens = null;
             throw told(error);
@@ -175,15 +192,15 @@ final class PostgresStore extends JdbcStore {
     }
 
     private void sendNotices() {
-        Connection db = null;
+        PreparedConnection db = null;
         try {
             while (isNoticeWanted()) {
                 try {
                     if (db == null) {
                         db = connect();
-                        execute(db, "set synchronous_commit = off");
+                        db.execute("set synchronous_commit = off");
                     }
-                    execute(db, "notify cf");
+                    db.execute("notify cf");
                 } catch (SQLException | StoreException lost) {
                     db = null;
                 }
@@ -206,10 +223,10 @@ final class PostgresStore extends JdbcStore {
     }
 
     /** Does a statement under the lock of what is closed. */
-    private <T> List<T> closing(String name, long number, String statement, Reader<T> reader, Object... values) {
+    private <T> List<T> closing(String name, long number, String statement, PreparedConnection.Reader<T> reader, Object... values) {
         List<T> told = within(db -> {
-            rows(db, "select pg_advisory_xact_lock(?, ?)", row -> null, CLOSING, (int) (number % (1L << 31)));
-            return rows(db, statement, reader, values);
+            db.rows("select pg_advisory_xact_lock(?, ?)", row -> null, CLOSING, (int) (number % (1L << 31)));
+            return db.rows(statement, reader, values);
         });
         if (told.isEmpty()) {
             throw new StoreException.Gone(name);

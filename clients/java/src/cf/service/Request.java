@@ -486,7 +486,7 @@ public final class Request implements AutoCloseable {
                 isTold = true;
                 history = taken();
             }
-            service.ends().tell(history, describe, within);
+            service.ends().tell(() -> history.described(describe), within);
         } catch (Throwable none) {
             Ends.warn("the end of a request isn't told", none);
         }

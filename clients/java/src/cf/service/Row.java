@@ -11,10 +11,12 @@ final class Row implements AutoCloseable {
     static final int SESSION_BITS = 39;
     /** Codes of cf.h. */
     static final int NO_ROOM = 30, ROOM = 16;
-    /** How far a stage has come. */
-    static final int PENDING = 0, READY = 1, CLAIMED = 2, LINKED = 3, SETTLED = 4;
+    /** How far a stage has come that is settled. */
+    static final int SETTLED = 4;
     /** The kinds of an outcome. */
     static final int VALUE = 1, THROWN = 2, CANCELLED = 3, TIMED_OUT = 4, BAD_ANSWER = 5;
+    /** The kinds of an answer: a value, which is null where the number is negative; an exception; a link to a stage. */
+    static final int GIVE = 0, THROW = 1, LINK = 2;
     /** What a function is called with. */
     static final int NO_ARGS = 0, ONE = 1, TWO = 2, GOT = 3;
     /** Places of what {@link #told} has: a reply's answer, the number of a stage that was attached, and arguments. */
@@ -32,7 +34,7 @@ final class Row implements AutoCloseable {
     final int[] told = new int[12];
     private long view;
 
-    /** A view of the row of a plan's request: of each stage its form, how many sources it has, these, and its function or -1. */
+    /** A view of the row of a plan's request, which is given as {@link Native#plan} has it. */
     Row(int[] plan, int room, int first, long session) {
         view = open(plan, room, first, session);
         if (view < 0) {
@@ -101,6 +103,27 @@ final class Row implements AutoCloseable {
         return ready(view, from);
     }
 
+    /** The word that finishes a stage of this session with an answer of a kind, {@link #GIVE} and so on, and its number; or -1 where it hasn't the stage. */
+    long finish(int stage, int kind, int number) {
+        return finish(view, stage, kind, number);
+    }
+
+    /** The lowest stage from a number on that this session could claim behind such a finish, or next where the stage is -1; or -1. */
+    int nextClaim(int stage, int kind, int number, int from) {
+        return nextClaim(view, stage, kind, number, from);
+    }
+
+    /** The lowest stage from this one on whose claim is open, and the session to which it was granted; or null. */
+    long[] openClaim(int from) {
+        long[] claim = new long[2];
+        return openClaim(view, from, claim) ? claim : null;
+    }
+
+    /** The word that fails the lowest stage from this one on that a session has, which names no exception yet; or -1 where it has none. */
+    long abandon(long session, int from) {
+        return abandon(view, session, from);
+    }
+
     @Override
     public void close() {
         if (view != 0) {
@@ -126,4 +149,12 @@ final class Row implements AutoCloseable {
     private static native int number(long view);
 
     private static native int ready(long view, int from);
+
+    private static native long finish(long view, int stage, int kind, int number);
+
+    private static native int nextClaim(long view, int held, int kind, int number, int from);
+
+    private static native boolean openClaim(long view, int from, long[] claim);
+
+    private static native long abandon(long view, long session, int from);
 }

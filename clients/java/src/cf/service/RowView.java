@@ -26,7 +26,9 @@ final class RowView {
     private final Row row;
     private final List<Known> stages = new ArrayList<>();
     private final int planned;
-    private int room, seen;
+    private int room, seen, settledStages;
+    /** Those that were settled since somebody took them. */
+    private List<Integer> settled = new ArrayList<>();
     /** The words that were seen, and whose each is. */
     private long[] words = new long[16], sessions = new long[16];
     private final StoredPlan plan;
@@ -34,8 +36,6 @@ final class RowView {
     final TreeMap<Integer, Integer> links = new TreeMap<>();
     /** Composing stages that were settled, and whose promises may be waited for by nobody. */
     final TreeSet<Integer> unlinked = new TreeSet<>();
-    /** The sessions whose claims of stages are open. */
-    private final TreeMap<Integer, Long> claims = new TreeMap<>();
     /** Claims of this session's that were granted, as it found when it read them: what their functions are called with. */
     final TreeMap<Integer, int[]> found = new TreeMap<>();
     /** Tokens of words of which it isn't known whether they stand, and the places where they would. */
@@ -50,6 +50,42 @@ final class RowView {
         Wanted(long word, byte[] payload) {
             this.word = word;
             this.payload = payload;
+        }
+    }
+
+    /** What a stage's function came to: a value or null, an exception, or a link. */
+    static final class Finish {
+        final int stage;
+        final byte[] payload;
+        private final int kind, to;
+
+        private Finish(int stage, byte[] payload, int kind, int to) {
+            this.stage = stage;
+            this.payload = payload;
+            this.kind = kind;
+            this.to = to;
+        }
+
+        static Finish gives(int stage, byte[] value) {
+            return new Finish(stage, value, Row.GIVE, 0);
+        }
+
+        static Finish throwing(int stage, byte[] thrown) {
+            return new Finish(stage, thrown, Row.THROW, 0);
+        }
+
+        /** A composing stage is linked to its promise, which the stage stands for that the payload names. */
+        static Finish links(int stage, byte[] given, int promise) {
+            return new Finish(stage, given, Row.LINK, promise);
+        }
+
+        boolean isThrown() {
+            return kind == Row.THROW;
+        }
+
+        /** The number of the answer, where the finish stands at this place. */
+        private int number(int place) {
+            return kind == Row.LINK ? to : payload == null ? -1 : place;
         }
     }
 
@@ -73,10 +109,10 @@ final class RowView {
     private static final class Known {
         final Form form;
         final int[] of;
-        /** What is said of it, where that was read, and the place of the word that attached it, or 0. */
+        /** What is said of it, where that was read; the place of the word that attached it, or 0; and that one's payload, where it came along. */
         StoredPlan.Said said;
         final int attached;
-        int kind;
+        byte[] payload;
         /** Once it is settled: the outcome's numbers, and the place where it was. */
         int[] outcome;
         int settled;
@@ -151,50 +187,71 @@ final class RowView {
         return stages.get(stage).of;
     }
 
-    /** The ready stages, rising. */
-    List<Integer> ready() {
-        List<Integer> ready = new ArrayList<>();
-        for (int stage = row.ready(0); stage >= 0; stage = row.ready(stage + 1)) {
-            ready.add(stage);
-        }
-        return ready;
+    /** The lowest ready stage from this one on, or -1. */
+    int ready(int from) {
+        return row.ready(from);
     }
 
-    /** The stages that have this one as their only source, and aren't settled. */
-    List<Integer> aloneBehind(int stage) {
-        List<Integer> behind = new ArrayList<>();
-        for (int k = stage + 1; k < stages.size(); k++) {
-            int[] of = stages.get(k).of;
-            if (of.length == 1 && of[0] == stage && !isSettled(k)) {
-                behind.add(k);
-            }
+    /** The word of a finish, with its payload, or null where this session hasn't the stage. If the stage was settled meanwhile, it is late. */
+    Wanted finished(Finish finish) {
+        long word = row.finish(finish.stage, finish.kind, finish.number(seen + 1));
+        return word < 0 ? null : new Wanted(word, finish.payload);
+    }
+
+    /** The lowest stage from a number on that this session could claim next, behind a finish if that isn't null; or -1. */
+    int nextClaim(Finish finish, int from) {
+        return finish == null ? row.nextClaim(-1, 0, 0, from) : row.nextClaim(finish.stage, finish.kind, finish.number(seen + 1), from);
+    }
+
+    /** The stages whose claim is open, each with the session to which it was granted: also those that were settled since. */
+    private Map<Integer, Long> claims() {
+        Map<Integer, Long> claims = new TreeMap<>();
+        for (long[] claim = row.openClaim(0); claim != null; claim = row.openClaim((int) claim[0] + 1)) {
+            claims.put((int) claim[0], claim[1]);
         }
-        return behind;
+        return claims;
     }
 
     /** The stages whose function runs somewhere: claimed and not settled, each with the session that has it. */
     Map<Integer, Long> openClaims() {
-        Map<Integer, Long> open = new TreeMap<>(claims);
-        open.keySet().removeIf(stage -> stages.get(stage).kind != Row.CLAIMED);
+        Map<Integer, Long> open = claims();
+        open.keySet().removeIf(this::isSettled);
         return open;
     }
 
+    /** Whether this session has a claim of a stage that isn't finished. */
     boolean isHeld(int stage) {
-        return Long.valueOf(session).equals(claims.get(stage));
+        long[] claim = row.openClaim(stage);
+        return claim != null && claim[0] == stage && claim[1] == session;
     }
 
+    /** Whether anybody has. */
     boolean isClaimed(int stage) {
-        return claims.containsKey(stage);
+        long[] claim = row.openClaim(stage);
+        return claim != null && claim[0] == stage;
     }
 
-    /** Whether something is to do in it without a new word. */
-    boolean hasLeft() {
-        return !links.isEmpty() || !unlinked.isEmpty() || !found.isEmpty() || row.ready(0) >= 0;
+    /** The word that fails this stage for a session that is gone, or null where that doesn't have it. */
+    Wanted abandoned(long gone, int stage, byte[] payload) {
+        long word = row.abandon(gone, stage);
+        return word >= 0 && Words.stage(word) == stage ? new Wanted(word, payload) : null;
+    }
+
+    /** Whether something is to do in it without a new word, also by who runs no functions. */
+    boolean hasLeft(boolean runs) {
+        return !links.isEmpty() || !unlinked.isEmpty() || !found.isEmpty() || runs && row.ready(0) >= 0;
     }
 
     /** Whether all stages are settled, and no claim is open but for those of sessions that are gone. */
     boolean isDone(java.util.function.LongPredicate isGone) {
-        return stages.stream().allMatch(it -> it.settled > 0) && claims.values().stream().allMatch(isGone::test);
+        return settledStages == stages.size() && claims().values().stream().allMatch(isGone::test);
+    }
+
+    /** The stages that were settled since this was asked before. */
+    List<Integer> takeSettled() {
+        List<Integer> taken = settled;
+        settled = taken.isEmpty() ? taken : new ArrayList<>();
+        return taken;
     }
 
     // Reading and putting.
@@ -211,7 +268,11 @@ final class RowView {
             if (wanted.isEmpty()) {
                 return new ArrayList<>();
             }
-            makeRoom((int) wanted.stream().filter(it -> Words.kind(it.word) == Words.ATTACH).count());
+            int attached = 0;
+            for (Wanted it : wanted) {
+                attached += Words.kind(it.word) == Words.ATTACH ? 1 : 0;
+            }
+            makeRoom(attached);
             Store.Put put = planned(wanted);
             List<Store.Entry> stands;
             try {
@@ -305,7 +366,7 @@ final class RowView {
 
     /** Does an entry that stands behind all that was seen. */
     private Done take(Store.Entry entry) {
-        int place = seen + 1, stage = Words.stage(entry.word);
+        int place = seen + 1;
         int[] changed;
         try {
             if (Words.kind(entry.word) == Words.ATTACH) {
@@ -327,23 +388,17 @@ final class RowView {
         switch (Words.kind(entry.word)) {
             case Words.ATTACH:
                 if (reply[Row.ANSWER] == 0) {
-                    stages.add(attached(entry.word, place));
+                    stages.add(attached(entry, place));
                 }
                 break;
             case Words.CLAIM:
-                if (reply[Row.ANSWER] == 0) {
-                    claims.put(stage, entry.token >>> Row.COUNT_BITS);
-                    if (isOwn) {
-                        found.put(stage, reply);
-                    }
+                if (reply[Row.ANSWER] == 0 && isOwn) {
+                    found.put(Words.stage(entry.word), reply);
                 }
                 break;
             case Words.FINISH:
-                if (reply[Row.ANSWER] != 2) { // (not his)
-                    claims.remove(stage);
-                    if (Words.linking(entry.word) && reply[Row.ANSWER] == 0) {
-                        links.put(Words.low(entry.word), place);
-                    }
+                if (reply[Row.ANSWER] == 0 && Words.linking(entry.word)) {
+                    links.put(Words.low(entry.word), place);
                 }
                 break;
             default:
@@ -362,18 +417,19 @@ final class RowView {
         sessions[seen++] = entry.token >>> Row.COUNT_BITS;
     }
 
-    private static Known attached(long word, int place) {
-        int low = Words.low(word), first = Words.stage(word), second = low >>> 12 & 0xfff;
-        int[] of = Arrays.copyOf(new int[] {first, second}, Words.tag(word));
-        return new Known(Form.of(low >>> 24), of, null, place);
+    private static Known attached(Store.Entry entry, int place) {
+        int low = Words.low(entry.word), first = Words.stage(entry.word), second = low >>> 12 & 0xfff;
+        int[] of = Arrays.copyOf(new int[] {first, second}, Words.tag(entry.word));
+        Known made = new Known(Form.of(low >>> 24), of, null, place);
+        made.payload = entry.payload;
+        return made;
     }
 
     private void takeNews(int[] changed, long word, int place) {
         int given = Words.kind(word) == Words.FAIL_AS ? place : Words.linking(word) ? stages.get(Words.low(word)).failed : 0;
         for (int at = 0; at < changed.length; at += Row.STAGE) {
             Known stage = stages.get(changed[at]);
-            stage.kind = changed[at + Row.KIND];
-            if (stage.kind != Row.SETTLED || stage.settled > 0) {
+            if (changed[at + Row.KIND] != Row.SETTLED || stage.settled > 0) {
                 continue;
             }
             stage.outcome = Arrays.copyOfRange(changed, at + Row.ENDED, at + Row.STAGE);
@@ -381,6 +437,8 @@ final class RowView {
                 stage.failed = given > 0 ? given : failedOf(stage.of, stage.outcome[0]);
             }
             stage.settled = place;
+            settledStages++;
+            settled.add(changed[at]);
             if (stage.form.composes) {
                 unlinked.add(changed[at]);
             }
@@ -418,7 +476,8 @@ final class RowView {
     StoredPlan.Said said(int number) {
         Known stage = stages.get(number);
         if (stage.said == null) {
-            stage.said = reading(stage.attached, payload -> new StoredPlan.Said((Map<?, ?>) Json.read(payload), number));
+            stage.said = reading(stage.attached, stage.payload, payload -> new StoredPlan.Said((Map<?, ?>) Json.read(payload), number));
+            stage.payload = null;
         }
         return stage.said;
     }
@@ -451,6 +510,11 @@ final class RowView {
             this.words = words;
             this.sessions = sessions;
             this.attached = attached;
+        }
+
+        /** What went along from the context of the place where the request was begun. */
+        Map<String, Object> carried() {
+            return plan.carried;
         }
 
         /** It reads all payloads. */
@@ -491,7 +555,12 @@ final class RowView {
     }
 
     private <T> T reading(int place, Reading<T> reading) {
-        byte[] payload = payload(place);
+        return reading(place, null, reading);
+    }
+
+    /** What the payload of a place says, which is asked for where it isn't known. */
+    private <T> T reading(int place, byte[] known, Reading<T> reading) {
+        byte[] payload = known == null ? payload(place) : known;
         try {
             return reading.of(payload);
         } catch (IllegalArgumentException | ClassCastException | NullPointerException fault) {

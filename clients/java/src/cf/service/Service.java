@@ -21,7 +21,7 @@ public final class Service {
     /** Null where nothing goes along with functions. */
     private final Contexts contexts;
     /** Null where nobody is told of ends. */
-    private final Ends ends;
+    private final Ends<History> ends;
     private final AtomicLong requests;
     /** Whether its requests go on in further ones. */
     private final boolean goesOn;
@@ -41,7 +41,7 @@ public final class Service {
         this(Objects.requireNonNull(executor), Describe.ALL, null, null, new AtomicLong(), false, null);
     }
 
-    private Service(Executor executor, Describe describe, Contexts contexts, Ends ends, AtomicLong requests, boolean goesOn, Watch watch) {
+    private Service(Executor executor, Describe describe, Contexts contexts, Ends<History> ends, AtomicLong requests, boolean goesOn, Watch watch) {
         this.executor = executor;
         this.describe = describe;
         this.contexts = contexts;
@@ -70,7 +70,7 @@ public final class Service {
      * the request was opened. What it throws is logged as a warning of {@code cf.service}.
      */
     public Service onEnd(Consumer<? super History> hook) {
-        return new Service(executor, describe, contexts, new Ends(Objects.requireNonNull(hook)), requests, goesOn, watch);
+        return new Service(executor, describe, contexts, new Ends<>(Objects.requireNonNull(hook)), requests, goesOn, watch);
     }
 
     /** One with the same executor, of whose requests each {@link Request#goesOn goes on}. */
@@ -130,7 +130,7 @@ public final class Service {
         return describe;
     }
 
-    Ends ends() {
+    Ends<History> ends() {
         return ends;
     }
 

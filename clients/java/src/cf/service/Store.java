@@ -105,14 +105,21 @@ public interface Store extends AutoCloseable {
         void close();
     }
 
-    /** An entry of a row: a word, and the token that says who put it. */
+    /** An entry of a row: a word, the token that says who put it, and its payload, where a store that was asked for entries has given that along. */
     final class Entry {
         final long word, token;
+        final byte[] payload;
 
         /** An entry of this word and token. */
         public Entry(long word, long token) {
+            this(word, token, null);
+        }
+
+        /** The same with the payload, or null where {@link Store#payload} is to be asked. */
+        public Entry(long word, long token, byte[] payload) {
             this.word = word;
             this.token = token;
+            this.payload = payload;
         }
 
         /** The word of an event. */
@@ -126,7 +133,7 @@ public interface Store extends AutoCloseable {
         }
 
         /** Adds what stands at a place to what stands behind so many words. {@link StoreException.Broken} where it is no entry, or leaves a gap. */
-        static void add(List<Entry> entries, String name, int at, long place, long word, long token) {
+        static void add(List<Entry> entries, String name, int at, long place, long word, long token, byte[] payload) {
             int expected = at + entries.size();
             if (place != expected) {
                 throw new StoreException.Broken(name, expected + 1, "no word stands there, and one stands at " + (place + 1));
@@ -134,7 +141,7 @@ public interface Store extends AutoCloseable {
             if (word < 0 || token < 0) {
                 throw new StoreException.Broken(name, expected + 1, word + " with " + token + " is no word with its token");
             }
-            entries.add(new Entry(word, token));
+            entries.add(new Entry(word, token, payload));
         }
     }
 

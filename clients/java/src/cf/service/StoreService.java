@@ -9,11 +9,13 @@ import java.util.Collections;
 import java.util.HashMap;
 import java.util.List;
 import java.util.Map;
+import java.util.Objects;
 import java.util.Set;
 import java.util.concurrent.ConcurrentHashMap;
 import java.util.concurrent.RejectedExecutionException;
 import java.util.concurrent.TimeUnit;
 import java.util.concurrent.TimeoutException;
+import java.util.function.Consumer;
 
 /**
  * A process, or a part of one, that works on requests of a store: threads run functions, and one thread looks what is new. To close it is to begin
@@ -22,6 +24,8 @@ import java.util.concurrent.TimeoutException;
 public final class StoreService implements AutoCloseable {
     /** How long the pump waits for news at most, and how often timers are looked for, in milliseconds. */
     private static final long LONGEST_PAUSE = 200, BETWEEN_TIMERS = 20;
+    /** How long the hook may take at the end, in seconds. */
+    private static final long LAST_ENDS = 30;
 
     final Store store;
     final Functions functions;
@@ -31,6 +35,8 @@ public final class StoreService implements AutoCloseable {
     private final long lease;
     private final boolean takesAll;
     private final StoredContexts contexts;
+    /** Null where nobody is told of ends. */
+    private final Ends<StoredHistory> ends;
     private final Watcher watcher;
     private long nextBeat, nextLook;
     private Object mark;
@@ -63,10 +69,24 @@ public final class StoreService implements AutoCloseable {
      * @throws IllegalArgumentException a function is transactional, and the store has no transactions that it can take part in
      */
     public StoreService(Store store, Functions functions, int threads, long lease, TimeUnit unit, boolean takesAll, StoredContexts contexts) {
-        this(store, functions, threads, lease, unit, takesAll, contexts, new Host());
+        this(store, functions, threads, lease, unit, takesAll, contexts, null, new Host());
     }
 
-    StoreService(Store store, Functions functions, int threads, long lease, TimeUnit unit, boolean takesAll, StoredContexts contexts, Host host) {
+    /**
+     * With a hook that is told of each request that this service has closed, too: of a flow's once all is settled, and of one that was
+     * {@link StoredRequest#end ended by hand} here. If the process dies as it closes one, nobody is told of that. The hook is called on a thread of
+     * its own, one request after another, with the context of the place where the request was begun, as far as the contexts carry that. What it
+     * throws is logged as a warning of {@code cf.service}.
+     *
+     * @param contexts what goes along with functions, or null
+     */
+    public StoreService(Store store, Functions functions, int threads, long lease, TimeUnit unit, boolean takesAll, StoredContexts contexts,
+            Consumer<? super StoredHistory> onEnd) {
+        this(store, functions, threads, lease, unit, takesAll, contexts, new Ends<>(Objects.requireNonNull(onEnd)), new Host());
+    }
+
+    StoreService(Store store, Functions functions, int threads, long lease, TimeUnit unit, boolean takesAll, StoredContexts contexts,
+            Ends<StoredHistory> ends, Host host) {
         if (threads < 0 || lease <= 0) {
             throw new IllegalArgumentException("threads must not be below 0, and the lease has to be above it");
         }
@@ -74,6 +94,7 @@ public final class StoreService implements AutoCloseable {
             throw new IllegalArgumentException("the store has no transactions that a function can take part in");
         }
         this.contexts = contexts;
+        this.ends = ends;
         this.store = store;
         this.functions = functions;
         this.threads = threads;
@@ -171,6 +192,9 @@ public final class StoreService implements AutoCloseable {
         boolean isInterrupted = false;
         try {
             host.end();
+            if (ends != null) {
+                ends.end(LAST_ENDS);
+            }
         } catch (InterruptedException interrupted) {
             isInterrupted = true;
         }
@@ -286,8 +310,20 @@ public final class StoreService implements AutoCloseable {
         }
     }
 
-    /** Lets a thread look what is to do in a request. */
+    /** Lets a thread read what others have put to a request, and look what is to do there. */
     void serve(StoredRequest request) {
+        request.isStale = true;
+        goOn(request);
+    }
+
+    /** Lets a thread do what is to do in a request by what is known here, if anything is. */
+    void serveKnown(StoredRequest request) {
+        if (request.reopens || request.with(this::isLeft)) {
+            goOn(request);
+        }
+    }
+
+    private void goOn(StoredRequest request) {
         if (!stops && request.isQueued.compareAndSet(false, true) && !submit(Host.Job.WORK, request.name, request, () -> work(request))) {
             request.isQueued.set(false);
         }
@@ -411,8 +447,12 @@ public final class StoreService implements AutoCloseable {
 
     /** Whether something is to do in a request without a new word. Where another thread has it, that one looks. */
     private boolean needs(StoredRequest request) {
-        return request.withIfFree(view -> request.reopens || view.hasLeft() || view.openClaims().values().stream().anyMatch(this::isGone)
-                || isFinished(view), false);
+        return request.withIfFree(view -> request.reopens || isLeft(view) || view.openClaims().values().stream().anyMatch(this::isGone), false);
+    }
+
+    /** Whether something is to do by what is known here, but for what sessions leave that are gone. */
+    private boolean isLeft(RowView view) {
+        return view.hasLeft(threads > 0) || isFinished(view);
     }
 
     private boolean isGone(long other) {
@@ -448,7 +488,7 @@ public final class StoreService implements AutoCloseable {
                 request.catchUp(); // (a timer is set behind the word of its stage)
                 request.act(view -> timer.stage >= view.size() || view.isSettled(timer.stage) ? Collections.emptyList()
                         : Collections.singletonList(fired(timer)));
-                serve(request);
+                serveKnown(request);
             }
             store.dropTimer(timer);
         } finally {
@@ -511,35 +551,12 @@ public final class StoreService implements AutoCloseable {
         }
     }
 
-    /** What a stage's function came to. */
-    private static final class Finish {
-        final int stage;
-        final byte[] payload;
-        final boolean isThrown;
-        /** The promise to which it links a composing stage, or -1. */
-        final int to;
-
-        Finish(int stage, byte[] payload, boolean isThrown) {
-            this(stage, payload, isThrown, -1);
-        }
-
-        Finish(int stage, byte[] payload, boolean isThrown, int to) {
-            this.stage = stage;
-            this.payload = payload;
-            this.isThrown = isThrown;
-            this.to = to;
-        }
-
-        RowView.Wanted wanted() {
-            long word = to >= 0 ? Words.finishLinking(0, stage, to)
-                    : isThrown ? Words.finishThrowing(0, stage, 0) : Words.finish(0, stage, Words.NIL);
-            return new RowView.Wanted(word, payload);
-        }
-    }
-
     private void work(StoredRequest request) {
         request.isQueued.set(false);
-        request.catchUp();
+        if (request.isStale) {
+            request.isStale = false;
+            request.catchUp();
+        }
         reopen(request);
         abandon(request);
         relay(request);
@@ -549,8 +566,17 @@ public final class StoreService implements AutoCloseable {
             task = next == null ? first(request) : next;
         }
         relay(request);
-        if (request.with(this::isFinished)) {
-            store.end(request.name, request.number, request.seen);
+        int seen = request.with(view -> isFinished(view) ? view.seen() : -1); // (another thread may be reading a word)
+        if (seen >= 0 && store.end(request.name, request.number, seen)) {
+            tellEnd(request);
+        }
+    }
+
+    /** Has the hook told of a request that this service has closed. */
+    void tellEnd(StoredRequest request) {
+        if (ends != null) {
+            RowView.Facts facts = request.with(RowView::facts);
+            ends.tell(() -> facts.history(Describe.ALL), contexts == null ? null : act -> contexts.restore(facts.carried()).execute(act));
         }
     }
 
@@ -560,8 +586,10 @@ public final class StoreService implements AutoCloseable {
             if (isGone(owner)) {
                 String text = "the worker that ran " + request.with(view -> view.said(stage).name) + " is gone, and it may have run";
                 byte[] payload = Json.write(new RemoteException(RemoteException.ABANDONED, text).written());
-                request.act(view -> owner.equals(view.openClaims().get(stage))
-                        ? Collections.singletonList(new RowView.Wanted(Words.fail(0, stage, 0), payload)) : Collections.emptyList());
+                request.act(view -> {
+                    RowView.Wanted wanted = view.abandoned(owner, stage, payload);
+                    return wanted == null ? Collections.emptyList() : Collections.singletonList(wanted);
+                });
             }
         });
     }
@@ -586,7 +614,8 @@ public final class StoreService implements AutoCloseable {
             int stage = found.getKey();
             try {
                 boolean isOpen = request.with(view -> view.isHeld(stage) && !view.isSettled(stage));
-                Task task = isOpen ? task(request, stage, found.getValue()) : next(request, new Finish(stage, null, false)); // (late: it does nothing)
+                Task task = isOpen ? task(request, stage, found.getValue())
+                        : next(request, RowView.Finish.gives(stage, null)); // (late: it does nothing)
                 if (task != null) {
                     return task;
                 }
@@ -601,16 +630,17 @@ public final class StoreService implements AutoCloseable {
      * Puts a finish, and with it the claim of the next stage, if there is one; what was claimed. While the store is away a finish is put again and
      * again: its function has run. A value that the store refuses fails its stage.
      */
-    private Task next(StoredRequest request, Finish finish) {
-        Finish told = finish;
+    private Task next(StoredRequest request, RowView.Finish finish) {
+        RowView.Finish told = finish;
         List<Integer> chosen = new ArrayList<>();
         while (true) {
             try {
-                Finish put = told;
+                RowView.Finish put = told;
                 List<RowView.Done> done = request.act(view -> {
                     List<RowView.Wanted> wanted = new ArrayList<>();
-                    if (put != null && view.isHeld(put.stage)) {
-                        wanted.add(put.wanted());
+                    RowView.Wanted finished = put == null ? null : view.finished(put);
+                    if (finished != null) {
+                        wanted.add(finished);
                     }
                     chosen.clear();
                     chosen.addAll(choice(view, put));
@@ -628,7 +658,8 @@ public final class StoreService implements AutoCloseable {
                 }
                 host.warns(request + ": " + fault.getMessage(), request.name, null);
                 if (!(fault instanceof StoreException.Unknown)) {
-                    told = new Finish(finish.stage, Json.write(new RemoteException("StoreError", String.valueOf(fault.getMessage())).written()), true);
+                    told = RowView.Finish.throwing(finish.stage,
+                            Json.write(new RemoteException("StoreError", String.valueOf(fault.getMessage())).written()));
                     pause();
                 }
             }
@@ -637,7 +668,7 @@ public final class StoreService implements AutoCloseable {
 
     private Task claimed(StoredRequest request, List<Integer> chosen, List<RowView.Done> done) {
         if (chosen.size() > 1) {
-            serve(request);
+            goOn(request);
         }
         RowView.Done last = done.isEmpty() ? null : done.get(done.size() - 1);
         if (chosen.isEmpty() || last == null || last.reply[Row.ANSWER] != 0) {
@@ -653,22 +684,13 @@ public final class StoreService implements AutoCloseable {
     }
 
     /** Up to two stages that this session could claim: those that are ready, or that the finish makes ready. */
-    private List<Integer> choice(RowView view, Finish finish) {
+    private List<Integer> choice(RowView view, RowView.Finish finish) {
         if (stops || threads == 0) {
             return Collections.emptyList();
         }
-        List<Integer> ready = view.ready(), chosen = new ArrayList<>();
-        if (finish != null && finish.to < 0 && !view.isSettled(finish.stage)) {
-            for (int stage : view.aloneBehind(finish.stage)) {
-                Form form = view.form(stage);
-                boolean isEither = form == Form.HANDLE || form == Form.WHEN_COMPLETE;
-                if (isEither || (finish.isThrown ? form == Form.EXCEPTIONALLY : form == Form.APPLY)) {
-                    ready.add(stage);
-                }
-            }
-        }
-        for (int stage : ready) {
-            if (chosen.size() < 2 && function(view, stage) != null) {
+        List<Integer> chosen = new ArrayList<>();
+        for (int stage = view.nextClaim(finish, 0); stage >= 0 && chosen.size() < 2; stage = view.nextClaim(finish, stage + 1)) {
+            if (function(view, stage) != null) {
                 chosen.add(stage);
             }
         }
@@ -782,7 +804,7 @@ public final class StoreService implements AutoCloseable {
         return args;
     }
 
-    private Finish called(StoredRequest request, Task task, Connection connection) {
+    private RowView.Finish called(StoredRequest request, Task task, Connection connection) {
         try {
             if (task.ended != null) {
                 throw task.ended;
@@ -793,12 +815,12 @@ public final class StoreService implements AutoCloseable {
                     throw new IllegalArgumentException("a function that composes has to give a stage of the request");
                 }
                 byte[] payload = Json.write(Collections.singletonMap("stage", ((StoredStage) value).number));
-                return new Finish(task.stage, payload, false, task.to);
+                return RowView.Finish.links(task.stage, payload, task.to);
             }
-            return new Finish(task.stage, value == null ? null : Json.write(value), false);
+            return RowView.Finish.gives(task.stage, value == null ? null : Json.write(value));
         } catch (Throwable thrown) { // (also an Error: the stage ends in it, and the thread goes on)
             host.passes(thrown);
-            return new Finish(task.stage, Json.write(RemoteException.of(thrown).written()), true);
+            return RowView.Finish.throwing(task.stage, Json.write(RemoteException.of(thrown).written()));
         }
     }
 
@@ -824,7 +846,7 @@ public final class StoreService implements AutoCloseable {
     }
 
     /** That of a transaction whose place was taken. */
-    private static final Finish LOST = new Finish(-1, null, false);
+    private static final RowView.Finish LOST = RowView.Finish.gives(-1, null);
 
     /**
      * The function's effect and the word of its finish stand or fall together. Where the finish's place was taken meanwhile, or the connection is
@@ -833,7 +855,7 @@ public final class StoreService implements AutoCloseable {
     private Task inTransaction(StoredRequest request, Task task) {
         while (true) {
             boolean[] isOpen = {false};
-            Finish finish = LOST;
+            RowView.Finish finish = LOST;
             try {
                 finish = request.transacting(() -> {
                     try (Store.Transaction transaction = store.transaction()) {
@@ -850,7 +872,7 @@ public final class StoreService implements AutoCloseable {
                     throw fault;
                 }
                 if (isOpen[0] && !isUnknown) { // What the function did to the connection lets no word be put, say.
-                    finish = new Finish(task.stage, Json.write(RemoteException.of(fault).written()), true);
+                    finish = RowView.Finish.throwing(task.stage, Json.write(RemoteException.of(fault).written()));
                 } else { // It was the store.
                     host.warns(request + ", stage " + task.stage + ": " + fault.getMessage(), request.name, null);
                     pause();
@@ -866,22 +888,22 @@ public final class StoreService implements AutoCloseable {
      * Calls a function in a transaction and puts its finish there; what has to be put behind that, or null, or {@link #LOST} where it has to be done
      * again. What others have put is read first: where the stage isn't this session's any more, no effect is for nothing.
      */
-    private Finish tried(StoredRequest request, Task task, Store.Transaction transaction) {
+    private RowView.Finish tried(StoredRequest request, Task task, Store.Transaction transaction) {
         request.read();
         if (!request.with(view -> view.isHeld(task.stage))) {
             return null; // It stands.
         }
         if (request.with(view -> view.isSettled(task.stage))) {
-            return new Finish(task.stage, null, false); // Late: it does nothing.
+            return RowView.Finish.gives(task.stage, null); // Late: it does nothing.
         }
-        Finish finish = called(request, task, transaction.connection());
-        if (finish.isThrown) {
+        RowView.Finish finish = called(request, task, transaction.connection());
+        if (finish.isThrown()) {
             if (transaction.isAway()) {
                 throw new StoreException.Unknown("the connection was lost", null);
             }
             return finish;
         }
-        return request.actWithin(transaction, finish.stage, finish.wanted()) ? null : LOST;
+        return request.actWithin(transaction, finish) ? null : LOST;
     }
 
     // What a search over a store looks at.

@@ -15,7 +15,7 @@ final class StoredPlan {
     final List<Form> forms = new ArrayList<>();
     final List<int[]> sources = new ArrayList<>();
     final List<Said> said = new ArrayList<>();
-    /** The same for the library. */
+    /** The same for the library, as {@link Native#plan} has it. */
     final int[] rows;
     /** What of the context goes along with the functions of these stages. */
     final Map<String, Object> carried;
@@ -55,11 +55,11 @@ final class StoredPlan {
         List<?> of = stage.get("of") == null ? new ArrayList<>() : (List<?>) stage.get("of");
         int[] found = of.stream().mapToInt(it -> Math.toIntExact((Long) it)).toArray();
         numbers.add(form.ordinal());
+        numbers.add(form.calls ? forms.size() : -1);
         numbers.add(found.length);
         for (int source : found) {
             numbers.add(source);
         }
-        numbers.add(form.calls ? forms.size() : -1);
         said.add(new Said(stage, forms.size()));
         forms.add(form);
         sources.add(found);

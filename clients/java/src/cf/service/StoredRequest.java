@@ -33,6 +33,8 @@ public final class StoredRequest {
     final AtomicBoolean isQueued = new AtomicBoolean();
     /** Whether it is closed in the store, as far as is known, and whether that has yet to be taken back. */
     volatile boolean isClosed, reopens;
+    /** Whether others may have put what isn't read. */
+    volatile boolean isStale;
     volatile int seen;
     private final StoreService service;
     private final RowView view;
@@ -40,9 +42,9 @@ public final class StoredRequest {
     private final Lock writes, lock;
     /** The threads that run a transactional function of it. */
     private final Set<Thread> transacts = ConcurrentHashMap.newKeySet();
-    /** The stages that were asked for, and those of them that aren't shown to be settled. */
+    /** The stages that were asked for, those of them that aren't shown to be settled, and those of these that are settled. */
     private final Map<Integer, StoredStage> stages = new HashMap<>();
-    private final Set<StoredStage> open = new LinkedHashSet<>();
+    private final Set<StoredStage> open = new LinkedHashSet<>(), unshown = new LinkedHashSet<>();
 
     StoredRequest(StoreService service, RowView view) {
         this.service = service;
@@ -169,7 +171,9 @@ public final class StoredRequest {
      */
     public void end() {
         catchUp();
-        RowView.sure(service.host, () -> service.store.end(name, number, seen));
+        if (RowView.sure(service.host, () -> service.store.end(name, number, seen))) {
+            service.tellEnd(this);
+        }
         isClosed = true;
     }
 
@@ -248,7 +252,7 @@ public final class StoredRequest {
             });
             service.reopen(this);
         } finally {
-            service.serve(this);
+            service.serveKnown(this);
         }
         return stage(done.get(many - 1).reply[Row.NUMBER]);
     }
@@ -273,7 +277,7 @@ public final class StoredRequest {
             done = act(view -> view.isSettled(stage) || waits && view.isClaimed(stage) ? Collections.emptyList()
                     : Collections.singletonList(new RowView.Wanted(word, payload)));
         } finally {
-            service.serve(this);
+            service.serveKnown(this);
         }
         if (!done.isEmpty()) {
             return done.get(0).reply[Row.ANSWER] != 0;
@@ -296,7 +300,7 @@ public final class StoredRequest {
                 return wanted;
             });
         }
-        service.serve(this);
+        service.serveKnown(this);
     }
 
     StoredStage later(StoredStage stage, double seconds, char kind, byte[] what) {
@@ -399,8 +403,11 @@ public final class StoredRequest {
     }
 
     /** Puts a finish within a transaction, and says whether that stands. What it settled isn't shown yet. */
-    boolean actWithin(Store.Transaction transaction, int stage, RowView.Wanted finish) {
-        return acted(() -> !view.isSettled(stage) && view.actWithin(transaction, finish));
+    boolean actWithin(Store.Transaction transaction, RowView.Finish finish) {
+        return acted(() -> {
+            RowView.Wanted wanted = view.isSettled(finish.stage) ? null : view.finished(finish);
+            return wanted != null && view.actWithin(transaction, wanted);
+        });
     }
 
     private StoredStage asked(int number) {
@@ -409,6 +416,9 @@ public final class StoredRequest {
             stage = new StoredStage(this, number);
             stages.put(number, stage);
             open.add(stage);
+            if (view.isSettled(number)) {
+                unshown.add(stage);
+            }
         }
         return stage;
     }
@@ -418,18 +428,21 @@ public final class StoredRequest {
         List<Runnable> tells = new ArrayList<>();
         lock.lock();
         try {
-            for (StoredStage stage : new ArrayList<>(open)) {
-                if (view.isSettled(stage.number)) {
-                    shown(stage, tells);
+            for (int number : view.takeSettled()) {
+                StoredStage stage = stages.get(number);
+                if (stage != null && open.contains(stage)) {
+                    unshown.add(stage);
                 }
             }
+            unshown.removeIf(stage -> shows(stage, tells));
         } finally {
             lock.unlock();
         }
         tells.forEach(Runnable::run);
     }
 
-    private void shown(StoredStage stage, List<Runnable> tells) {
+    /** Whether a settled stage can be shown now, which is to be told. */
+    private boolean shows(StoredStage stage, List<Runnable> tells) {
         int[] outcome = view.outcome(stage.number);
         try {
             Throwable fault = view.fault(outcome, stage.number);
@@ -442,11 +455,12 @@ public final class StoredRequest {
                 }
             }));
         } catch (StoreException.Unknown silent) {
-            return; // It is shown later.
+            return false; // It is shown later.
         } catch (StoreException broken) {
             tells.add(() -> stage.end.completeExceptionally(broken));
         }
         open.remove(stage);
+        return true;
     }
 
     // What a search over a store looks at.
@@ -463,6 +477,7 @@ public final class StoredRequest {
         try {
             left = new ArrayList<>(open);
             open.clear();
+            unshown.clear();
         } finally {
             lock.unlock();
         }

@@ -157,6 +157,8 @@ public final class AllTests {
         test("JSON", StoresTest::json);
         test("who is gone", StoresTest::gone);
         if (StoresTest.hasDriver()) {
+            over(StoresTest.InFile::new, "puts to SQLite", StoresTest::puts);
+            over(StoresTest.InFile::new, "puts of several threads to SQLite", StoresTest::together);
             over(StoresTest.InFile::new, "functions of requests in SQLite", StoresTest::functions);
             over(StoresTest.InFile::new, "services that share a file", StoresTest::others);
             over(StoresTest.InFile::new, "closed requests in SQLite", StoresTest::closed);
@@ -175,6 +177,7 @@ public final class AllTests {
             over(StoresTest.InFile::new, "a process that dies in a transaction", StoredFunctionsTest::dies);
             over(StoresTest.InFile::new, "contexts in SQLite", StoredFunctionsTest::contexts);
             over(StoresTest.InFile::new, "flows in SQLite", StoredFunctionsTest::flows);
+            over(StoresTest.InFile::new, "ends of requests in SQLite", StoredFunctionsTest::ends);
             over(StoresTest.InFile::new, "histories of requests in SQLite", StoredFunctionsTest::histories);
             if (StoresTest.onPath("flock")) {
                 over(StoresTest.InFile::new, "the line of who writes to a file", StoredFunctionsTest::line);
@@ -185,6 +188,7 @@ public final class AllTests {
             System.out.println("left out requests in SQLite: the class path has no driver, as sqlite-jdbc.jar of Debian's libxerial-sqlite-jdbc-java");
         }
         if (EtcdTest.hasServer()) {
+            over(EtcdTest.Server::new, "puts to etcd", StoresTest::puts);
             over(EtcdTest.Server::new, "functions of requests in etcd", StoresTest::functions);
             over(EtcdTest.Server::new, "services that share a cluster", StoresTest::others);
             over(EtcdTest.Server::new, "closed requests in etcd", StoresTest::closed);

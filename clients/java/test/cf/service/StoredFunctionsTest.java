@@ -6,6 +6,8 @@ import static cf.service.Checks.thrown;
 
 import cf.service.StoresTest.InFile;
 import cf.service.StoresTest.Place;
+import java.io.File;
+import java.io.IOException;
 import java.sql.Connection;
 import java.sql.DriverManager;
 import java.sql.PreparedStatement;
@@ -21,6 +23,7 @@ import java.util.concurrent.Executor;
 import java.util.concurrent.TimeUnit;
 import java.util.concurrent.TimeoutException;
 import java.util.concurrent.atomic.AtomicInteger;
+import java.util.function.Consumer;
 
 /** Functions of requests in stores that compose, are transactional, or take arguments by name; contexts, flows, and histories. */
 public final class StoredFunctionsTest {
@@ -219,8 +222,8 @@ public final class StoredFunctionsTest {
 
     /** Writers of all languages stand in one line. */
     static void line(InFile file) throws Exception {
-        try (JdbcStore store = file.open(); JdbcStore other = file.open()) {
-            String line = file.path + "-line";
+        String line = file.path + "-line";
+        try (JdbcStore store = file.open(); JdbcStore other = file.open(); Line gives = new Line(file.path)) {
             is(new ProcessBuilder("flock", "-n", line, "true").start().waitFor(), 0);
             try (Store.Transaction has = store.transaction()) {
                 is(new ProcessBuilder("flock", "-n", line, "true").start().waitFor(), 1);
@@ -230,7 +233,7 @@ public final class StoredFunctionsTest {
             Process has = new ProcessBuilder("flock", line, "sh", "-c", "echo has; sleep 0.7").start();
             is(has.getInputStream().read(), (int) 'h');
             long began = System.nanoTime();
-            thrown(StoreException.Unknown.class, () -> Line.taken(file.path, 0)); // (who waits in its place lets go by itself)
+            thrown(StoreException.Unknown.class, () -> gives.take(0)); // (who waits in its place lets go by itself)
             List<Thread> beats = new ArrayList<>();
             for (int k = 0; k < 3; k++) {
                 int session = k;
@@ -244,8 +247,29 @@ public final class StoredFunctionsTest {
             is(has.waitFor(), 0);
             is(store.beats().size(), 3);
             is(new ProcessBuilder("flock", "-w", "5", line, "true").start().waitFor(), 0);
+            gives.take(5);
+            gives.close(); // (it is this thread's turn still)
+            is(new ProcessBuilder("flock", "-n", line, "true").start().waitFor(), 1);
+            is(opened(line), 3L);
+            gives.give();
+            is(opened(line), 2L);
+            is(new ProcessBuilder("flock", "-n", line, "true").start().waitFor(), 0);
         }
-        thrown(StoreException.Unknown.class, () -> Line.taken(file.folder + "/none/db", 0));
+        is(opened(line), 0L);
+        try (Line none = new Line(file.folder + "/none/db")) {
+            thrown(StoreException.Unknown.class, () -> none.take(0));
+        }
+    }
+
+    /** How often this process has a file open. */
+    private static long opened(String file) {
+        return Arrays.stream(new File("/proc/self/fd").listFiles()).filter(it -> {
+            try {
+                return it.getCanonicalPath().equals(file);
+            } catch (IOException closed) {
+                return false;
+            }
+        }).count();
     }
 
     /** Carries a tenant, which a function may set for itself. */
@@ -273,6 +297,43 @@ public final class StoredFunctionsTest {
                 }
             };
         }
+    }
+
+    /** A hook is told of each request that its service has closed, once, where the request was begun. */
+    static void ends(Place place) throws Exception {
+        Functions functions = new Functions().with("inc", 1, number -> (Long) number + 1);
+        StoredFlow flow = new StoredFlow("flow");
+        StoredFlow.Step number = flow.promise("number"), inc = number.then("inc");
+        List<String> told = Collections.synchronizedList(new ArrayList<>());
+        Consumer<StoredHistory> hook = history -> {
+            try {
+                Thread.sleep(100); // (who closes the service waits for that)
+            } catch (InterruptedException interrupted) {
+                throw new AssertionError(interrupted);
+            }
+            String[] lines = history.toString().split("\n");
+            told.add(lines[lines.length - 1].trim() + ", " + TENANT.get());
+        };
+        StoredContexts tenant = new Tenant("tenant");
+        try (StoreService others = StoresTest.service(place, functions, 0, false)) {
+            try (StoreService service = new StoreService(place.open(), functions, 2, 5, TimeUnit.SECONDS, true, tenant, hook)) {
+                StoredRequest open = service.request("open"), ended = service.request("ended");
+                TENANT.set("ada");
+                for (int k = 0; k < 2; k++) {
+                    is(StoresTest.end(service.start(flow, "flow " + k, k).stage(inc)), k + 1L);
+                }
+                TENANT.remove();
+                ended.promise("by hand").complete(7);
+                ended.end();
+                ended.end(); // (it is closed)
+                open.promise("open").complete(1);
+                StoredRequest theirs = others.request("theirs");
+                theirs.promise("it").complete(1);
+                theirs.end();
+            }
+        }
+        Collections.sort(told);
+        is(told, Arrays.asList("0 by hand ends: 7, null", "1 inc ends: 1, ada", "1 inc ends: 2, ada"));
     }
 
     private static StoreService carrying(Place place, Functions functions, StoredContexts contexts, int threads) {

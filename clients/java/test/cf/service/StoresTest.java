@@ -135,6 +135,85 @@ public final class StoresTest {
         thrown(IllegalArgumentException.class, () -> Json.write(new Object()));
     }
 
+    /** A group stands whole or not at all, wherever its payloads stand. */
+    static void puts(Place place) {
+        try (Store store = place.open()) {
+            long number = store.open("puts", StoredPlan.text("", Collections.emptyList(), Collections.emptyMap())).number;
+            byte[] small = {7}, large = new byte[5000];
+            large[4999] = 7;
+            List<Store.Entry> one = Collections.singletonList(new Store.Entry(1, 1));
+            List<Store.Entry> three = Arrays.asList(new Store.Entry(2, 2), new Store.Entry(3, 3), new Store.Entry(4, 4));
+            for (int at = 0; at < 40; at += 4) {
+                Map<Integer, byte[]> payloads = new LinkedHashMap<>();
+                payloads.put(at + 2, small);
+                if (at % 8 == 0) {
+                    payloads.put(at + 4, large);
+                }
+                is(store.append(new Store.Put("puts", number, at, one, Collections.emptyMap())), null);
+                is(store.append(new Store.Put("puts", number, at, one, payloads)).size(), 1); // (its place is taken)
+                is(store.append(new Store.Put("puts", number, at + 1, three, payloads)), null);
+                is(store.append(new Store.Put("puts", number, at + 1, three, payloads)).size(), 3);
+                is(store.append(new Store.Put("puts", number, at + 3, three, payloads)).size(), 1); // (two of the group's places are free)
+                is(Arrays.equals(store.payload("puts", number, at + 2), small), true);
+                is(Arrays.equals(store.payload("puts", number, at + 4), at % 8 == 0 ? large : null), true);
+                List<Store.Entry> read = store.read("puts", number, at);
+                is(read.size(), 4);
+                is(read.get(1).payload == null || read.get(1).payload[0] == 7, true); // (a store may give small ones along)
+                is(read.get(3).payload, null);
+            }
+            for (List<Store.Entry> entries : Arrays.asList(one, three)) {
+                thrown(StoreException.Gone.class, () -> store.append(new Store.Put("puts", number + 1, 0, entries, Collections.emptyMap())));
+            }
+            is(store.read("puts", number, 0).size(), 40);
+        }
+    }
+
+    /** What several threads put while they wait for the file is one commit, and what is refused of one is that one's. */
+    static void together(InFile file) throws Exception {
+        try (SqliteStore store = (SqliteStore) file.open(); Line line = new Line(file.path)) {
+            String plan = StoredPlan.text("", Collections.emptyList(), Collections.emptyMap());
+            List<Store.Put> puts = new ArrayList<>();
+            for (int k = 0; k < 9; k++) {
+                Store.Opened opened = store.open("together " + k, plan);
+                List<Store.Entry> entries = Collections.nCopies(1 + k % 2, new Store.Entry(1, k));
+                Map<Integer, byte[]> large = k == 8 ? Collections.singletonMap(1, new byte[5000]) : Collections.emptyMap();
+                puts.add(new Store.Put(opened.name, opened.number + (k == 0 ? 100 : 0), 0, entries, large));
+            }
+            store.append(new Store.Put("together 1", puts.get(1).number, 0, Collections.singletonList(new Store.Entry(1, 77)), Collections.emptyMap()));
+            Object[] told = new Object[puts.size()];
+            List<Thread> threads = new ArrayList<>();
+            int before = store.commits;
+            line.take(5);
+            for (int k = 0; k < told.length; k++) {
+                int its = k;
+                Thread thread = new Thread(() -> {
+                    try {
+                        told[its] = store.append(puts.get(its));
+                    } catch (StoreException refused) {
+                        told[its] = refused.getClass();
+                    }
+                });
+                thread.start();
+                threads.add(thread);
+                while (store.waits() < k + 1) {
+                    Thread.sleep(1);
+                }
+            }
+            line.give();
+            for (Thread thread : threads) {
+                thread.join();
+            }
+            is(told[0], StoreException.Gone.class);
+            is(((List<?>) told[1]).size(), 1); // (its place is taken)
+            for (int k = 2; k < told.length; k++) {
+                is(told[k], null);
+                is(store.read("together " + k, puts.get(k).number, 0).size(), 1 + k % 2);
+            }
+            is(store.payload("together 8", puts.get(8).number, 1).length, 5000);
+            is(store.commits - before, 2); // (the large one is put by itself)
+        }
+    }
+
     static void functions(Place place) throws Exception {
         Functions functions = new Functions().with("seven", 1, () -> 7L).with("inc", 1, number -> (Long) number + 1)
                 .with("add", 1, (a, b) -> (Long) a + (Long) b).with("declined", 1, number -> {
@@ -443,7 +522,8 @@ public final class StoresTest {
                 StoreService service = service(file, new Functions())) {
             store.open("no plan", "{}");
             store.open("old plan", "{\"cf\":2,\"flow\":\"\",\"stages\":[]}");
-            for (String name : new String[] {"no plan", "old plan"}) {
+            store.open("no source", "{\"cf\":3,\"flow\":\"\",\"stages\":[{\"form\":\"apply\",\"name\":\"a\",\"of\":[7]}]}");
+            for (String name : new String[] {"no plan", "old plan", "no source"}) {
                 thrown(StoreException.Broken.class, () -> service.open(name));
             }
             thrown(StoreException.class, () -> JdbcStore.open("jdbc:other:x"));
