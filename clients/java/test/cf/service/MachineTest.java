@@ -126,7 +126,7 @@ final class MachineTest {
     /** A word is refused in the midst of those that wait, as where memory is. The next call does it, and those behind it, each in its lane. */
     static void refusedWords() {
         Machine.Plan plan = new Flow("refused").plan();
-        Machine.Core core = new Machine.Core();
+        Machine.Core core = Machine.Core.found(plan.pool);
         is(plan.pool.put(core), true);
         Machine machine = new Machine(plan, 8);
         machine.attachLater(source(), Machine.HERE);

@@ -441,7 +441,7 @@ public final class StoresTest {
                 super.execute(job, request, act);
             }
         };
-        try (InFile file = new InFile(); StoreService service = new StoreService(file.open(), functions, 2, LEASE, TimeUnit.MILLISECONDS, false, null, host)) {
+        try (InFile file = new InFile(); StoreService service = new StoreService(file.open(), functions, 2, LEASE, TimeUnit.MILLISECONDS, false, null, null, host)) {
             StoredRequest request = service.request("no thread");
             StoredStage number = request.promise("number"), inc = number.then("inc"), slow = request.promise("slow");
             slow.orTimeout(30, TimeUnit.MILLISECONDS);
