@@ -45,7 +45,6 @@ SILENT = Answer("the store is silent for a minute, and it never comes there", ("
 SILENT_STANDS = Answer("it stands, and the store is silent for a minute", ("silent",), True, False, True)
 SILENT_LATE = Answer("it is on its way, and the store is silent for a minute", ("silent", "late"), False, True, True)
 OF_CALLS = (ANSWERED,)  # of functions
-NOT_ASKED: Tuple[Answer, ...] = ()
 OF_READS = (ANSWERED, SILENT)
 OF_WRITES = (ANSWERED, LOST, UNANSWERED, SILENT, SILENT_STANDS)
 OF_PUTS = (ANSWERED, LOST, UNANSWERED, LATE, SILENT, SILENT_STANDS, SILENT_LATE)

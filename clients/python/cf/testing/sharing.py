@@ -151,13 +151,12 @@ class WorldStore:
         flight = self.flight_of(process)
         if process.is_dead:
             raise Gone
-        if flight is None or flight.is_fresh and answers is OF_READS or not answers and self._possible(OF_READS, put):
+        if flight is None or flight.is_fresh and answers is OF_READS:
             if flight is not None:
                 flight.is_fresh = False
             return act()
         flight.is_fresh = False
-        ways = answers or OF_CALLS
-        chosen: Answer = self.run.wait_for(text, (), _always, None, ways, lambda: self._possible(ways, put))
+        chosen: Answer = self.run.wait_for(text, (), _always, None, answers, lambda: self._possible(answers))
         if chosen.costs:
             self.touch(FAULTS, CHANGES)
             self.bounds = self.bounds.less(chosen.costs)
@@ -176,9 +175,7 @@ class WorldStore:
             if flight.is_caller and chosen.stands and answers is not OF_READS:  # a test's own lines follow
                 self.run.wait_for("goes on", (), _always, None, OF_CALLS, lambda: (0,))
 
-    def _possible(self, answers: Sequence[Answer], put: Optional[Put]) -> List[int]:
-        if put is not None and put.request in self.rows.held:
-            return []  # a transaction is open that has the place
+    def _possible(self, answers: Sequence[Answer]) -> List[int]:
         return [k for k, answer in enumerate(answers) if self.bounds.allows(answer.costs)]
 
     # Moves.
@@ -226,7 +223,7 @@ class WorldStore:
     def _may_land(self, number: int, put: Put) -> bool:
         view = self.rows.view(put.request)
         return (number not in self._landed and view is not None and view.opened.number == put.number
-                and view.seen == put.at and put.request not in self.rows.held)
+                and view.seen == put.at)
 
     def _flights(self, process: Process) -> List[Flight]:
         return [flight for flight in self.run.flights.values() if flight.process is process]
@@ -369,9 +366,6 @@ class WorldStore:
         for thing, flight in list(self.run.flights.items()):
             if flight.process is process:
                 self._dead.append(self.run.flights.pop(thing))
-        for name, holder in list(self.rows.held.items()):
-            if getattr(holder, "_process", None) is process:
-                self.rows.hold(name, None)
 
     def _do_land(self, number: int) -> None:
         self._landed.append(number)

@@ -15,7 +15,7 @@ sys.path.insert(0, str(Path(__file__).resolve().parent))
 import stored_services as services  # noqa: E402
 from cf.service import Flow  # noqa: E402
 from cf.shared import Functions, Unknown  # noqa: E402
-from cf.testing import orders, touches  # noqa: E402
+from cf.testing import orders, pure, touches  # noqa: E402
 
 SECONDS = 10  # within which each planted fault has to be found
 ENOUGH = {"seconds": 100, "most": 500}  # for a search that ends by itself
@@ -409,6 +409,27 @@ class Reduction(unittest.TestCase):
                 reduced, plain = orders(test, **options), orders(test, reduce=False, **options)
                 self.assertEqual((reduced.whole, plain.whole), (True, True))
                 self.assertEqual(set(reduced.ends), set(plain.ends))
+
+    def test_others_put_before_a_commit_and_behind_it(self):
+        def test(world):
+            functions = Functions()
+            pay = functions.function("pay", transactional=True)(touches()(lambda effects: effects.append(17)))
+            load = functions.function("load")(pure(lambda: 1))
+            world.test = store = world.store()
+            store.worker("one", functions)
+            store.worker("two", functions)
+            request = store.process("shop", functions, workers=0).request("order")
+            request.supply(pay)
+            request.supply(load)
+
+        def end(world):
+            last = world.test.rows.memory.read("order")[-1][0] >> 36 & 0xFFF
+            return "+".join(process for process, _, _ in world.test.granted), "paid last" if last == 0 else "loaded last"
+
+        report = orders(test, ends=end, seconds=100, most=2_000)
+        self.assertEqual((report.whole, set(report.ends)), (True, {
+            ("one+one", "loaded last"), ("one+two", "loaded last"), ("one+two", "paid last"),
+            ("two+one", "loaded last"), ("two+one", "paid last"), ("two+two", "loaded last")}))
 
     def test_functions_in_two_processes_are_tried_in_both_orders(self):
         def test(world):
