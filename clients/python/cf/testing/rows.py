@@ -1,8 +1,7 @@
 """The rows of a world's store: what stands, what is on its way, and a store of each process that goes through the
 search."""
 import contextlib
-from typing import (TYPE_CHECKING, Any, Callable, ContextManager, Dict, Generator, List, Optional, Sequence, Tuple,
-                    TypeVar)
+from typing import TYPE_CHECKING, Any, Callable, ContextManager, Dict, List, Optional, Sequence, Tuple, TypeVar
 
 from ..service.history import describe_all
 from ..service.words import (ATTACH, CANCEL, CANCELLED, CLAIM, COMPLETE, FAIL, FAIL_AS, FINISH, LINKS, THROWN, THROWS,
@@ -32,7 +31,6 @@ class Rows:
         self.names: List[str] = []  # of requests, in the order in which they were opened
         self.views: Dict[str, RowView] = {}  # what a reader of all words knows
         self.effects: List[Any] = []  # of transactional functions
-        self.held: Dict[str, object] = {}  # the open transactions that will put to a request
         self.told: List[str] = []  # what came to stand in this move
         self.timers: Dict[Tuple[str, int], Tuple[int, Timer]] = {}  # with the number of each
         self._touch, self._timers_made = touch, 0
@@ -74,7 +72,6 @@ class Rows:
         """As `Store.append`."""
         stands = self.memory.append(put)
         self._touch(("row", put.request), READS if stands else CHANGES)
-        self._touch(("held", put.request), READS)
         if stands is None:
             view = self.views[put.request]
             for done in view.catch_up():
@@ -87,14 +84,6 @@ class Rows:
         """As `Store.read`."""
         self._touch(("row", name), READS)
         return self.memory.read(name, at, number)
-
-    def hold(self, name: str, transaction: Optional[object]) -> None:
-        """Has puts to a request wait for the end of a transaction, or no longer."""
-        self._touch(("held", name), CHANGES)
-        if transaction is None:
-            self.held.pop(name, None)
-        else:
-            self.held[name] = transaction
 
     def change(self, name: str, act: Callable[[], T]) -> T:
         """Does what changes a request otherwise."""
@@ -210,51 +199,30 @@ class ProcessStore(Store):
         """Nobody looks at lists."""
 
     def transaction(self) -> ContextManager[Transaction]:
-        return self._transaction()
-
-    @contextlib.contextmanager
-    def _transaction(self) -> Generator[Transaction, None, None]:
-        made = WorldTransaction(self, self._world, self._process)
-        try:
-            yield made
-        finally:
-            made.ends()
+        return contextlib.nullcontext(WorldTransaction(self.rows, self._world, self._process))
 
 
 class WorldTransaction(Transaction):
-    """A transaction, whose connection is a list: what is appended to it comes to stand in `WorldStore.effects`. While
-    its place of a row is taken and it is open, others wait with puts to that row."""
+    """A transaction, whose connection is a list: what is appended to it comes to stand in `WorldStore.effects`. Its put
+    and its commit are one move: an engine lets nobody put or see anything between the two."""
 
-    def __init__(self, store: ProcessStore, world: "WorldStore", process: "Process") -> None:
+    def __init__(self, rows: Rows, world: "WorldStore", process: "Process") -> None:
         self.connection: List[Any] = []
-        self._rows, self._world, self._process = store.rows, world, process
-        self._put: Optional[Put] = None
-        self._is_open = True
+        self._rows, self._world, self._process = rows, world, process
 
     def append(self, put: Put) -> bool:
-        self._world.await_place(put.request)
-        stands = self._rows.read(put.request, put.at, put.number)
-        if not stands:
-            self._put = put
-            self._rows.hold(put.request, self)
-        return not stands
+        text = f"commits, and {self._rows.text_of(put)}"
+        return self._world.ask(self._process, OF_WRITES, text, lambda: self._commits(put))
 
     def commit(self) -> None:
-        assert self._put is not None
-        self._world.ask(self._process, OF_WRITES, f"commits, and {self._rows.text_of(self._put)}", self._commit)
+        """It stands since it was put."""
 
-    def _commit(self) -> None:
-        if self._is_open and self._put is not None:
-            self._world.touch(("effects",), CHANGES)
-            self._rows.append(self._put)
-            self._rows.effects += self.connection
-        self.ends()
-
-    def ends(self) -> None:
-        """It is over. What wasn't committed is undone."""
-        self._is_open = False
-        if self._put is not None and self._rows.held.get(self._put.request) is self:
-            self._rows.hold(self._put.request, None)
+    def _commits(self, put: Put) -> bool:
+        if self._rows.append(put) is not None:
+            return False
+        self._world.touch(("effects",), CHANGES)
+        self._rows.effects += self.connection
+        return True
 
 
 def _said(given: bytes) -> Dict[str, Any]:

@@ -161,8 +161,6 @@ class WorldStore:
             self.touch(FAULTS, CHANGES)
             self.bounds = self.bounds.less(chosen.costs)
         try:
-            if chosen.stands and put is not None:
-                self.await_place(put.request)
             if chosen.is_told:
                 return act()
             if chosen.stands:
@@ -176,13 +174,6 @@ class WorldStore:
         finally:
             if flight.is_caller and chosen.stands and answers is not OF_READS:  # a test's own lines follow
                 self.run.wait_for("goes on", (), _always, None, OF_CALLS, lambda: (0,))
-
-    def await_place(self, request: str) -> None:
-        """Waits until no transaction has the place behind a request's row. The wait begins within the move that asks for
-        the place. So that move races with the one that took it, which can't come behind the transaction's end."""
-        self.touch(("held", request), READS)
-        while request in self.rows.held:
-            self.run.wait_for(f"its place in {request}", (("held", request),), lambda: request not in self.rows.held, None)
 
     def _possible(self, answers: Sequence[Answer]) -> List[int]:
         return [k for k, answer in enumerate(answers) if self.bounds.allows(answer.costs)]
@@ -232,7 +223,7 @@ class WorldStore:
     def _may_land(self, number: int, put: Put) -> bool:
         view = self.rows.view(put.request)
         return (number not in self._landed and view is not None and view.opened.number == put.number
-                and view.seen == put.at and put.request not in self.rows.held)
+                and view.seen == put.at)
 
     def _flights(self, process: Process) -> List[Flight]:
         return [flight for flight in self.run.flights.values() if flight.process is process]
@@ -375,9 +366,6 @@ class WorldStore:
         for thing, flight in list(self.run.flights.items()):
             if flight.process is process:
                 self._dead.append(self.run.flights.pop(thing))
-        for name, holder in list(self.rows.held.items()):
-            if getattr(holder, "_process", None) is process:
-                self.rows.hold(name, None)
 
     def _do_land(self, number: int) -> None:
         self._landed.append(number)

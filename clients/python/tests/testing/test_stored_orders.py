@@ -15,7 +15,7 @@ sys.path.insert(0, str(Path(__file__).resolve().parent))
 import stored_services as services  # noqa: E402
 from cf.service import Flow  # noqa: E402
 from cf.shared import Functions, Unknown  # noqa: E402
-from cf.testing import orders, touches  # noqa: E402
+from cf.testing import orders, pure, touches  # noqa: E402
 
 SECONDS = 10  # within which each planted fault has to be found
 ENOUGH = {"seconds": 100, "most": 500}  # for a search that ends by itself
@@ -410,21 +410,26 @@ class Reduction(unittest.TestCase):
                 self.assertEqual((reduced.whole, plain.whole), (True, True))
                 self.assertEqual(set(reduced.ends), set(plain.ends))
 
-    def test_a_put_comes_before_a_transaction_or_behind_it(self):
-        """It waits while the transaction has its place, and so is asked for before it in one order."""
+    def test_others_put_before_a_commit_and_behind_it(self):
         def test(world):
             functions = Functions()
-            write = functions.function("write", transactional=True)(touches()(lambda effects: effects.append(1)))
+            pay = functions.function("pay", transactional=True)(touches()(lambda effects: effects.append(17)))
+            load = functions.function("load")(pure(lambda: 1))
             world.test = store = world.store()
             store.worker("one", functions)
-            shop = store.process("shop", functions, workers=0)
-            shop.calls(shop.request("order").supply(write).cancel, name="client")
+            store.worker("two", functions)
+            request = store.process("shop", functions, workers=0).request("order")
+            request.supply(pay)
+            request.supply(load)
 
-        for reduce in (True, False):
-            report = orders(test, reduce=reduce, seconds=100,
-                            ends=lambda world: (*world.test.outcomes(), *world.test.effects))
-            self.assertTrue(report.whole)
-            self.assertEqual(set(report.ends), {("order: write ends: None", 1), ("order: write is cancelled",)})
+        def end(world):
+            last = world.test.rows.memory.read("order")[-1][0] >> 36 & 0xFFF
+            return "+".join(process for process, _, _ in world.test.granted), "paid last" if last == 0 else "loaded last"
+
+        report = orders(test, ends=end, seconds=100, most=2_000)
+        self.assertEqual((report.whole, set(report.ends)), (True, {
+            ("one+one", "loaded last"), ("one+two", "loaded last"), ("one+two", "paid last"),
+            ("two+one", "loaded last"), ("two+one", "paid last"), ("two+two", "loaded last")}))
 
     def test_functions_in_two_processes_are_tried_in_both_orders(self):
         def test(world):
