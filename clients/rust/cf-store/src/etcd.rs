@@ -12,6 +12,8 @@ use std::time::{Duration, SystemTime, UNIX_EPOCH};
 
 /// In a put: a transaction of etcd has 128 operations at most by default.
 const MOST_ENTRIES: usize = 40;
+/// In a question: as many operations.
+const MOST_RANGES: usize = 64;
 /// That one answer has, so that it comes in time.
 const MOST_KEYS: usize = 1000;
 /// For each step of an answer.
@@ -212,6 +214,19 @@ impl Store for Etcd {
             Some(pair) => Ok(Some(pair.value)),
             None => self.is_there(name, number).map(|()| None),
         }
+    }
+
+    fn payloads(&self, name: &str, number: i64, places: &[usize]) -> Result<Vec<Option<Vec<u8>>>, StoreError> {
+        let row = row("p", name, number);
+        let mut told = Vec::with_capacity(places.len());
+        for some in places.chunks(MOST_RANGES) {
+            let asked: Vec<Json> = some.iter().map(|place| json!({"request_range": {"key": b64(&at(&row, *place))}})).collect();
+            let read = self.post("/v3/kv/txn", &json!({ "success": asked }))?;
+            for number in 0..some.len() {
+                told.push(pairs(&read["responses"][number]["response_range"])?.pop().map(|pair| pair.value));
+            }
+        }
+        Ok(told)
     }
 
     fn news(&self, since: Option<Mark>) -> Result<(BTreeMap<String, usize>, Mark), StoreError> {

@@ -316,6 +316,13 @@ impl Store for Postgres {
         Ok(rows[0].get(0))
     }
 
+    fn payloads(&self, _name: &str, number: i64, places: &[usize]) -> Result<Vec<Option<Vec<u8>>>, StoreError> {
+        let at: Vec<i32> = places.iter().map(|place| *place as i32 - 1).collect();
+        let rows = self.ask("select at, payload from cf_word where request = $1 and at = any($2::int[])", &[&number, &at])?;
+        let mut read: HashMap<i32, Option<Vec<u8>>> = rows.iter().map(|row| (row.get(0), row.get(1))).collect();
+        Ok(at.iter().map(|at| read.remove(at).flatten()).collect())
+    }
+
     fn news(&self, since: Option<Mark>) -> Result<(BTreeMap<String, usize>, Mark), StoreError> {
         // All transactions below the mark had ended when it was read, so what they did was told.
         let (since, all) = since.map_or((0, true), |(since, _)| (since, false));

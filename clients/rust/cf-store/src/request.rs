@@ -58,6 +58,8 @@ pub(crate) struct Inner {
     changed: Condvar,
     /// How many entries were seen.
     pub(crate) seen: AtomicUsize,
+    /// How many the store has said that there are.
+    pub(crate) told: AtomicUsize,
     /// Whether a thread is to look what is to do.
     pub(crate) is_queued: AtomicBool,
     /// Whether it is closed in the store, as far as is known.
@@ -77,6 +79,7 @@ impl Inner {
             name: view.opened.name.clone(),
             number: view.opened.number,
             seen: AtomicUsize::new(view.seen()),
+            told: AtomicUsize::new(0),
             host: Arc::clone(host),
             view: Arc::new(Mutex::new(view)),
             writes: locks_out.then(Mutex::default),
@@ -249,7 +252,9 @@ impl Request {
     pub fn end(&self) -> Result<(), StoreError> {
         self.inner.catch_up()?;
         let seen = self.inner.seen.load(Ordering::Relaxed);
-        self.service.sure(|| self.service.store.end(&self.inner.name, self.inner.number, seen))?;
+        if self.service.sure(|| self.service.store.end(&self.inner.name, self.inner.number, seen))? {
+            self.service.tell_end(&self.inner);
+        }
         self.inner.is_closed.store(true, Ordering::Relaxed);
         Ok(())
     }
@@ -292,7 +297,7 @@ impl Request {
         }
         let done = self.inner.act(decide);
         let reopened = if done.is_ok() { self.service.reopen(&self.inner) } else { Ok(()) };
-        self.service.serve(&self.inner);
+        self.service.go_on(&self.inner);
         reopened?;
         match done?.last().map(|it| it.reply) {
             Some(Reply::Attached(Some(number))) => Ok(Stage::of(self, number)),
@@ -306,7 +311,7 @@ impl Request {
             let complete = |(stage, payload): &(u16, Option<Vec<u8>>)| Wanted { call: Call::Complete(*stage, Value::Nil), payload: payload.clone() };
             self.inner.act(|view| Ok(some.iter().filter(|(stage, _)| !view.is_settled(*stage)).map(complete).collect()))?;
         }
-        self.service.serve(&self.inner);
+        self.service.go_on(&self.inner);
         Ok(())
     }
 
@@ -432,10 +437,10 @@ impl Stage {
     fn settle(&self, call: Call, payload: Option<Vec<u8>>, waits: bool) -> Result<bool, StoreError> {
         let (inner, number) = (&self.request.inner, self.number);
         let done = inner.act(|view| {
-            let rests = view.is_settled(number) || waits && view.is_claimed(number);
+            let rests = view.is_settled(number) || waits && view.holder(number)?.is_some();
             Ok(if rests { vec![] } else { vec![Wanted { call, payload: payload.clone() }] })
         });
-        self.request.service.serve(inner);
+        self.request.service.go_on(inner);
         match done?.first().map(|it| it.reply) {
             Some(Reply::Flag(won)) => Ok(won),
             _ => Ok(matches!(call, Call::Cancel(_)) && inner.view().state(number) == CANCELLED),
