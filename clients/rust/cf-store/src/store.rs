@@ -97,7 +97,7 @@ pub trait Store: Send + Sync {
     /// How many words those open requests have that may have changed since a mark, and the next mark. Without one, all of them.
     fn news(&self, since: Option<Mark>) -> Result<(BTreeMap<String, usize>, Mark), StoreError>;
 
-    /// Waits until something may have been put since the last call, for so long at most. One thread at a time waits so.
+    /// Waits until others may have put something since the last call, for so long at most. One thread at a time waits so.
     fn changed(&self, wait: Duration) -> Result<(), StoreError>;
 
     /// Marks a request as closed, where it has just so many words, and forgets its timers. Whether this call has closed it.
