@@ -15,3 +15,6 @@ pub mod Callers
 pub mod Ruled
 pub mod Rooms
 pub mod Whole
+pub mod Claiming
+pub mod Attaching
+pub mod Finishing

@@ -26,7 +26,7 @@ taken_take s es zero h = tt
 taken_take s [] (suc k) h = tt
 taken_take s (e ∷ es) (suc k) h = (h.0, taken_take ((answered s e).1) es k h.1)
 
-taken_at : (s : State) (es : List Event) (k : ℕ) (e : Event) → slice_get es k ≡ Some e → AreTaken s es → IsTaken (state_after s (take k es)) e
+pub taken_at : (s : State) (es : List Event) (k : ℕ) (e : Event) → slice_get es k ≡ Some e → AreTaken s es → IsTaken (state_after s (take k es)) e
 taken_at s [] k e there h = absurd (none-some e there)
 taken_at s (d ∷ es) zero e there h = subst (IsTaken s) (let same : d ≡ e = cc in same) h.0
 taken_at s (d ∷ es) (suc k) e there h = taken_at ((answered s d).1) es k e there h.1

@@ -6,3 +6,5 @@ pub mod Abandoning
 pub mod Engines
 pub mod Accounts
 pub mod Laws
+pub mod Next
+pub mod Plans

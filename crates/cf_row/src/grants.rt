@@ -86,7 +86,7 @@ pub(crate) fn held_in(ledger: &Ledger, claims: &[Claim], session: u64, from: u16
 }
 
 /// Whether a session has a stage, by these claims.
-fn is_held(ledger: &Ledger, claims: &[Claim], session: u64, stage: u16) -> bool
+pub(crate) fn is_held(ledger: &Ledger, claims: &[Claim], session: u64, stage: u16) -> bool
     requires { stage < length (state_of ledger.now).plan.stages }
     ensures held { OnTrue result (IsHeldIn claims.now (state_of ledger.now) session stage) }
     ensures none { OnFalse result (¬ IsHeldIn claims.now (state_of ledger.now) session stage) }
@@ -97,7 +97,7 @@ fn is_held(ledger: &Ledger, claims: &[Claim], session: u64, stage: u16) -> bool
 }
 
 /// Whether this is one of these claims.
-fn has(claims: &[Claim], wanted: Claim) -> bool
+pub(crate) fn has(claims: &[Claim], wanted: Claim) -> bool
     ensures there { OnTrue result (Contains claims.now wanted) }
     ensures none { OnFalse result (¬ Contains claims.now wanted) }
 {

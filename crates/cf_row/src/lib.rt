@@ -15,13 +15,15 @@ mod entry;
 mod faults;
 mod grants;
 pub mod laws;
+mod next;
 mod numbers;
 mod places;
+mod plans;
 mod replica;
 mod row;
 mod words;
 
-pub use cf_ledger::{Ledger, LedgerFault, Misfit, Reply};
+pub use cf_ledger::{Held, Ledger, LedgerFault, Misfit, Reply};
 pub use entry::{Entry, SESSIONS, TOKENS};
 pub use faults::PutFault;
 pub use grants::Claim;

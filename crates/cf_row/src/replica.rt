@@ -8,20 +8,24 @@ ghost use Rattle.cf_row.specs.Grants.{IsGrantedTo, IsHeldBy, NoneHeldBy, NoneOpe
 ghost use Rattle.cf_row.specs.Numbers.{FollowsRule};
 ghost use Rattle.cf_row.specs.Puts.{IsPutOrNone, pairs_of};
 ghost use Rattle.cf_row.specs.Abandoning.{Abandons};
+ghost use Rattle.cf_row.specs.Next.{CanClaim, Finishes, HasNoClaim, NoneToClaim};
 ghost use Rattle.cf_row.specs.Rows.{FitsEachRow, IsMisfit, NoneClaimed, NoneClaimedFrom, Replays, Takes, history_of, ledger_of, session_of, state_of, with_memory, with_more, with_outcome, words_in};
 
 use crate::claims::claimed_in;
 use crate::entry::Entry;
-use crate::grants::{Claim, held_in, note_claim, open_in, whose};
+use crate::grants::{Claim, has, held_in, note_claim, open_in, whose};
+use crate::next::next_in;
 use crate::numbers::{number_in, number_of};
 use crate::places::make_room;
+use crate::plans::{follow, grown};
 use cf_event::{Record, decode, encode};
-use cf_ledger::{Ledger, LedgerFault, Misfit, Reply};
+use cf_ledger::{Held, Ledger, LedgerFault, Misfit, Reply};
 use cf_model::{Ask, Event, Told};
 use cf_outcome::Outcome;
-use cf_plan::Plan;
+use cf_plan::{GrowingPlan, Plan};
 use std::alloc::{AllocError, Global};
 use std::marker::Model;
+use std::mem;
 
 /// For more entries than these no machine has memory.
 const MOST_ENTRIES: usize = 1 << 51;
@@ -32,7 +36,10 @@ const MOST_ENTRIES: usize = 1 << 51;
 /// A contract also sees for how many entries more memory was found.
 #[derive(Drop)]
 pub struct Replica {
+    opening: Plan,
+    room: u16,
     ledger: Ledger,
+    grown: GrowingPlan,
     seen: Vec<Entry>,
     records: Vec<Record>,
     claims: Vec<Claim>,
@@ -46,6 +53,7 @@ impl Model for Replica {
     ghost Value = { Replica };
 
     ghost use Rattle.cf_row.specs.Grants.{HasClaims};
+    ghost use Rattle.cf_row.specs.Plans.{IsGrown};
     ghost use Rattle.cf_row.specs.Rows.{HasMemory, IsKept};
 
     ghost view = { λ r. record {
@@ -60,6 +68,7 @@ impl Model for Replica {
       kept : IsKept r.ledger r.session r.seen.items r.records.items;
       memory : HasMemory r.free r.ledger r.seen r.records;
       claims : HasClaims r.ledger.plan r.seen.items r.free r.claims;
+      grown : IsGrown r.opening r.room r.ledger r.grown;
     } };
 }
 
@@ -76,8 +85,12 @@ impl Replica {
             r ≡ record { plan = with_room plan.now room; session = session; seen = []; records = []; free = 0 }) }
     {
         let ledger = Ledger::new(alloc, plan, room)?;
+        let grown = GrowingPlan::new(alloc, plan.share()?, room)?;
         Ok(Replica {
+            opening: plan.share()?,
+            room,
             ledger,
+            grown,
             seen: Vec::new(alloc),
             records: Vec::new(alloc),
             claims: Vec::new(alloc),
@@ -190,6 +203,48 @@ impl Replica {
         Some(encode(&Event::Fail { who, stage, code }))
     }
 
+    /// The word that finishes a stage of this session's with what its function came to: what is put where that has
+    /// ended. It is none where the stage wasn't granted to the session, or its claim isn't open any more. Where the stage
+    /// was settled since, the finish is late, and only closes the claim. It costs what `number` costs, and a look at each
+    /// claim that was granted.
+    pub fn finish(&self, held: Held) -> Option<u64>
+        ensures word { IfSome result (λ w. Finishes self.now held w) }
+        ensures none { IfNone result (HasNoClaim self.now held.stage) }
+    {
+        let who = self.number();
+        let ledger = self.ledger();
+        if held.stage >= ledger.stages() || ledger.claimant(held.stage) != Some(who) {
+            return None;
+        }
+        let (stage, session) = (held.stage, self.session);
+        if !has(&self.claims, Claim { stage, session }) {
+            return None;
+        }
+        let answer = held.answer;
+        Some(encode(&Event::Finish { who, stage, answer }))
+    }
+
+    /// The lowest stage from a number on that this session could claim next: one that is ready, or where a stage of its
+    /// own has ended, one that is ready once that is finished. The latter isn't ready yet, and has that stage as its only
+    /// source. Its claim is granted where it stands right behind the finish. Behind a link nothing is ready. It costs a
+    /// look at each stage between, and at each claim that was granted.
+    pub fn next_claim(&self, ended: Option<Held>, from: u16) -> Option<u16>
+        ensures can { IfSome result (λ i. CanClaim self.now ended i) }
+        ensures there { IfSome result (λ i. i < length (state_of self.now).plan.stages) }
+        ensures above { IfSome result (λ i. from ≤ i) }
+        ensures first { IfSome result (λ i. NoneToClaim self.now ended from i) }
+        ensures none { IfNone result (NoneToClaim self.now ended from (length (state_of self.now).plan.stages)) }
+    {
+        next_in(
+            &self.grown,
+            &self.ledger,
+            &self.claims,
+            self.session,
+            ended,
+            from,
+        )
+    }
+
     /// Finds memory for so many entries more. It fails only where there is no memory, and then changes nothing.
     pub(crate) fn reserve(&mut self, more: usize) -> Result<(), AllocError>
         ensures found { OnOk result (self.new ≡ with_memory self.old more) }
@@ -224,6 +279,7 @@ impl Replica {
         };
         let place = self.seen.len() + 1;
         let reply = self.ledger.apply(entry.word)?;
+        follow(&mut self.grown, &event);
         self.free -= 1;
         self.seen.push_reserved(entry);
         note_claim(&mut self.claims, &event, &reply, entry.session());
@@ -274,13 +330,19 @@ impl Replica {
     }
 
     /// Makes room for so many stages more. It fails only where there is no memory, and then all is as it was.
+    #[tactic(auto, using(cf_forms::proofs::PlanLemmas::place_is))]
     pub(crate) fn grow(&mut self, alloc: Global, more: u16) -> Result<(), LedgerFault>
         requires place { has_place self.old.plan.stages (self.old.plan.room + more) ≡ true }
         ensures grown { OnOk result (self.new ≡ with_more self.old more) }
         ensures unchanged { OnErr result (self.new ≡ self.old) }
         ensures refused { IfErr result (λ fault. fault ≡ LedgerFault.NoMemory) }
     {
-        self.ledger.grow(alloc, more)
+        let room = self.room + more;
+        let grown = grown(alloc, &self.opening, room, self.ledger.words())?;
+        self.ledger.grow(alloc, more)?;
+        drop(mem::replace(&mut self.grown, grown));
+        self.room = room;
+        Ok(())
     }
 
     /// The outcome of a stage by all that was seen, if it is settled. It is recorded. It fails only where there is no

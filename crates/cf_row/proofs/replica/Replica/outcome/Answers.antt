@@ -25,4 +25,5 @@ invariant_of-self-2 c =
         of_records = omega (arith, size, before, c.in_ok-make_room.ensures.room, c.push_reserved.ensures.capacity);
       };
       claims = c.self.invariant.claims;
+      grown = c.self.invariant.grown;
     }

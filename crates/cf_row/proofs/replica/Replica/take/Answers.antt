@@ -2,6 +2,7 @@ use Rattle.std.proofs.Common.{◌≡◌, ◌+◌, ◌-◌, [], ◌∷◌, ◌++�
 use Rattle.cf_event.specs.declared.record.Record.TheVariants.{Did}
 use Rattle.cf_row.specs.Rows.{Replica, session_of}
 use Rattle.cf_row.specs.Grants.{granted_by}
+use Rattle.cf_row.proofs.Attaching.{grown_take, place_take}
 use Rattle.cf_row.proofs.Granted.{claim_count, granted_take}
 use Rattle.cf_row.proofs.Memory.{note_count, spends}
 use Rattle.cf_row.proofs.Own.{kept_take}
@@ -33,4 +34,10 @@ invariant_of-self-2 c =
             c.self.invariant.kept.named c.self.invariant.kept.events (search rules) c.in_ok-reply.ensures.done seen c.self.invariant.claims.are c.note_claim.ensures.items c.session.ensures;
         places = omega (arith, claims, c.note_claim.ensures.kept, c.self.invariant.claims.places, some, free);
       };
+      grown = grown_take c.args.entry.word r.room r.opening r.ledger c.apply.new.self r.grown c.follow.new.plan c.in-Some.event c.in_ok-reply.reply (search rules) c.in_ok-reply.ensures.done c.self.invariant.grown c.follow.ensures;
     }
+
+pub follow-requires : goal.follow-requires
+follow-requires c =
+    let r = c.self.inside in
+    place_take c.args.entry.word r.ledger c.apply.new.self r.grown c.in-Some.event c.in_ok-reply.reply (search rules) c.in_ok-reply.ensures.done c.self.invariant.grown.is
