@@ -86,10 +86,10 @@ fn service(address: &str, threads: usize, functions: Functions) -> Result<Servic
     if let Some(file) = address.strip_prefix("sqlite:///") {
         return Ok(Service::with(SQLite::open(file)?, functions, options)?);
     }
-    Ok(match address.starts_with("etcd://") {
-        true => Service::with(Etcd::connect(address)?, functions, options)?,
-        false => Service::with(Postgres::connect(address)?, functions, options)?,
-    })
+    if address.starts_with("etcd://") {
+        return Ok(Service::with(Etcd::connect(address)?, functions, options)?);
+    }
+    Ok(Service::with(Postgres::connect(address)?, functions, options)?)
 }
 
 /// Attaches stages for a while, a word a put, and says how many. A request has so many, and no thread of its service runs them.

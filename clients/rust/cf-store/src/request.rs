@@ -566,7 +566,6 @@ pub(crate) fn fired(timer: &Timer) -> Wanted {
 }
 
 /// What a function gave.
-#[derive(Clone)]
 pub(crate) enum Given {
     Value(Json),
     /// A stage, as which the promise of its own stage is to end.
@@ -576,15 +575,14 @@ pub(crate) enum Given {
     },
 }
 
-/// What a function came to.
-pub(crate) fn finish(stage: u16, result: Result<Given, Failed>) -> Wanted {
-    let (answer, payload) = match result {
+/// The answer of a finish at a place, by what the function came to, and its payload.
+pub(crate) fn answer_of(result: &Result<Given, Failed>, place: usize) -> (Answer, Option<Vec<u8>>) {
+    match result {
         Ok(Given::Value(Json::Null)) => (Answer::Give(Value::Nil), None),
-        Ok(Given::Value(value)) => (Answer::Give(Value::Nil), Some(value.to_string().into_bytes())),
-        Ok(Given::Stage { promise, stage }) => (Answer::Link(promise), Some(json!({ "stage": stage }).to_string().into_bytes())),
-        Err(failed) => (Answer::Throw(0), Some(bytes_of(&failed))),
-    };
-    Wanted { call: Call::Finish(stage, answer), payload }
+        Ok(Given::Value(value)) => (Answer::Give(Value::Int(place as i32)), Some(value.to_string().into_bytes())),
+        Ok(Given::Stage { promise, stage }) => (Answer::Link(*promise), Some(json!({ "stage": stage }).to_string().into_bytes())),
+        Err(failed) => (Answer::Throw(place as u32), Some(bytes_of(failed))),
+    }
 }
 
 impl fmt::Debug for Request {

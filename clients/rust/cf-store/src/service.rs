@@ -6,10 +6,10 @@ use crate::flow::Flow;
 use crate::functions::{Functions, Kind};
 use crate::host::{Host, Machine};
 use crate::plan::{self, Said};
-use crate::request::{finish, fired, payload_of, Given, Inner, Request};
+use crate::request::{answer_of, fired, payload_of, Given, Inner, Request};
 use crate::store::{Mark, Opened, Store, Timer, Transaction};
 use crate::view::{sure, View, Wanted, SESSION_BITS};
-use cf_graph::{Args, Call, Claimed, Form, Outcome, Reply, State};
+use cf_graph::{Answer, Args, Call, Claimed, Form, Outcome, Reply, State};
 use serde_json::{Map, Value as Json};
 use std::any::Any;
 use std::collections::{BTreeMap, BTreeSet, HashSet, VecDeque};
@@ -594,11 +594,8 @@ impl Shared {
     fn first(&self, inner: &Arc<Inner>) -> Result<Option<Task>, StoreError> {
         loop {
             let Some((stage, args)) = inner.view().take_found() else { return self.next(inner, None) };
-            let is_open = {
-                let mut view = inner.view();
-                view.is_held(stage)? && !view.is_settled(stage)
-            };
-            let task = if is_open { self.task(inner, stage, args).map(Some) } else { self.next(inner, Some((stage, Ok(Given::Value(Json::Null))))) };
+            let has = inner.view().has(stage)?;
+            let task = if has { self.task(inner, stage, args).map(Some) } else { self.next(inner, Some((stage, Ok(Given::Value(Json::Null))))) };
             match task {
                 Ok(None) => {}
                 Ok(some) => return Ok(some),
@@ -631,12 +628,13 @@ impl Shared {
         let done = loop {
             let told = inner.act(|view| {
                 let mut wanted = Vec::with_capacity(2);
+                let mut held = None;
                 if let Some((stage, result)) = &ended {
-                    if view.is_held(*stage)? {
-                        wanted.push(finish(*stage, result.clone()));
-                    }
+                    let (answer, payload) = answer_of(result, view.seen() + 1);
+                    wanted.extend(view.finish(*stage, answer, payload)?);
+                    held = Some((*stage, answer));
                 }
-                chosen = self.choice(view, &inner.name, ended.as_ref())?;
+                chosen = self.choice(view, &inner.name, held)?;
                 wanted.extend(chosen.first().map(|stage| Wanted { call: Call::Claim(*stage), payload: None }));
                 Ok(wanted)
             });
@@ -666,30 +664,15 @@ impl Shared {
         }
     }
 
-    /// Up to two stages that this session could claim: those that are ready, or that the finish makes ready.
-    fn choice(&self, view: &mut View, name: &str, ended: Option<&(u16, Result<Given, Failed>)>) -> Result<Vec<u16>, StoreError> {
+    /// Up to two stages that this session could claim behind the finish of what has ended, and whose functions it knows.
+    fn choice(&self, view: &mut View, name: &str, ended: Option<(u16, Answer)>) -> Result<Vec<u16>, StoreError> {
         let (mut chosen, mut from) = (Vec::with_capacity(2), 0);
-        if !self.runs() {
-            return Ok(chosen);
-        }
-        while let (true, Some(stage)) = (chosen.len() < 2, view.ready_from(from)?) {
+        while self.runs() && chosen.len() < 2 {
+            let Some(stage) = view.next_claim(ended, from)? else { break };
             if self.knows(view, name, stage)? {
                 chosen.push(stage);
             }
             from = stage + 1;
-        }
-        if let Some((stage, result)) = ended.filter(|(stage, _)| !view.is_settled(*stage)) {
-            let goes_on = |form: Form| match form {
-                Form::Handle | Form::WhenComplete => true,
-                Form::Apply => result.is_ok(),
-                Form::Exceptionally => result.is_err(),
-                _ => false,
-            };
-            for behind in view.alone_behind(*stage) {
-                if chosen.len() < 2 && goes_on(view.form(behind).0) && self.knows(view, name, behind)? {
-                    chosen.push(behind);
-                }
-            }
         }
         Ok(chosen)
     }
@@ -822,12 +805,9 @@ impl Shared {
     fn tried(self: &Arc<Shared>, inner: &Arc<Inner>, task: &Task, transaction: &mut dyn Transaction) -> Result<Tried, StoreError> {
         let mut view = inner.view();
         view.catch_up()?;
-        let (is_held, is_settled) = (view.is_held(task.stage)?, view.is_settled(task.stage));
+        let has = view.has(task.stage)?;
         drop(view);
-        if !is_held {
-            return Ok(Tried::Stands);
-        }
-        if is_settled {
+        if !has {
             return Ok(Tried::Ended(Ok(Given::Value(Json::Null)))); // late: it does nothing
         }
         match self.called(inner, task, Some(transaction.connection())) {
@@ -839,7 +819,9 @@ impl Shared {
                 if view.is_settled(task.stage) {
                     return Ok(Tried::Lost);
                 }
-                let stands = view.act_within(transaction, finish(task.stage, Ok(given)))?;
+                let (answer, payload) = answer_of(&Ok(given), view.seen() + 1);
+                let Some(finish) = view.finish(task.stage, answer, payload)? else { return Ok(Tried::Lost) };
+                let stands = view.act_within(transaction, finish)?;
                 Ok(if stands { Tried::Stands } else { Tried::Lost })
             }
         }

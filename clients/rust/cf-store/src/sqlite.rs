@@ -183,9 +183,11 @@ impl Store for SQLite {
     fn append(&self, put: Put<'_>) -> Result<Option<Vec<Entry>>, StoreError> {
         // (one statement is a transaction of its own)
         let is_alone = put.entries.len() == 1 && put.payloads.values().all(|it| it.len() <= SMALL);
-        let landed = match is_alone {
-            true => self.turn().and_then(|_turn| self.using(|db| put_in(db, put)))?,
-            false => self.writing(|db| put_in(db, put))?,
+        let landed = if is_alone {
+            let _turn = self.turn()?;
+            self.using(|db| put_in(db, put))?
+        } else {
+            self.writing(|db| put_in(db, put))?
         };
         if landed {
             return Ok(None);
@@ -242,7 +244,8 @@ impl Store for SQLite {
             _ => return Ok((self.ask(ENDS, &[], read)?.into_iter().collect(), mark)),
         };
         let opened = "select name, 0 from cf_request where id > ? and closed is null";
-        let longer = "select name, max(at) + 1 from cf_word join cf_request on id = request where n > ? and closed is null group by request";
+        // (without a word SQLite goes through all words, by the index that has requests in a row)
+        let longer = "select name, max(at) + 1 from cf_word not indexed join cf_request on id = request where n > ? and closed is null group by request";
         let mut told = self.ask(opened, &[&since.1], read)?;
         told.extend(self.ask(longer, &[&since.0], read)?);
         Ok((told.into_iter().collect(), mark))

@@ -3,7 +3,9 @@ use crate::error::{Error, Failed, StoreError, ABANDONED};
 use crate::host::Host;
 use crate::plan::{self, Said};
 use crate::store::{Opened, Put, Store, Transaction};
-use cf_graph::{Answer, Args, Call, Cause, Claimed, Entry, Event, Failure, Finished, Form, Of, Outcome, Refused, Reply, Row, RowOpening, State, Value};
+use cf_graph::{
+    Answer, Args, Call, Cause, Claimed, Entry, Event, Failure, Finished, Form, Of, Outcome, Refused, Reply, Row, RowOpening, State, Value,
+};
 use serde_json::{Map, Value as Json};
 use std::collections::{BTreeMap, BTreeSet};
 use std::sync::Arc;
@@ -29,6 +31,13 @@ type Payloads = BTreeMap<usize, Vec<u8>>;
 pub(crate) struct Wanted {
     pub(crate) call: Call,
     pub(crate) payload: Option<Vec<u8>>,
+}
+
+impl Wanted {
+    /// One that the library has told.
+    fn of_word(word: u64, payload: Option<Vec<u8>>) -> Result<Wanted, StoreError> {
+        Ok(Wanted { call: Event::of_word(word)?.call, payload })
+    }
 }
 
 /// An entry that was done: its word's call, and its reply.
@@ -126,21 +135,10 @@ impl View {
         (known.form, &known.of)
     }
 
-    /// The lowest ready stage from a number on.
-    pub(crate) fn ready_from(&mut self, stage: u16) -> Result<Option<u16>, StoreError> {
-        Ok(self.row.ready(stage)?)
-    }
-
     /// The ready stages, rising.
     #[cfg(feature = "testing")]
     pub(crate) fn ready(&mut self) -> Result<Vec<u16>, StoreError> {
         rising(|from| self.row.ready(from), |stage| *stage)
-    }
-
-    /// The stages that have this one as their only source, and aren't settled.
-    pub(crate) fn alone_behind(&self, stage: u16) -> Vec<u16> {
-        let numbers = stage + 1..self.stages.len() as u16;
-        numbers.filter(|it| self.stages[usize::from(*it)].of == [stage] && !self.is_settled(*it)).collect()
     }
 
     /// The stages whose claim is open, rising, each with the session to which it was granted. Some may be settled already.
@@ -159,9 +157,20 @@ impl View {
         Ok(self.row.open_claim(stage)?.filter(|claim| claim.0 == stage).map(|claim| claim.1))
     }
 
-    /// Whether this session has a claim of a stage that isn't finished.
-    pub(crate) fn is_held(&mut self, stage: u16) -> Result<bool, StoreError> {
-        Ok(self.holder(stage)? == Some(self.session))
+    /// Whether this session has a stage: its claim is open, and it isn't settled.
+    pub(crate) fn has(&mut self, stage: u16) -> Result<bool, StoreError> {
+        Ok(self.row.held(self.session, stage)? == Some(stage))
+    }
+
+    /// The word that finishes a stage of this session's, if its claim is open.
+    pub(crate) fn finish(&mut self, stage: u16, answer: Answer, payload: Option<Vec<u8>>) -> Result<Option<Wanted>, StoreError> {
+        let word = self.row.finish(stage, answer)?;
+        word.map(|word| Wanted::of_word(word, payload)).transpose()
+    }
+
+    /// The lowest stage from a number on that this session could claim behind the finish of what has ended.
+    pub(crate) fn next_claim(&mut self, ended: Option<(u16, Answer)>, from: u16) -> Result<Option<u16>, StoreError> {
+        Ok(self.row.next_claim(ended, from)?)
     }
 
     /// The word that fails the lowest stage that a session has, which is gone.
@@ -169,8 +178,7 @@ impl View {
         let Some(stage) = self.row.held(session, 0)? else { return Ok(None) };
         let failed = Failed::new(ABANDONED, format!("the worker that ran {} is gone, and it may have run", self.said(stage)?.name));
         let word = self.row.abandon(session, stage, self.seen as u32 + 1)?;
-        let wanted = |word| Ok(Wanted { call: Event::of_word(word)?.call, payload: Some(bytes_of(&failed)) });
-        word.map(wanted).transpose()
+        word.map(|word| Wanted::of_word(word, Some(bytes_of(&failed)))).transpose()
     }
 
     /// A claim of this session's that was granted without its being told.
@@ -409,10 +417,8 @@ impl View {
         let unread = (stage..self.stages.len() as u16).filter(|it| self.stages[usize::from(*it)].said.is_none());
         let wanted: Vec<_> = unread.take(READ_AT_ONCE).map(|it| (it, self.stages[usize::from(it)].attached)).collect();
         let others: Vec<usize> = wanted.iter().map(|it| it.1).filter(|place| !self.own.contains_key(place)).collect();
-        let told = match others.is_empty() {
-            true => Vec::new(),
-            false => sure(&*self.host, || self.store.payloads(&self.opened.name, self.opened.number, &others))?,
-        };
+        let ask = || self.store.payloads(&self.opened.name, self.opened.number, &others);
+        let told = if others.is_empty() { Vec::new() } else { sure(&*self.host, ask)? };
         let read: Payloads = others.into_iter().zip(told).filter_map(|(place, it)| Some((place, it?))).collect();
         for (stage, place) in wanted {
             let payload = self.own.get(&place).or_else(|| read.get(&place));
@@ -565,7 +571,7 @@ pub(crate) fn bytes_of(failed: &Failed) -> Vec<u8> {
     serde_json::to_vec(failed).unwrap_or_else(|_| br#"{"error":"Error","text":"(it can't be written)"}"#.to_vec())
 }
 
-/// The call of a word at a place, whose value or error is named by this place where it has a payload.
+/// The call of a word at a place, whose value or error is named by this place where it has a payload. (A finish names its own already.)
 fn named(call: Call, place: usize, has_payload: bool) -> Call {
     if !has_payload {
         return call;
@@ -573,8 +579,6 @@ fn named(call: Call, place: usize, has_payload: bool) -> Call {
     match call {
         Call::Complete(stage, _) => Call::Complete(stage, Value::Int(place as i32)),
         Call::Fail(stage, _) => Call::Fail(stage, place as u32),
-        Call::Finish(stage, Answer::Give(_)) => Call::Finish(stage, Answer::Give(Value::Int(place as i32))),
-        Call::Finish(stage, Answer::Throw(_)) => Call::Finish(stage, Answer::Throw(place as u32)),
         other => other,
     }
 }

@@ -11,8 +11,11 @@ use std::time::Duration;
 const SHORT: Duration = Duration::from_millis(300);
 const LONG: Duration = Duration::from_secs(60);
 
-/// Ends that send what they are told, with the context in which they are, and who receives it.
-fn told(tells: fn(What<'_>) -> String) -> (Ends, Receiver<(String, Map<String, Value>)>) {
+/// The lines of a history, and the context in which they were told.
+type Told = (String, Map<String, Value>);
+
+/// Ends that send what they are told, and who receives it.
+fn told(tells: fn(What<'_>) -> String) -> (Ends, Receiver<Told>) {
     let (sends, receives) = channel();
     let sends = Mutex::new(sends);
     let hook = move |history: &History| sends.lock().unwrap().send((history.lines().unwrap(), context())).unwrap();

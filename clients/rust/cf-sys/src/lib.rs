@@ -536,6 +536,8 @@ extern "C" {
     pub fn cf_row_open_claim(view: *mut cf_handle, from: u16, claim: *mut cf_row_claim) -> u32;
     pub fn cf_row_held(view: *mut cf_handle, session: u64, from: u16, stage: *mut u16) -> u32;
     pub fn cf_row_abandon(view: *mut cf_handle, session: u64, from: u16, code: u32, word: *mut u64) -> u32;
+    pub fn cf_row_finish(view: *mut cf_handle, task: *const cf_task, word: *mut u64) -> u32;
+    pub fn cf_row_next_claim(view: *mut cf_handle, task: *const cf_task, from: u16, stage: *mut u16) -> u32;
     pub fn cf_history_new(plan: *mut cf_handle, room: u16, words: *const u64, n: usize, history: *mut cf_handle) -> u32;
     pub fn cf_history_times(history: *mut cf_handle, times: *const u64, n: usize) -> u32;
     pub fn cf_history_say(history: *mut cf_handle, what: u32, text: *const u8, n: usize, ends: *const usize, count: usize) -> u32;
