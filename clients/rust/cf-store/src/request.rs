@@ -111,7 +111,19 @@ impl Inner {
     }
 
     pub(crate) fn catch_up(&self) -> Result<(), StoreError> {
-        let mut view = self.view();
+        self.read(self.view())
+    }
+
+    /// Does the same where the store has said that there is more than is seen.
+    pub(crate) fn catch_up_if_told(&self) -> Result<(), StoreError> {
+        let view = self.view(); // (a put of this process's is seen by then)
+        if self.told.load(Ordering::SeqCst) <= view.seen() {
+            return Ok(());
+        }
+        self.read(view)
+    }
+
+    fn read(&self, mut view: MutexGuard<'_, View>) -> Result<(), StoreError> {
         let told = view.catch_up();
         self.show(view);
         told.map(|_| ())

@@ -559,9 +559,7 @@ impl Shared {
 
     fn work_on(self: &Arc<Shared>, inner: &Arc<Inner>) -> Result<(), StoreError> {
         inner.is_queued.swap(false, Ordering::SeqCst);
-        if inner.told.load(Ordering::SeqCst) > inner.seen.load(Ordering::Relaxed) {
-            inner.catch_up()?;
-        }
+        inner.catch_up_if_told()?;
         self.reopen(inner)?;
         self.abandon(inner)?;
         self.relay(inner)?;

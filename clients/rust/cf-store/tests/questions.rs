@@ -53,7 +53,7 @@ fn a_put_is_one_question() {
         request.supply("seven", &[]).unwrap();
     }
     assert_eq!((times(&asked, "append"), times(&asked, "payload"), times(&asked, "payloads")), (MANY, 0, 0));
-    assert!(times(&asked, "read") < MANY / 2, "what it has put itself it reads only where the pump sees it first: {:?}", asked);
+    assert!(times(&asked, "read") < MANY / 2, "what it has put itself it reads only where the pump sees it first: {asked:?}");
     drop(planner);
 
     let (worker, asked) = service(&file, 1);
@@ -63,5 +63,9 @@ fn a_put_is_one_question() {
     }
     assert_eq!(times(&asked, "append"), MANY + 1, "a finish and the next claim are one put");
     assert_eq!((times(&asked, "payload"), times(&asked, "payloads")), (0, 1), "what is said of all stages is asked for at once");
-    assert!(times(&asked, "read") < MANY / 2, "{:?}", asked);
+    for _ in 0..MANY {
+        assert_eq!(settled::<i64>(&request.supply("seven", &[]).unwrap()), Ok(7));
+    }
+    assert_eq!((times(&asked, "payload"), times(&asked, "payloads")), (0, 1), "it knows what it has put itself");
+    assert!(times(&asked, "read") < MANY / 2, "{asked:?}");
 }
