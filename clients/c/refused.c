@@ -140,6 +140,8 @@ static void view_calls(cf_handle *h, uint32_t wanted) {
   ROW(cf_row_open_claim(h, 0, &out.claim), wanted);
   ROW(cf_row_held(h, 1, 0, &out.number), wanted);
   ROW(cf_row_abandon(h, 1, 0, 1, &out.word), wanted);
+  ROW(cf_row_finish(h, &out.task, &out.word), wanted);
+  ROW(cf_row_next_claim(h, &out.task, 0, &out.number), wanted);
 }
 
 static void history_calls(cf_handle *h, uint32_t wanted) {
@@ -381,6 +383,10 @@ static void by_pointers(void) {
   ROW(cf_row_open_claim(seen, 0, NULL), CF_NULL);
   ROW(cf_row_held(seen, 1, 0, NULL), CF_NULL);
   ROW(cf_row_abandon(seen, 1, 0, 1, NULL), CF_NULL);
+  ROW(cf_row_finish(seen, NULL, &out.word), CF_NULL);
+  ROW(cf_row_finish(seen, &out.task, NULL), CF_NULL);
+  ROW(cf_row_next_claim(seen, NULL, 0, &out.number), CF_NULL);
+  ROW(cf_row_next_claim(seen, &out.task, 0, NULL), CF_NULL);
   ROW(cf_history_new(plan, 0, NULL, 1, &empty), CF_NULL);
   ROW(cf_history_new(plan, 0, NULL, 0, NULL), CF_NULL);
   ROW(cf_history_times(&held[HISTORY], NULL, 1), CF_NULL);
@@ -469,6 +475,8 @@ static void by_numbers(uint16_t stage) {
   ROW(cf_row_open_claim(&held[VIEW], stage, &out.claim), CF_NOTHING);
   ROW(cf_row_held(&held[VIEW], opening.session, stage, &out.number), CF_NOTHING);
   ROW(cf_row_abandon(&held[VIEW], opening.session, stage, 1, &out.word), CF_NOTHING);
+  ROW(cf_row_finish(&held[VIEW], &task, &out.word), CF_NOTHING);
+  ROW(cf_row_next_claim(&held[VIEW], &task, stage, &out.number), CF_NOTHING);
   ROW(cf_desk_complete(caller, stage, value, &out.reply), CF_NO_STAGE);
   ROW(cf_desk_fail(caller, stage, 1, &out.reply), CF_NO_STAGE);
   ROW(cf_desk_fail_as(caller, stage, CF_TIMED_OUT, &out.reply), CF_NO_STAGE);
@@ -698,6 +706,10 @@ static void by_sessions(void) {
   HOLDS(cf_row_held(&crowd, 900, 0, &number) == CF_OK && number == TWICE);
   ROW(cf_row_held(&crowd, 900, TWICE + 1, &out.number), CF_NOTHING);
   ROW(cf_row_held(&crowd, 901, 0, &out.number), CF_NOTHING);
+  const cf_task anothers = {.held = 1, .stage = TWICE}, none = {0};
+  ROW(cf_row_finish(&crowd, &anothers, &out.word), CF_NOTHING);
+  ROW(cf_row_finish(&crowd, &none, &out.word), CF_NOTHING);
+  ROW(cf_row_next_claim(&crowd, &anothers, 0, &out.number), CF_NOTHING);
   event = (cf_event){.call = CF_CALL_FAIL, .who = (uint8_t)(opening.session % 64), .stage = TWICE, .code = 1};
   HOLDS(cf_word_of(event, &one.word) == CF_OK && cf_row_abandon(&crowd, 900, 0, 1, &word) == CF_OK && word == one.word);
   HOLDS(cf_row_saw(&crowd, &one, &reply, NULL, 0, &n) == CF_OK);

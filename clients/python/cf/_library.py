@@ -221,6 +221,8 @@ CALLS: Dict[str, List[Any]] = {
     "cf_row_open_claim": [_H, _U16, c.POINTER(CRowClaim)],
     "cf_row_held": [_H, _U64, _U16, _U16_OUT],
     "cf_row_abandon": [_H, _U64, _U16, _U32, _U64_OUT],
+    "cf_row_finish": [_H, c.POINTER(CTask), _U64_OUT],
+    "cf_row_next_claim": [_H, c.POINTER(CTask), _U16, _U16_OUT],
     "cf_request_new": [_H, c.POINTER(CRequestSizes), _U8_OUT, _SIZE, _H],
     "cf_request_apply": [_H, _U64, _U8, c.POINTER(CApplied), *_TOLD],
     "cf_request_gather": [_H, c.POINTER(CGathering), _OF, _SIZE, *_TOLD],

@@ -1227,6 +1227,9 @@ uint32_t cf_request_do(cf_handle *request, cf_request_call *calls, size_t n, cf_
  * cf_row_held the stages that a session has. If the session is gone, any other one may fail these, by the words that
  * cf_row_abandon tells. If it isn't gone, its finish is late.
  *
+ * What a worker puts when a function has ended: the word of cf_row_finish, and behind it the claim of the stage that
+ * cf_row_next_claim tells.
+ *
  * The words, the news and the stages of a view are asked by cf_ledger_words, cf_ledger_news, cf_ledger_ready,
  * cf_ledger_stage, cf_ledger_function and cf_ledger_stages. */
 
@@ -1333,6 +1336,24 @@ uint32_t cf_row_held(cf_handle *view, uint64_t session, uint16_t from, uint16_t 
  *
  * Code: CF_NOTHING if the session has none there. */
 uint32_t cf_row_abandon(cf_handle *view, uint64_t session, uint16_t from, uint32_t code, uint64_t *word);
+
+/* Tells the word that finishes a stage of the view's own session with what its function came to: what you put once that
+ * has ended. It may be put behind all that was seen. If the stage was settled since its claim, the finish is late, and
+ * only closes the claim.
+ *   - task: `held` other than 0, the stage and the answer. The rest isn't looked at.
+ *   - word: gets the word.
+ *
+ * Code: CF_NOTHING if the task holds nothing, or the stage's claim isn't open, or was granted to another session. */
+uint32_t cf_row_finish(cf_handle *view, const cf_task *task, uint64_t *word);
+
+/* Tells the lowest stage from the number `from` on that the view's session could claim next: one that is ready, or one
+ * that is ready once what the task holds is finished. The latter waits for that stage alone. The claim is granted if it
+ * stands right behind the word of cf_row_finish, or if the task holds nothing and it stands next. So a worker puts both
+ * words together. If your program can't call the stage's function, ask again from the next number on.
+ *   - task: as for cf_row_finish. It may hold nothing: then only ready stages are told.
+ *
+ * Code: CF_NOTHING if there is no such stage. */
+uint32_t cf_row_next_claim(cf_handle *view, const cf_task *task, uint16_t from, uint16_t *stage);
 
 /* ---- Histories: what happened, told as texts ---- */
 

@@ -1,6 +1,6 @@
 //! One session's view of a row in a store.
 ghost use Rattle.cf_c_handles.specs.Handles.{HandleDoes, HandleOpens, HandleTells, HandleWrites};
-ghost use Rattle.cf_c_handles.specs.Rows.{GivesUpIn, MeetsIn, OfRow, PlansIn, RoomsIn, RowOf, SeesIn, TellsAbandon, TellsClaimed, TellsHeld, TellsNumber, TellsNumberOf, TellsOpenClaim, entry_of};
+ghost use Rattle.cf_c_handles.specs.Rows.{GivesUpIn, MeetsIn, OfRow, PlansIn, RoomsIn, RowOf, SeesIn, TellsAbandon, TellsClaimed, TellsFinish, TellsHeld, TellsNextClaim, TellsNumber, TellsNumberOf, TellsOpenClaim, entry_of};
 
 use crate::handle::{ask, tell};
 use cf_c_handles::code::Code;
@@ -9,6 +9,7 @@ use cf_c_handles::row;
 use cf_c_handles::values::CfReply;
 use cf_c_handles::values::row::{CfEntry, CfRowClaim, CfRowOpening, entry_of};
 use cf_c_handles::values::stage::CfNews;
+use cf_c_handles::values::task::CfTask;
 use std::alloc::Global;
 
 /// Opens a session's view of a row of the plan behind one handle, and puts it behind another, which is empty.
@@ -166,4 +167,31 @@ pub extern "C" fn cf_row_abandon(
     ensures { HandleTells (OfRow (TellsAbandon session from code)) h.old h.new result word.old word.new }
 {
     tell!(alloc, h, word, held => row::abandon(&mut held, session, from, code))
+}
+
+/// The word that finishes what a task holds.
+#[unsafe(no_mangle)]
+pub extern "C" fn cf_row_finish(
+    alloc: Global,
+    h: &mut CfHandle,
+    task: &CfTask,
+    word: &mut u64,
+) -> u32
+    ensures { HandleTells (OfRow (TellsFinish task.now)) h.old h.new result word.old word.new }
+{
+    tell!(alloc, h, word, held => row::finish(&mut held, task))
+}
+
+/// The lowest stage from a number on that the session could claim behind the finish of what a task holds.
+#[unsafe(no_mangle)]
+pub extern "C" fn cf_row_next_claim(
+    alloc: Global,
+    h: &mut CfHandle,
+    task: &CfTask,
+    from: u16,
+    stage: &mut u16,
+) -> u32
+    ensures { HandleTells (OfRow (TellsNextClaim task.now from)) h.old h.new result stage.old stage.new }
+{
+    tell!(alloc, h, stage, held => row::next_claim(&mut held, task, from))
 }

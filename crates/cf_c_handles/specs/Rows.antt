@@ -1,20 +1,23 @@
 -- What a session's view of a row behind a handle is asked.
-use Rattle.std.specs.Prelude.{◌≡◌, ◌≢◌, ◌⊎◌, ℕ, ◌+◌, ◌*◌, ◌<◌, ◌≤◌, Bool, true, false, Result, Ok, Err, List, [], All, Contains, length, None, Some}
+use Rattle.std.specs.Prelude.{◌≡◌, ◌≢◌, ◌⊎◌, ℕ, ◌+◌, ◌*◌, ◌<◌, ◌≤◌, Bool, true, false, Option, Result, Ok, Err, List, [], All, Contains, length, None, Some}
 use Rattle.cf_forms.specs.Plans.{Planned, has_place, with_room}
 use Rattle.cf_model.specs.declared.events.Reply.{Reply}
 use Rattle.cf_model.specs.States.{claim_at}
+use Rattle.cf_ledger.specs.declared.step.Held.{Held}
 use Rattle.cf_row.specs.declared.entry.Entry.{Entry}
 use Rattle.cf_row.specs.declared.faults.PutFault.{PutFault}
 use Rattle.cf_row.specs.declared.faults.PutFault.TheVariants as faults
 use Rattle.cf_row.specs.declared.grants.Claim.{Claim}
 use Rattle.cf_row.specs.Grants.{IsGrantedTo, IsHeldBy, NoneHeldBy, NoneOpen}
 use Rattle.cf_row.specs.Abandoning.{Abandons}
+use Rattle.cf_row.specs.Next.{CanClaim, Finishes, HasNoClaim, NoneToClaim}
 use Rattle.cf_row.specs.Numbers.{FollowsRule}
 use Rattle.cf_row.specs.Puts.{IsNoPut, OnlyFinds, Plans, Row as Row', TellsOf, pairs_of}
 use Rattle.cf_row.specs.Rows.{IsNoEntry, NoneClaimed, NoneClaimedFrom, Replica, Takes, ledger_of, session_of, state_of, with_more}
 use Rattle.cf_c_handles.specs.Ledgers.{HaveNews, word_code}
 use Rattle.cf_c_handles.specs.Replies.{as_reply}
 use Rattle.cf_c_handles.specs.RequestCalls.{IsDueAs}
+use Rattle.cf_c_handles.specs.Tasks.{held_by}
 use Rattle.cf_c_handles.specs.Values.{bit}
 use Rattle.cf_c_handles.specs.declared.code.Code.{Code}
 use Rattle.cf_c_handles.specs.declared.code.Code.TheVariants.{NoMemory, NoTokens, NoWord, Nothing, Room, UnderWay, WrongKind}
@@ -25,6 +28,7 @@ use Rattle.cf_c_handles.specs.declared.values.row.CfEntry.{CfEntry}
 use Rattle.cf_c_handles.specs.declared.values.row.CfRowClaim.{CfRowClaim}
 use Rattle.cf_c_handles.specs.declared.values.row.CfRowOpening.{CfRowOpening}
 use Rattle.cf_c_handles.specs.declared.values.stage.CfNews.{CfNews}
+use Rattle.cf_c_handles.specs.declared.values.task.CfTask.{CfTask}
 
 abbrev pub entry_of : CfEntry → Entry
 entry_of x = record { word = x.word; token = x.token }
@@ -201,3 +205,24 @@ TellsHeld session from seen (Err code) = (code ≡ Nothing) × NoneHeldBy seen s
 abbrev pub TellsAbandon : ℕ → ℕ → ℕ → Replica → Result ℕ Code → Type 0
 TellsAbandon session from number seen (Ok word) = Abandons seen session from number word
 TellsAbandon session from number seen (Err code) = (code ≡ Nothing) × NoneHeldBy seen session from (length (state_of seen).plan.stages)
+
+-- the word that finishes what a task holds, if it holds something that this session has claimed
+abbrev pub FinishesOr : Replica → Option Held → Result ℕ Code → Type 0
+FinishesOr seen None (Ok word) = ⊥
+FinishesOr seen (Some held) (Ok word) = Finishes seen held word
+FinishesOr seen None (Err code) = code ≡ Nothing
+FinishesOr seen (Some held) (Err code) = (code ≡ Nothing) × HasNoClaim seen held.stage
+
+abbrev pub TellsFinish : CfTask → Replica → Result ℕ Code → Type 0
+TellsFinish task seen r = FinishesOr seen (held_by task) r
+
+-- the lowest stage from a number on that the session could claim behind the finish of what a task holds
+pub record IsFirstToClaim (task : CfTask) (from : ℕ) (seen : Replica) (i : ℕ) : Type 0 where
+  pub can : CanClaim seen (held_by task) i
+  pub there : i < length (state_of seen).plan.stages
+  pub above : from ≤ i
+  pub first : NoneToClaim seen (held_by task) from i
+
+abbrev pub TellsNextClaim : CfTask → ℕ → Replica → Result ℕ Code → Type 0
+TellsNextClaim task from seen (Ok i) = IsFirstToClaim task from seen i
+TellsNextClaim task from seen (Err code) = (code ≡ Nothing) × NoneToClaim seen (held_by task) from (length (state_of seen).plan.stages)

@@ -1,7 +1,7 @@
 //! One session's view of a row in a store: what it plans, is told and is asked.
 ghost use Rattle.std.specs.Prelude.{◌≡◌, ◌<◌, ◌≤◌, [], length};
 ghost use Rattle.std.specs.Bool.{OnFalse, OnTrue};
-ghost use Rattle.cf_c_handles.specs.Rows.{GivesUpIn, IsSession, MeetsIn, OfRow, PlansIn, RoomsIn, RowOf, SeesIn, SeesOrNot, TellsAbandon, TellsClaimed, TellsHeld, TellsNumber, TellsNumberOf, TellsOpenClaim, put_code};
+ghost use Rattle.cf_c_handles.specs.Rows.{GivesUpIn, IsSession, MeetsIn, OfRow, PlansIn, RoomsIn, RowOf, SeesIn, SeesOrNot, TellsAbandon, TellsClaimed, TellsFinish, TellsHeld, TellsNextClaim, TellsNumber, TellsNumberOf, TellsOpenClaim, put_code};
 ghost use Rattle.cf_c_handles.specs.declared.handle.object.Object.TheVariants.{Row as HeldRow};
 
 use crate::code::Code;
@@ -10,6 +10,7 @@ use crate::ledger::telling::give_news;
 use crate::ledger::word_code;
 use crate::values::row::{CfRowClaim, CfRowOpening, as_claim};
 use crate::values::stage::CfNews;
+use crate::values::task::{CfTask, held_by};
 use crate::values::{CfReply, put_reply};
 use cf_row::{Entry, PutFault, Row, SESSIONS, TOKENS};
 use std::alloc::Global;
@@ -230,5 +231,30 @@ pub fn abandon(held: &mut Object, session: u64, from: u16, code: u32) -> Result<
     };
     row.replica()
         .abandon(session, from, code)
+        .ok_or(Code::Nothing)
+}
+
+/// The word that finishes what a task holds, where that is the session's own.
+pub fn finish(held: &mut Object, task: &CfTask) -> Result<u64, Code>
+    ensures { OfRow (TellsFinish task.now) held.old result held.new }
+{
+    let Object::Row(row) = held else {
+        return Err(Code::WrongKind);
+    };
+    match held_by(task) {
+        None => Err(Code::Nothing),
+        Some(ended) => row.replica().finish(ended).ok_or(Code::Nothing),
+    }
+}
+
+/// The lowest stage from a number on that the session could claim, behind the finish of what a task holds.
+pub fn next_claim(held: &mut Object, task: &CfTask, from: u16) -> Result<u16, Code>
+    ensures { OfRow (TellsNextClaim task.now from) held.old result held.new }
+{
+    let Object::Row(row) = held else {
+        return Err(Code::WrongKind);
+    };
+    row.replica()
+        .next_claim(held_by(task), from)
         .ok_or(Code::Nothing)
 }

@@ -116,7 +116,7 @@ attach_step : (room : ℕ) (s : State) (new : PlannedStage) (i w : ℕ) → clai
 attach_step zero s new i w e = e
 attach_step (suc room) s new i w e = claim_before_push s.claims i w e
 
-step : (s : State) (d : Event) (i w : ℕ) → claim_at ((answered s d).1) i ≡ Some w → (granted_by d ((answered s d).0) ≡ Some i) ⊎ (claim_at s i ≡ Some w)
+pub step : (s : State) (d : Event) (i w : ℕ) → claim_at ((answered s d).1) i ≡ Some w → (granted_by d ((answered s d).0) ≡ Some i) ⊎ (claim_at s i ≡ Some w)
 step s (Completes who j v) i w e = inr (sym (same_claim i s.claims _ (settled_claims (outcome_at s j) s j (Gives v))) ∙ e)
 step s (Fails who j code) i w e = inr (sym (same_claim i s.claims _ (settled_claims (outcome_at s j) s j (Fault (Thrown code) false))) ∙ e)
 step s (FailsAs who j failure) i w e = inr (sym (same_claim i s.claims _ (settled_claims (outcome_at s j) s j (Fault (cause_of failure) false))) ∙ e)

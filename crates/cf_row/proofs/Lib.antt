@@ -18,3 +18,4 @@ pub mod Whole
 pub mod Claiming
 pub mod Attaching
 pub mod Finishing
+pub mod Granting

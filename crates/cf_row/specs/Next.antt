@@ -1,6 +1,8 @@
 -- What a session puts next: the finish of what it has, and the claim of another stage.
 use Rattle.std.specs.Prelude.{◌≡◌, ◌⊎◌, ℕ, ◌<◌, ◌≤◌, Bool, true, false, Option, Some, None, List, [], ◌∷◌}
+use Rattle.std.specs.Option.{option_map}
 use Rattle.cf_outcome.specs.declared.outcome.Outcome.{Outcome}
+use Rattle.cf_outcome.specs.Outcomes.{wrap}
 use Rattle.cf_forms.specs.declared.forms.Due.{Due}
 use Rattle.cf_forms.specs.declared.forms.Due.TheVariants.{Needs}
 use Rattle.cf_forms.specs.declared.forms.Landing.{Landing}
@@ -12,7 +14,7 @@ use Rattle.cf_model.specs.declared.events.Reply.{Reply}
 use Rattle.cf_model.specs.declared.events.Reply.TheVariants.{Claim as ToldClaim}
 use Rattle.cf_model.specs.declared.replies.Claimed.TheVariants.{Granted}
 use Rattle.cf_model.specs.declared.stage.Stage.TheVariants.{Pending}
-use Rattle.cf_model.specs.States.{State, claim_at, is_ready, stage_at}
+use Rattle.cf_model.specs.States.{State, claim_at, is_ready, outcome_at, stage_at}
 use Rattle.cf_model.specs.Events.{answered, source_outcome}
 use Rattle.cf_event.specs.Words.{word_of}
 use Rattle.cf_ledger.specs.declared.step.Held.{Held}
@@ -42,14 +44,14 @@ pub record HasNoClaim (r : Replica) (stage : ℕ) : Type 0 where
 
 -- ---- what a finish makes ready
 
--- the outcome that a stage has at once where its answer lands so: a link waits for another stage
-abbrev pub landed_with : Landing → Option Outcome
-landed_with (Lands o) = Some o
-landed_with (Links j) = None
+-- the outcome that a stage has where its answer lands so: a link waits for the other stage, unless that is settled
+abbrev pub landed_with : State → Landing → Option Outcome
+landed_with s (Lands o) = Some o
+landed_with s (Links j) = option_map wrap (outcome_at s j)
 
--- the outcome with which a finish settles its stage at once
+-- the outcome with which a finish settles its stage, if it does so at once
 abbrev pub settles_with : State → Held → Option Outcome
-settles_with s held = landed_with (landing (form_at s.plan.stages held.stage) held.stage (source_outcome s held.stage) held.answer)
+settles_with s held = landed_with s (landing (form_at s.plan.stages held.stage) held.stage (source_outcome s held.stage) held.answer)
 
 abbrev pub is_needed : Due → Bool
 is_needed (Needs args) = true

@@ -1,6 +1,7 @@
 //! Laws of rows: the contract of each function is the statement, and its body is empty. A host uses a law by calling it
 //! before it concludes something.
 ghost use Rattle.cf_row.specs.Grants.{ClaimsAreOnes};
+ghost use Rattle.cf_row.specs.Next.{NextClaimsAreGranted};
 ghost use Rattle.cf_row.specs.Laws.{LandedPutsStandOnce, NumbersAreRuled, PutsKeepOnceOrNever, PutsStandOnceOrNever, RowsAreOneHistory, RowsOnlyGrow, ToldIsTrue, TokensAreApart};
 
 /// A row of which a session's view is true, and in which more entries stand behind it, has the longer view, too.
@@ -45,6 +46,12 @@ pub fn numbers_are_ruled()
 /// of each open claim the one session to which it was granted.
 pub fn claims_are_one_sessions()
     ensures { ClaimsAreOnes }
+{}
+
+/// The claim of a stage that a view gave by `next_claim` is granted, where it stands next behind the word that the view
+/// gave by `finish`, or alone where nothing has ended.
+pub fn next_claims_are_granted()
+    ensures { NextClaimsAreGranted }
 {}
 
 /// Whatever puts an engine was asked for, how often and how late, and whatever it answered: the accounts of all

@@ -4,7 +4,8 @@
 //! entries where none stands yet, all or none. A `Row` is what one session knows of it. It replays what its host read
 //! there, plans puts for the end of what it has seen, and is told what became of each. What it replays is what stands,
 //! never its own copy of a put. An entry is its own if the entry's token is its session's: so nothing has to be
-//! remembered of a put whose answer was lost, and what is read later tells.
+//! remembered of a put whose answer was lost, and what is read later tells. It also says which words a session puts
+//! next: the finish of a stage that it has, with the claim of another one, and what fails the stages of one that is gone.
 //!
 //! A contract speaks of any row of which all is true that the session was told. So the row itself is a value of the
 //! proof alone, and the laws say of all sessions together what follows.

@@ -10,7 +10,7 @@ use crate::grants::{Claim, is_held};
 use cf_forms::{Due, Landing, due_one, is_decided_by_first, landing};
 use cf_ledger::{Held, Ledger};
 use cf_model::Stage;
-use cf_outcome::Outcome;
+use cf_outcome::{Outcome, wrap};
 use cf_plan::GrowingPlan;
 
 /// A stage that a finish settles, and with what.
@@ -70,7 +70,8 @@ fn settled_by(
     })
 }
 
-/// The outcome with which a finish settles its stage at once.
+/// The outcome with which a finish settles its stage, if it does so at once.
+#[tactic(auto, using(crate::proofs::Claiming::links_lower))]
 fn outcome_by(plan: &GrowingPlan, ledger: &Ledger, held: Held) -> Option<Outcome>
     requires plan { plan.now ≡ (state_of ledger.now).plan }
     requires there { held.stage < length (state_of ledger.now).plan.stages }
@@ -79,7 +80,7 @@ fn outcome_by(plan: &GrowingPlan, ledger: &Ledger, held: Held) -> Option<Outcome
     let source = source_outcome(plan, ledger, held.stage);
     match landing(plan.form(held.stage), held.stage, source, held.answer) {
         Landing::Settles(outcome) => Some(outcome),
-        Landing::Links(_) => None,
+        Landing::Links(other) => Some(wrap(ledger.outcome(other)?)),
     }
 }
 

@@ -226,7 +226,7 @@ impl Replica {
 
     /// The lowest stage from a number on that this session could claim next: one that is ready, or where a stage of its
     /// own has ended, one that is ready once that is finished. The latter isn't ready yet, and has that stage as its only
-    /// source. Its claim is granted where it stands right behind the finish. Behind a link nothing is ready. It costs a
+    /// source. Its claim is granted where it stands right behind the finish. It costs a
     /// look at each stage between, and at each claim that was granted.
     pub fn next_claim(&self, ended: Option<Held>, from: u16) -> Option<u16>
         ensures can { IfSome result (λ i. CanClaim self.now ended i) }

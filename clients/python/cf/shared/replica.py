@@ -1,12 +1,13 @@
 """What a session has seen of a row, by a view of the library, whose replies and news are read as numbers."""
 import ctypes as c
 from array import array
-from typing import Any, Callable, Iterator, Optional, Sequence, Tuple
+from typing import Any, Callable, Iterator, NamedTuple, Optional, Sequence, Tuple
 
-from .._library import CALLS, CEntry, CNews, CReply, CRowClaim, CRowOpening, CStage, path
+from .. import _library
+from .._library import CALLS, CEntry, CNews, CReply, CRowClaim, CRowOpening, CStage, CTask, path
 from ..handle import Handle
 from ..plan import Plan
-from ..service.words import REPLY_NUMBERS, Told
+from ..service.words import GIVES, LINKS, REPLY_NUMBERS, THROWS, Told
 from ..values import Code, check
 
 _loaded = c.PyDLL(path)  # it keeps the interpreter's lock: to let it go and take it again costs more than a call does
@@ -24,6 +25,18 @@ _plan, _met, _give_up = _bound("cf_row_plan", 1), _bound("cf_row_met"), _bound("
 _saw, _grow = _bound("cf_row_saw"), _bound("cf_row_grow")
 _number, _stage = _bound("cf_row_number"), _bound("cf_ledger_stage")
 _open_claim, _held, _abandon = _bound("cf_row_open_claim"), _bound("cf_row_held"), _bound("cf_row_abandon")
+_finish, _next_claim = _bound("cf_row_finish"), _bound("cf_row_next_claim")
+NO_VALUE = 0  # what a finish says that gives none
+_ANSWERS = {NO_VALUE: _library.GIVE, GIVES: _library.GIVE, THROWS: _library.THROW, LINKS: _library.LINK}
+
+
+class Ended(NamedTuple):
+    """A stage whose function has ended, and what it came to, as a finish says it: `NO_VALUE`, or one of `GIVES`,
+    `THROWS` and `LINKS` with its number."""
+
+    stage: int
+    kind: int
+    number: int
 
 
 def told_of(stage: CStage) -> Told:
@@ -118,6 +131,30 @@ class Replica(Handle):
         has none."""
         word = c.c_uint64()
         return word.value if _is_there(_abandon(self._to, session, first, code, c.byref(word))) else None
+
+    def finish(self, ended: Ended) -> Optional[int]:
+        """The word that finishes a stage of the session's own, or None where no claim of it is open that was granted to
+        the session."""
+        word = c.c_uint64()
+        return word.value if _is_there(_finish(self._to, c.byref(_task_of(ended)), c.byref(word))) else None
+
+    def next_claims(self, ended: Optional[Ended]) -> Iterator[int]:
+        """The stages that the session could claim next, rising: those that are ready, and those that are ready once
+        this stage is finished, and wait for it alone."""
+        task, told, first = c.byref(_task_of(ended)), c.c_uint16(), 0
+        while _is_there(_next_claim(self._to, task, first, c.byref(told))):
+            yield told.value
+            first = told.value + 1
+
+
+def _task_of(ended: Optional[Ended]) -> CTask:
+    """What the library is told of a stage that has ended."""
+    task = CTask()
+    if ended is not None:
+        task.held, task.stage, answer = 1, ended.stage, task.answer
+        answer.kind, answer.code, answer.stage = _ANSWERS[ended.kind], ended.number, ended.number & 0xFFF
+        answer.value.kind, answer.value.number = int(ended.kind == GIVES), ended.number
+    return task
 
 
 def _is_there(code: int) -> bool:

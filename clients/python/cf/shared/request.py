@@ -571,9 +571,10 @@ class DurableRequest:
         """Puts a finish within a transaction, and says whether that stands. `Unknown` where it may. What it settled
         isn't shown yet."""
         with self._lock:
-            if self._view.is_settled(finish.stage):
+            wanted = None if self._view.is_settled(finish.stage) else finish.word(self._view)
+            if wanted is None:
                 return False
-            put: Put = self._view.put_of([finish.word(self._view)])
+            put: Put = self._view.put_of([wanted])
             try:
                 stands = transaction.append(put)
                 if stands:

@@ -14,11 +14,12 @@ from typing import Any, Callable, Dict, List, NamedTuple, Optional, Sequence, Se
 from ..service.ending import Ends, Hook
 from ..service.flow import Flow
 from ..service.history import Describe, describe_all
-from ..service.words import (ANSWER, ARGS, CLAIM, COMPOSE_FORMS, FAIL, FINISH, FIRST, FIRST_SOME, GIVES, GOT, LINKS,
+from ..service.words import (ANSWER, ARGS, CLAIM, COMPOSE_FORMS, FIRST, FIRST_SOME, GIVES, GOT, LINKS,
                              ONE, OUTCOME, SECOND, SECOND_SOME, THROWS, TWO, VALUE, Told)
 from ..values import Form
 from .codec import Abandoned, Json, RemoteError
 from .contexts import Carrier, within
+from .replica import NO_VALUE, Ended
 from .view import SESSION_BITS, Done, RowView, Watcher
 from .functions import F, Functions, Known
 from .host import HOST, Host
@@ -32,9 +33,6 @@ PATIENCE = 60  # seconds
 MOST_GLANCES = 500  # that a beat keeps
 LONGEST_WHY = 500  # characters of what a store says that takes no value
 ONLY_FAULT = (int(Form.EXCEPTIONALLY), int(Form.EXCEPTIONALLY_COMPOSE))
-GOES_ON = {  # the forms that a finish which gives or throws makes ready, where it is their only source
-    GIVES: (int(Form.APPLY), int(Form.HANDLE), int(Form.WHEN_COMPLETE)),
-    THROWS: (int(Form.EXCEPTIONALLY), int(Form.HANDLE), int(Form.WHEN_COMPLETE))}
 
 
 class Claimed(NamedTuple):
@@ -55,13 +53,16 @@ class Finish(NamedTuple):
     kind: int
     payload: Optional[bytes]
 
-    def word(self, view: RowView) -> Tuple[int, Optional[bytes]]:
-        """Its word at the end of what is seen."""
+    def ended(self, view: RowView) -> Ended:
+        """It at the end of what is seen: what it gives or throws is named by its own place."""
         if self.kind == LINKS:
-            tag, low = LINKS, int(view.said(self.stage)["to"])
-        else:
-            tag, low = (self.kind, view.place) if self.payload is not None else (0, 0)
-        return FINISH << 56 | view.who << 48 | self.stage << 36 | tag << 32 | low, self.payload
+            return Ended(self.stage, LINKS, int(view.said(self.stage)["to"]))
+        return Ended(self.stage, NO_VALUE if self.payload is None else self.kind, view.place)
+
+    def word(self, view: RowView) -> Optional[Tuple[int, Optional[bytes]]]:
+        """Its word at the end of what is seen, or None where the session has no open claim of the stage."""
+        word = view.finish(self.ended(view))
+        return None if word is None else (word, self.payload)
 
 
 LOST = Finish(-1, GIVES, None)  # that of a transaction whose place was taken
@@ -529,9 +530,10 @@ class DurableService(concurrent.futures.Executor):
         told = finish
 
         def decide(view: RowView) -> Any:
-            made = [told.word(view)] if told is not None and request._is_held(told.stage) else []
-            chosen[:] = self._choice(request, view, told)
-            return made + [(CLAIM << 56 | view.who << 48 | stage << 36, None) for stage in chosen[:1]]
+            made = None if told is None else told.word(view)
+            chosen[:] = self._choice(request, view, told if made is not None else None)
+            claims = [(CLAIM << 56 | view.who << 48 | stage << 36, None) for stage in chosen[:1]]
+            return claims if made is None else [made, *claims]
         while True:
             try:
                 done = request._act(decide)
@@ -579,12 +581,8 @@ class DurableService(concurrent.futures.Executor):
         """Up to two stages that this session could claim: those that are ready, or that the finish makes ready."""
         if self._stops.is_set() or not self._workers:
             return []
-        ready = sorted(view.ready)
-        if finish is not None and not view.is_settled(finish.stage):
-            goes_on = GOES_ON.get(finish.kind, ())  # (behind a link nothing is ready yet)
-            ready += [it for it in view.behind(finish.stage)
-                      if not view.is_settled(it) and view.forms[it][0] in goes_on and len(view.forms[it][1]) == 1]
-        return list(itertools.islice((stage for stage in ready if self._known(request, stage) is not None), 2))
+        claims = view.next_claims(None if finish is None else finish.ended(view))
+        return list(itertools.islice((stage for stage in claims if self._known(request, stage) is not None), 2))
 
     def _known(self, request: DurableRequest, stage: int) -> Optional[Known]:
         """The function of a stage, or None where it isn't registered here: others may have it."""

@@ -3,8 +3,8 @@ and where it loses replays and decides again."""
 import contextlib
 import json
 from array import array
-from typing import (Any, Callable, ContextManager, Dict, Iterable, List, Mapping, NamedTuple, Optional, Sequence, Set,
-                    Tuple, TypeVar)
+from typing import (Any, Callable, ContextManager, Dict, Iterable, Iterator, List, Mapping, NamedTuple, Optional,
+                    Sequence, Set, Tuple, TypeVar)
 
 from .. import values
 from .._library import CNews
@@ -15,7 +15,7 @@ from ..service.words import (ANSWER, ATTACH, CLAIM, COMPLETE, COMPOSE_FORMS, FAI
 from .codec import Json
 from .host import HOST, Host
 from .plans import SharedPlan, said_in
-from .replica import Replica, told_of
+from .replica import Ended, Replica, told_of
 from .rows import COUNT_BITS, Broken, Entry, Gone, Opened, Put, Store, Unknown, sure
 
 SESSION_BITS = 39  # of a token
@@ -121,14 +121,11 @@ class RowView:
         self.lost = self.unknown = 0
         self._patience = patience
         self._note = note or (lambda *_: None)
-        self._behind: Dict[int, List[int]] = {}
         self._own: Dict[int, bytes] = {}  # the payloads that this view put
         self._said: Dict[int, Dict[str, Any]] = {}
         # the tokens of words of which it isn't known whether they stand, and the places where they would
         self._doubt: Dict[int, int] = {}
         self.found: Dict[int, Done] = {}  # claims of this session's that were granted, as it found when it read them
-        for number, (_, of) in enumerate(self.forms):
-            self._follow(number, of)
 
     @property
     def who(self) -> int:
@@ -174,9 +171,14 @@ class RowView:
         word = self._replica.abandon(session, stage, self.place)
         return word if word is not None and word >> 36 & 0xFFF == stage else None
 
-    def behind(self, stage: int) -> List[int]:
-        """The stages that have it as a source."""
-        return self._behind.get(stage, [])
+    def finish(self, ended: Ended) -> Optional[int]:
+        """The word that finishes a stage of this session's own, or None where it has no open claim of it."""
+        return self._replica.finish(ended)
+
+    def next_claims(self, ended: Optional[Ended]) -> Iterator[int]:
+        """The stages that this session could claim next, rising: those that are ready, and those that this finish makes
+        ready. Such a claim is granted right behind the finish."""
+        return self._replica.next_claims(ended)
 
     # Reading and putting.
 
@@ -309,12 +311,7 @@ class RowView:
         self.told.append(NOT_YET)
         self.places.append(0)
         self.attached[number] = place
-        self._follow(number, of)
         self.forms.append((low >> 24, of))  # (last: other threads look whether a stage is there)
-
-    def _follow(self, number: int, of: Tuple[int, ...]) -> None:
-        for source in set(of):
-            self._behind.setdefault(source, []).append(number)
 
     def _changed(self, news: "Sequence[CNews]", place: int, failed: int) -> List[int]:
         """Takes over what a word changed, and gives the stages that it settled. `failed` is the place for

@@ -1,8 +1,8 @@
 use crate::row::steps::{Engine, Step, take};
-use cf_forms::Args;
+use cf_forms::{Answer, Args};
 use cf_model::Claimed;
 use cf_outcome::{Cause, Outcome, Value};
-use cf_row::{Claim, LedgerFault, PutFault, Reply};
+use cf_row::{Claim, Held, LedgerFault, PutFault, Reply};
 
 /// Caller 0, or 1, gives the source the number 5.
 const COMPLETE_BY_0: u64 = 0x0100000100000005;
@@ -35,6 +35,62 @@ const FIVE: Args = Args::One(Value::Int(5));
 
 /// Caller 7 fails the apply with code 9.
 const FAIL_BY_7: u64 = 0x0207001000000009;
+
+/// Caller 0 attaches an apply, a whenComplete, an exceptionally or a compose of the apply by function 3.
+const APPLY_2: u64 = 0x0700001103000003;
+
+const WHEN_COMPLETE_2: u64 = 0x070000110e000003;
+
+const EXCEPTIONALLY_2: u64 = 0x070000110f000003;
+
+const COMPOSE_3: u64 = 0x070000110c000003;
+
+/// And an apply of stage 2 or 3.
+const APPLY_3: u64 = 0x0700002103000003;
+
+const APPLY_4: u64 = 0x0700003103000003;
+
+/// Caller 0 fails the source with code 9, and attaches a source.
+const FAIL_0: u64 = 0x0200000000000009;
+
+const SOURCE_2: u64 = 0x0700000000000000;
+
+/// Caller 0 completes stage 2 with 5.
+const COMPLETE_2: u64 = 0x0100002100000005;
+
+/// Caller 0 claims stage 3, and finishes it by a link to stage 2.
+const CLAIM_3_BY_0: u64 = 0x0400003000000000;
+
+const LINK_3_TO_2: u64 = 0x0500003300000002;
+
+const CLAIM_4_BY_0: u64 = 0x0400004000000000;
+
+const LINKED: Held = Held {
+    stage: 3,
+    answer: Answer::Link(2),
+};
+
+/// What the apply's function came to.
+const GAVE: Held = Held {
+    stage: 1,
+    answer: Answer::Give(Value::Int(6)),
+};
+
+const THREW: Held = Held {
+    stage: 1,
+    answer: Answer::Throw(9),
+};
+
+/// A whenComplete gave nothing, and a compose did so.
+const NOTHING_2: Held = Held {
+    stage: 2,
+    answer: Answer::Give(Value::Nil),
+};
+
+const NOTHING_3: Held = Held {
+    stage: 3,
+    answer: Answer::Give(Value::Nil),
+};
 
 /// Bits that no event has.
 const NO_WORD: u64 = 0xff00000000000000;
@@ -185,7 +241,7 @@ const HELD: [(u8, Step); 16] = [
 ];
 
 /// Caller 7 is several sessions. Of their claims of the apply one is granted, to session 27, and stays its.
-const WHOSE: [(u8, Step); 11] = [
+const WHOSE: [(u8, Step); 13] = [
     (0, Step::Crowd),
     (0, Step::Sees),
     (0, Step::Others(CLAIM_BY_7)),
@@ -196,7 +252,78 @@ const WHOSE: [(u8, Step); 11] = [
     (0, Step::Held(27, 0, Some(1))),
     (0, Step::Held(7, 0, None)),
     (0, Step::OpenClaim(0, Some(BY_27))),
+    (0, Step::Finish(GAVE, None)),
+    (0, Step::NextClaim(Some(GAVE), None)),
     (0, Step::Abandon(27, Some(FAIL_BY_7))),
+];
+
+/// The first session has the apply, and an apply of that is attached. Its claim is put behind the finish, and granted. By
+/// a fault that apply isn't called, and behind another's stage, or one that nobody has, none is ready.
+const NEXT: [(u8, Step); 17] = [
+    (0, Step::NextClaim(None, None)),
+    (0, Step::Lands(Engine::Sound, &[COMPLETE_BY_0, APPLY_2])),
+    (0, Step::NextClaim(None, Some(1))),
+    (0, Step::Finish(GAVE, None)),
+    (0, Step::NextClaim(Some(GAVE), Some(1))),
+    (0, Step::Lands(Engine::Sound, &[CLAIM_BY_0])),
+    (1, Step::Sees),
+    (1, Step::Finish(GAVE, None)),
+    (1, Step::NextClaim(Some(GAVE), None)),
+    (0, Step::NextClaim(None, None)),
+    (0, Step::NextClaim(Some(THREW), None)),
+    (0, Step::Finish(GAVE, Some(FINISH_BY_0))),
+    (0, Step::NextClaim(Some(GAVE), Some(2))),
+    (0, Step::Lands(Engine::Sound, &[FINISH_BY_0, CLAIM_2_BY_0])),
+    (0, Step::Held(7, 0, Some(2))),
+    (0, Step::Finish(GAVE, None)),
+    (0, Step::NextClaim(Some(GAVE), None)),
+];
+
+/// An exceptionally goes on with a fault, and not with a value. Once another has failed the apply, a finish is late, and
+/// goes with the claim of what is ready by then.
+const CATCHES: [(u8, Step); 11] = [
+    (
+        0,
+        Step::Lands(Engine::Sound, &[COMPLETE_BY_0, EXCEPTIONALLY_2]),
+    ),
+    (1, Step::Sees),
+    (1, Step::Lands(Engine::Sound, &[CLAIM_BY_1])),
+    (1, Step::NextClaim(Some(GAVE), None)),
+    (1, Step::NextClaim(Some(THREW), Some(2))),
+    (0, Step::Sees),
+    (0, Step::Lands(Engine::Sound, &[FAIL_BY_0, CLAIM_2_BY_0])),
+    (1, Step::Sees),
+    (1, Step::Finish(GAVE, Some(FINISH_BY_1))),
+    (1, Step::NextClaim(Some(THREW), None)),
+    (1, Step::Lands(Engine::Sound, &[FINISH_BY_1])),
+];
+
+/// A whenComplete of a fault ends as that, whatever its function gives. So an apply of it isn't called.
+const KEEPS: [(u8, Step); 7] = [
+    (0, Step::Grow(1)),
+    (0, Step::Lands(Engine::Sound, &[WHEN_COMPLETE_2, APPLY_3])),
+    (0, Step::Lands(Engine::Sound, &[FAIL_0])),
+    (0, Step::NextClaim(None, Some(2))),
+    (0, Step::Lands(Engine::Sound, &[CLAIM_2_BY_0])),
+    (0, Step::NextClaim(Some(NOTHING_2), None)),
+    (0, Step::Finish(NOTHING_2, Some(0x0500002000000000))),
+];
+
+/// A compose that links to a stage goes on where that is settled.
+const LINKS: [(u8, Step); 10] = [
+    (0, Step::Grow(2)),
+    (
+        0,
+        Step::Lands(Engine::Sound, &[SOURCE_2, COMPOSE_3, APPLY_4]),
+    ),
+    (0, Step::Lands(Engine::Sound, &[COMPLETE_BY_0, CLAIM_BY_0])),
+    (0, Step::Lands(Engine::Sound, &[FINISH_BY_0, CLAIM_3_BY_0])),
+    (0, Step::NextClaim(Some(LINKED), None)),
+    (0, Step::NextClaim(Some(NOTHING_3), None)),
+    (0, Step::Lands(Engine::Sound, &[COMPLETE_2])),
+    (0, Step::NextClaim(Some(LINKED), Some(4))),
+    (0, Step::Finish(LINKED, Some(LINK_3_TO_2))),
+    (0, Step::Lands(Engine::Sound, &[LINK_3_TO_2, CLAIM_4_BY_0])),
 ];
 
 /// An engine overwrites: the second session doesn't know that the first has finished the apply, and is told that it has
@@ -231,7 +358,7 @@ const LOST: [(u8, Step); 6] = [
 ];
 
 /// The second session's first token in each of them.
-const TESTS: [(u32, &[(u8, Step)]); 10] = [
+const TESTS: [(u32, &[(u8, Step)]); 14] = [
     (0, &DOUBTS),
     (0, &FINDS),
     (0, &GONE),
@@ -239,6 +366,10 @@ const TESTS: [(u32, &[(u8, Step)]); 10] = [
     (0, &CROWDED),
     (0, &HELD),
     (0, &WHOSE),
+    (0, &NEXT),
+    (0, &CATCHES),
+    (0, &KEEPS),
+    (0, &LINKS),
     (0, &OVERWRITTEN),
     (0, &TORN),
     (0, &LOST),

@@ -2,7 +2,7 @@
 use crate::checks::{holds, must};
 use crate::plans::{SOURCE_AND_APPLY, plan_of};
 use cf_outcome::Outcome;
-use cf_row::{Claim, Entry, LedgerFault, PutFault, Reply, Row, TOKENS};
+use cf_row::{Claim, Entry, Held, LedgerFault, PutFault, Reply, Row, TOKENS};
 use std::alloc::Global;
 use std::process::Abort;
 
@@ -58,6 +58,10 @@ pub(crate) enum Step {
     Held(u64, u16, Option<u16>),
     /// The word that fails the lowest stage that a session has, by code 9.
     Abandon(u64, Option<u64>),
+    /// The word that finishes a stage.
+    Finish(Held, Option<u64>),
+    /// The lowest stage that the session could claim next, behind the finish of this one.
+    NextClaim(Option<Held>, Option<u16>),
     Outcome(u16, Option<Outcome>),
 }
 
@@ -176,7 +180,17 @@ fn is_known(row: &Row, step: Step) -> bool {
         Step::Claimed(who, answer) => replica.claimed(who, 0) == answer,
         Step::OpenClaim(from, answer) => replica.open_claim(from) == answer,
         Step::Held(session, from, answer) => replica.held(session, from) == answer,
+        _ => goes_on(row, step),
+    }
+}
+
+/// Whether it is told so what is put next.
+fn goes_on(row: &Row, step: Step) -> bool {
+    let replica = row.replica();
+    match step {
         Step::Abandon(session, answer) => replica.abandon(session, 0, 9) == answer,
+        Step::Finish(held, answer) => replica.finish(held) == answer,
+        Step::NextClaim(ended, answer) => replica.next_claim(ended, 0) == answer,
         _ => false,
     }
 }
