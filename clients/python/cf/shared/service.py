@@ -532,8 +532,8 @@ class DurableService(concurrent.futures.Executor):
         def decide(view: RowView) -> Any:
             made = None if told is None else told.word(view)
             chosen[:] = self._choice(request, view, told if made is not None else None)
-            claims = [(CLAIM << 56 | view.who << 48 | stage << 36, None) for stage in chosen[:1]]
-            return claims if made is None else [made, *claims]
+            words: List[Tuple[int, Optional[bytes]]] = [] if made is None else [made]
+            return words + [(CLAIM << 56 | view.who << 48 | stage << 36, None) for stage in chosen[:1]]
         while True:
             try:
                 done = request._act(decide)

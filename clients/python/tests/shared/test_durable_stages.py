@@ -12,7 +12,7 @@ from concurrent.futures import CancelledError
 from case import Case, Watched
 import shared_functions as f
 from cf.service import Flow, RequestFull
-from cf.service.words import CLAIM, VALUE
+from cf.service.words import CLAIM, FINISH, VALUE
 from cf.shared import Abandoned, Broken, DurableService, Memory
 
 
@@ -171,6 +171,32 @@ class DurableStages(Case):
         second.complete(3)
         first.complete(1)
         self.assertEqual(stage.result(20), 5)
+
+    def test_the_claim_that_goes_with_a_finish(self):
+        """It is put with it, and granted: that of a stage that the finish makes ready, by what its own stage ends as."""
+        puts = []
+
+        class Kept(Memory):
+            def append(self, put):
+                stands = super().append(put)
+                puts.extend([[(word >> 56, word >> 36 & 0xFFF) for word, _ in put.entries]] if stands is None else [])
+                return stands
+        service = DurableService(Kept(), 1, functions=f.functions, lease=1000)
+        self.services.append(service)
+        durable = service.request("r")
+        given, failed = durable.promise(), durable.promise()
+        first = given.then(f.inc)
+        loaded = first.compose(f.loading)
+        kept = failed.when_done(f.nothing)
+        passed, caught = kept.then(f.inc), kept.recover(f.text)
+        given.complete(1)
+        loaded.result(20)
+        self.assertIn([(FINISH, first.number), (CLAIM, loaded.number)], puts)
+        failed.fail(ValueError("x"))
+        self.assertEqual(caught.result(20), "sorry, x")
+        self.assertIsInstance(passed.exception(20), ValueError)
+        self.assertIn([(FINISH, kept.number), (CLAIM, caught.number)], puts)
+        self.assertEqual([words for words in puts if (CLAIM, passed.number) in words], [])
 
     def test_callbacks_that_raise_anything(self):
         """The other callbacks are called all the same, and a worker goes on with what it has claimed."""
