@@ -244,8 +244,9 @@ impl Store for SQLite {
             _ => return Ok((self.ask(ENDS, &[], read)?.into_iter().collect(), mark)),
         };
         let opened = "select name, 0 from cf_request where id > ? and closed is null";
-        // (without a word SQLite goes through all words, by the index that has requests in a row)
-        let longer = "select name, max(at) + 1 from cf_word not indexed join cf_request on id = request where n > ? and closed is null group by request";
+        // (with an index SQLite would go through all words, request by request)
+        let longer =
+            "select name, max(at) + 1 from cf_word not indexed join cf_request on id = request where n > ? and closed is null group by request";
         let mut told = self.ask(opened, &[&since.1], read)?;
         told.extend(self.ask(longer, &[&since.0], read)?);
         Ok((told.into_iter().collect(), mark))

@@ -35,7 +35,7 @@ impl Store for Counted {
 fn service(file: &File, threads: usize) -> (Service, Asked) {
     let (asked, mut options) = (Asked::default(), quick());
     options.threads = threads;
-    let functions = Functions::new().with("seven", 1, || Ok::<_, String>(7));
+    let functions = Functions::new().with("seven", 1, || Ok::<_, String>(7)).with("inc", 1, |it: i64| Ok::<_, String>(it + 1));
     (Service::with(Counted { store: file.store(), asked: Arc::clone(&asked) }, functions, options).unwrap(), asked)
 }
 
@@ -68,4 +68,21 @@ fn a_put_is_one_question() {
     }
     assert_eq!((times(&asked, "payload"), times(&asked, "payloads")), (0, 1), "it knows what it has put itself");
     assert!(times(&asked, "read") < MANY / 2, "{asked:?}");
+}
+
+#[test]
+fn a_chain_is_a_put_a_stage() {
+    let file = File::new("chains");
+    let (planner, _) = service(&file, 0);
+    let request = planner.request("chain").unwrap();
+    let mut last = request.promise("first").unwrap();
+    for _ in 0..MANY {
+        last = last.then("inc").unwrap();
+    }
+    assert!(request.stage(0).unwrap().complete(&0).unwrap());
+    drop(planner);
+    let (worker, asked) = service(&file, 1);
+    let last = worker.open("chain").unwrap().stage(last.number()).unwrap();
+    assert_eq!(settled::<i64>(&last), Ok(MANY as i64));
+    assert_eq!(times(&asked, "append"), MANY + 1, "the finish of each comes with the claim of the next");
 }
