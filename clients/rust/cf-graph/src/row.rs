@@ -4,7 +4,8 @@ use crate::handle::Handle;
 use crate::ledger::{self, Changes, News, Stage};
 use crate::plan::Plan;
 use crate::refused::{if_there, Refused};
-use crate::values::Reply;
+use crate::step::task_in;
+use crate::values::{Answer, Reply};
 use cf_sys as sys;
 
 /// How many bits of a token count. Those above them are the session.
@@ -45,7 +46,7 @@ pub struct RowOpening {
 /// read is the row, or a beginning of it. Then all sessions see one order of events, whatever answers are lost, repeated or late.
 ///
 /// ```
-/// use cf_graph::{Call, Entry, Event, Form, Of, PlanBuilder, Row, RowOpening, Value};
+/// use cf_graph::{Answer, Call, Entry, Event, Form, Of, PlanBuilder, Row, RowOpening, Value};
 /// # fn main() -> Result<(), cf_graph::Refused> {
 /// let mut plan = PlanBuilder::new()?;
 /// plan.stage(Form::Source, &[], None)?;
@@ -58,6 +59,7 @@ pub struct RowOpening {
 /// row.saw(entry)?;
 /// assert_eq!((row.count()?, entry.session()), (1, 700));
 /// assert_eq!((row.open_claim(0)?, row.held(700, 0)?, row.abandon(700, 0, 1)?), (None, None, None)); // nobody has claimed anything
+/// assert_eq!((row.finish(0, Answer::Give(Value::Nil))?, row.next_claim(None, 0)?), (None, None));
 /// # Ok(())
 /// # }
 /// ```
@@ -148,15 +150,8 @@ impl Row {
         if_there(self.handle.tell(|h, told| unsafe { sys::cf_row_number_of(h, session, told) }))
     }
 
-    /// The lowest stage from this number on whose claim is open and a caller's. It may be settled already: a claim is open until its caller has
-    /// finished.
-    pub fn claimed(&mut self, who: u8, from: u16) -> Result<Option<u16>, Refused> {
-        // SAFETY: alone, pointers: `h` and what is told to are this call's.
-        if_there(self.handle.tell(|h, told| unsafe { sys::cf_row_claimed(h, who, from, told) }))
-    }
-
     /// The lowest stage from this number on whose claim is open, and the session to which it was granted, also where several sessions have its
-    /// caller's number. It may be settled already, as for `claimed`.
+    /// caller's number. It may be settled already: a claim is open until its session has finished.
     pub fn open_claim(&mut self, from: u16) -> Result<Option<(u16, u64)>, Refused> {
         // SAFETY: alone, pointers: `h` and what is told to are this call's.
         let told = if_there(self.handle.tell(|h, told: *mut sys::cf_row_claim| unsafe { sys::cf_row_open_claim(h, from, told) }))?;
@@ -173,6 +168,22 @@ impl Row {
     pub fn abandon(&mut self, session: u64, from: u16, code: u32) -> Result<Option<u64>, Refused> {
         // SAFETY: alone, pointers: `h` and what is told to are this call's.
         if_there(self.handle.tell(|h, told| unsafe { sys::cf_row_abandon(h, session, from, code, told) }))
+    }
+
+    /// The word that finishes a stage of this session's with what its function came to: what to put then. Nothing where the claim isn't open, or was
+    /// granted to another session. Where the stage was settled since its claim, the finish is late, and only closes the claim.
+    pub fn finish(&mut self, stage: u16, answer: Answer) -> Result<Option<u64>, Refused> {
+        let task = task_in(Some((stage, answer)));
+        // SAFETY: alone, pointers: `h` and what is told to are this call's, and `task` is a local.
+        if_there(self.handle.tell(|h, told| unsafe { sys::cf_row_finish(h, &task, told) }))
+    }
+
+    /// The lowest stage from this number on that this session could claim next: one that is ready, or one that is ready once the stage is finished
+    /// that has `ended`, with this answer. The claim is granted right behind the word of [`finish`](Row::finish), so both are one put.
+    pub fn next_claim(&mut self, ended: Option<(u16, Answer)>, from: u16) -> Result<Option<u16>, Refused> {
+        let task = task_in(ended);
+        // SAFETY: alone, pointers: `h` and what is told to are this call's, and `task` is a local.
+        if_there(self.handle.tell(|h, told| unsafe { sys::cf_row_next_claim(h, &task, from, told) }))
     }
 
     /// How many entries were seen.

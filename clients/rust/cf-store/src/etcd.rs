@@ -8,14 +8,18 @@ use std::collections::BTreeMap;
 use std::sync::atomic::{AtomicUsize, Ordering};
 use std::sync::{Mutex, MutexGuard, PoisonError};
 use std::thread;
-use std::time::{Duration, SystemTime, UNIX_EPOCH};
+use std::time::{Duration, Instant, SystemTime, UNIX_EPOCH};
 
 /// In a put: a transaction of etcd has 128 operations at most by default.
 const MOST_ENTRIES: usize = 40;
+/// In a question: as many operations.
+const MOST_RANGES: usize = 64;
 /// That one answer has, so that it comes in time.
 const MOST_KEYS: usize = 1000;
 /// For each step of an answer.
 const SILENCE: Duration = Duration::from_secs(3);
+/// Between two answers that something was put.
+const BETWEEN_NEWS: Duration = Duration::from_millis(10);
 /// Before a member is asked for a watch where another's was cut off.
 const BETWEEN_WATCHES: Duration = Duration::from_millis(50);
 /// The code of gRPC: a revision was compacted meanwhile, or the member doesn't know it yet.
@@ -33,7 +37,15 @@ pub struct Etcd {
     /// Connections that nobody uses now, each with the turn in which it was made.
     idle: Mutex<Vec<(usize, Connection)>>,
     /// A stream of what is put, which stays open.
-    watch: Mutex<Option<(usize, Connection)>>,
+    watch: Mutex<Option<Watch>>,
+}
+
+/// A stream of what is put, with the turn in which it was opened, and when it has last told something.
+#[derive(Debug)]
+struct Watch {
+    turn: usize,
+    stream: Connection,
+    told: Instant,
 }
 
 /// A key and its value, as etcd gives them.
@@ -214,6 +226,19 @@ impl Store for Etcd {
         }
     }
 
+    fn payloads(&self, name: &str, number: i64, places: &[usize]) -> Result<Vec<Option<Vec<u8>>>, StoreError> {
+        let row = row("p", name, number);
+        let mut told = Vec::with_capacity(places.len());
+        for some in places.chunks(MOST_RANGES) {
+            let asked: Vec<Json> = some.iter().map(|place| json!({"request_range": {"key": b64(&at(&row, *place))}})).collect();
+            let read = self.post("/v3/kv/txn", &json!({ "success": asked }))?;
+            for number in 0..some.len() {
+                told.push(pairs(&read["responses"][number]["response_range"])?.pop().map(|pair| pair.value));
+            }
+        }
+        Ok(told)
+    }
+
     fn news(&self, since: Option<Mark>) -> Result<(BTreeMap<String, usize>, Mark), StoreError> {
         // Since a mark any member's answer will do. Of all, a request that a member that lags behind doesn't know yet would seem closed.
         let known = since.map_or(0, |(revision, _)| revision);
@@ -228,18 +253,25 @@ impl Store for Etcd {
     }
 
     fn changed(&self, wait: Duration) -> Result<(), StoreError> {
-        let mut watch = locked(&self.watch);
-        let (turn, told) = match watch.take() {
-            Some((turn, mut connection)) => (turn, connection.more(wait).map(|_| connection).map_err(|error| away(&error))),
+        let mut kept = locked(&self.watch);
+        let (turn, told) = match kept.take() {
+            Some(mut watch) => {
+                thread::sleep(BETWEEN_NEWS.saturating_sub(watch.told.elapsed())); // (what is put then is asked for in one question)
+                let comes = watch.stream.more(wait);
+                if let Ok(true) = comes {
+                    watch.told = Instant::now();
+                }
+                (watch.turn, comes.map(|_| watch).map_err(|error| away(&error)))
+            }
             None => {
                 let (turn, connection) = self.connected();
                 let asked = json!({"create_request": range(b"cf/w/", b"cf/w0")}).to_string();
                 let opened = connection.and_then(|mut it| it.stream("/v3/watch", asked.as_bytes()).map(|()| it).map_err(|error| away(&error)));
-                (turn, opened)
+                (turn, opened.map(|stream| Watch { turn, stream, told: Instant::now() }))
             }
         };
         match told {
-            Ok(connection) => *watch = Some((turn, connection)),
+            Ok(watch) => *kept = Some(watch),
             // what is new is asked for all the same, and who asks is told if nobody answers
             Err(_) => {
                 self.pass_on(turn);

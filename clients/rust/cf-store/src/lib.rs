@@ -17,6 +17,7 @@
 //! | `functions.rs` | functions by name and version: [`Functions`] |
 //! | `context.rs` | what goes along with functions: [`context`], [`within`] |
 //! | `history.rs` | what happened to a request, as texts: [`History`] |
+//! | `ends.rs` | who is told of requests that were closed: [`Ends`] |
 //! | `view.rs` | what this session knows of one row, and how it puts words there |
 //! | `request.rs` | what a program has of a request: [`Request`], [`Stage`] |
 //! | `host.rs` | time, threads and chance, in whose place a search of all orders has its own |
@@ -51,6 +52,7 @@
 #![forbid(unsafe_code)]
 #![warn(missing_docs, missing_debug_implementations, unreachable_pub, rust_2018_idioms)]
 mod context;
+mod ends;
 mod error;
 #[cfg(feature = "etcd")]
 mod etcd;
@@ -74,6 +76,7 @@ mod view;
 
 pub use cf_graph::Entry;
 pub use context::{context, within};
+pub use ends::Ends;
 pub use error::{Error, Failed, StoreError};
 #[cfg(feature = "etcd")]
 pub use etcd::Etcd;

@@ -6,8 +6,8 @@ use std::any::Any;
 use std::collections::{BTreeMap, HashMap};
 use std::fmt;
 use std::future::poll_fn;
-use std::sync::atomic::{AtomicBool, Ordering};
-use std::sync::{mpsc, Arc, Mutex, MutexGuard, PoisonError};
+use std::sync::atomic::{AtomicBool, AtomicI32, Ordering};
+use std::sync::{mpsc, Arc, Mutex, MutexGuard, PoisonError, Weak};
 use std::thread;
 use std::time::Duration;
 use tokio::runtime::{Builder, Runtime};
@@ -31,7 +31,8 @@ const SCHEMA: &str = "
     create table if not exists cf_name (request bigint, session bigint, name text not null,
         primary key (request, session));
 ";
-/// One statement: where a place is taken nothing of it stands.
+/// One statement: where a place is taken nothing of it stands. The server reads that of one word in less time.
+const PUT_ONE: &str = "insert into cf_word select id, $2::int, $3::bigint, $4::bigint, $5::bytea from cf_request where id = $1";
 const PUT: &str = "insert into cf_word select id, v.* from cf_request, unnest($2::int[], $3::bigint[], $4::bigint[], $5::bytea[]) as v where id = $1";
 const NOW: &str = "extract(epoch from clock_timestamp())::double precision";
 const MARK: &str = "pg_snapshot_xmin(pg_current_snapshot())::text::bigint";
@@ -58,23 +59,26 @@ pub struct Postgres {
     idle: Mutex<Vec<Connection>>,
     /// One that is told of notices.
     listens: Mutex<Option<Connection>>,
-    notices: Notices,
+    notices: Arc<Notices>,
 }
 
 /// A connection, which does its work while it is asked.
 struct Connection {
     runtime: Runtime,
     client: Client,
-    told: messages::UnboundedReceiver<()>,
+    /// The backends that have sent notices.
+    told: messages::UnboundedReceiver<i32>,
     /// Statements that the server has read, so that it is asked once for each answer.
     prepared: HashMap<String, Statement>,
 }
 
 /// A thread that sends notices, once there is one to send.
-#[derive(Debug)]
+#[derive(Debug, Default)]
 struct Notices {
-    wanted: Arc<AtomicBool>,
+    wanted: AtomicBool,
     gives: Mutex<Option<mpsc::Sender<()>>>,
+    /// The backend that sends them, or 0.
+    backend: AtomicI32,
 }
 
 type Failed = tokio_postgres::Error;
@@ -87,8 +91,8 @@ impl Connection {
         let (gives, gets) = messages::unbounded_channel();
         runtime.spawn(async move {
             while let Some(Ok(message)) = poll_fn(|context| connection.poll_message(context)).await {
-                if let AsyncMessage::Notification(_) = message {
-                    let _nobody_listens = gives.send(());
+                if let AsyncMessage::Notification(notice) = message {
+                    let _nobody_listens = gives.send(notice.process_id());
                 }
             }
         });
@@ -161,8 +165,7 @@ impl Postgres {
         first.all(&format!("select pg_advisory_lock({SET_UP})"))?; // (two that make a table at once are refused)
         first.all(SCHEMA)?;
         first.all(&format!("select pg_advisory_unlock({SET_UP})"))?;
-        let notices = Notices { wanted: Arc::default(), gives: Mutex::default() };
-        Ok(Postgres { config, idle: Mutex::new(vec![first]), listens: Mutex::default(), notices })
+        Ok(Postgres { config, idle: Mutex::new(vec![first]), listens: Mutex::default(), notices: Arc::default() })
     }
 
     /// Uses a connection. One that failed isn't used again, unless it was the question's fault.
@@ -214,8 +217,8 @@ impl Postgres {
         let mut gives = locked(&self.notices.gives);
         if gives.as_ref().map_or(true, |it| it.send(()).is_err()) {
             let (first, gets) = mpsc::channel();
-            let (config, wanted) = (self.config.clone(), Arc::clone(&self.notices.wanted));
-            let started = thread::Builder::new().name("cf-notify".into()).spawn(move || send_notices(&config, &wanted, &gets));
+            let (config, notices) = (self.config.clone(), Arc::downgrade(&self.notices));
+            let started = thread::Builder::new().name("cf-notify".into()).spawn(move || send_notices(&config, &notices, &gets));
             if started.is_ok() && first.send(()).is_ok() {
                 *gives = Some(first);
             }
@@ -243,25 +246,38 @@ impl<'a> PutValues<'a> {
         }
     }
 
-    fn all(&self) -> [&(dyn ToSql + Sync); 5] {
-        [&self.number, &self.places, &self.words, &self.tokens, &self.payloads]
+    /// Its statement, and the values of that.
+    fn all(&self) -> (&'static str, [&(dyn ToSql + Sync); 5]) {
+        match (&*self.places, &*self.words, &*self.tokens, &*self.payloads) {
+            ([place], [word], [token], [payload]) => (PUT_ONE, [&self.number, place, word, token, payload]),
+            _ => (PUT, [&self.number, &self.places, &self.words, &self.tokens, &self.payloads]),
+        }
     }
 }
 
 /// Sends a notice each time one is wanted, until nobody can want one any more.
-fn send_notices(config: &Config, wanted: &AtomicBool, gets: &mpsc::Receiver<()>) {
+fn send_notices(config: &Config, notices: &Weak<Notices>, gets: &mpsc::Receiver<()>) {
     let mut connection = None;
     while gets.recv().is_ok() {
-        if !wanted.swap(false, Ordering::SeqCst) {
-            continue;
-        }
+        let Some(notices) = notices.upgrade().filter(|it| it.wanted.swap(false, Ordering::SeqCst)) else { continue };
         if connection.is_none() {
-            connection = Connection::new(config).and_then(|made| made.all("set synchronous_commit = off").map(|()| made)).ok();
+            connection = Connection::new(config).and_then(|made| notices.sent_by(made)).ok();
         }
         if !matches!(connection.as_ref().map(|it| it.all("notify cf")), Some(Ok(()))) {
             connection = None;
         }
+        drop(notices);
         thread::sleep(BETWEEN_NOTICES);
+    }
+}
+
+impl Notices {
+    /// Has a connection send them. What it does needn't be on disk.
+    fn sent_by(&self, mut connection: Connection) -> Result<Connection, StoreError> {
+        connection.all("set synchronous_commit = off")?;
+        let backend = connection.rows("select pg_backend_pid()", &[])?[0].get(0);
+        self.backend.store(backend, Ordering::SeqCst);
+        Ok(connection)
     }
 }
 
@@ -283,7 +299,8 @@ impl Store for Postgres {
     fn append(&self, put: Put<'_>) -> Result<Option<Vec<Entry>>, StoreError> {
         let values = PutValues::new(&put);
         let landed = self.using(|connection| {
-            let (statement, values) = (connection.prepared(PUT)?, values.all());
+            let (statement, values) = values.all();
+            let statement = connection.prepared(statement)?;
             let asked = connection.client.execute(&statement, &values);
             let answered = connection.runtime.block_on(async { tokio::time::timeout(SILENCE, asked).await });
             match answered.map_err(|_| StoreError::Unknown(format!("no answer for {SILENCE:?}")))? {
@@ -316,22 +333,32 @@ impl Store for Postgres {
         Ok(rows[0].get(0))
     }
 
+    fn payloads(&self, _name: &str, number: i64, places: &[usize]) -> Result<Vec<Option<Vec<u8>>>, StoreError> {
+        let at: Vec<i32> = places.iter().map(|place| *place as i32 - 1).collect();
+        let rows = self.ask("select at, payload from cf_word where request = $1 and at = any($2::int[])", &[&number, &at])?;
+        let mut read: HashMap<i32, Option<Vec<u8>>> = rows.iter().map(|row| (row.get(0), row.get(1))).collect();
+        Ok(at.iter().map(|at| read.remove(at).flatten()).collect())
+    }
+
     fn news(&self, since: Option<Mark>) -> Result<(BTreeMap<String, usize>, Mark), StoreError> {
-        // All transactions below the mark had ended when it was read, so what they did was told.
-        let (since, all) = since.map_or((0, true), |(since, _)| (since, false));
-        let ends = "select name, (select max(at) + 1 from cf_word where request = id) from cf_request where closed is null";
-        let longer = "select name, 0 from cf_request where closed is null and made_by >= $1::text::xid8 union all \
+        // All transactions below the mark had ended when the statement began, so what they did is told.
+        let ends = "select name, (select max(at) + 1 from cf_word where request = id) as many from cf_request where closed is null";
+        let longer = "select name, 0 as many from cf_request where closed is null and made_by >= $1::text::xid8 union all \
                       select name, max(at) + 1 from cf_word w join cf_request on id = request \
                       where closed is null and w.made_by >= $1::text::xid8 group by name";
-        let mark: i64 = self.ask(&format!("select {MARK}"), &[])?[0].get(0);
-        let rows = if all { self.ask(ends, &[])? } else { self.ask(longer, &[&since.to_string()])? };
+        let marked = |told: &str| format!("select {MARK}, name, many from (select) as one left join ({told}) as told on true");
+        let rows = match since {
+            None => self.ask(&marked(ends), &[])?,
+            Some((since, _)) => self.ask(&marked(longer), &[&since.to_string()])?,
+        };
         let mut told = BTreeMap::new();
-        for row in rows {
-            let many = row.get::<_, Option<i32>>(1).unwrap_or(0) as usize;
-            let known = told.entry(row.get::<_, String>(0)).or_insert(0);
+        for row in &rows {
+            let Some(name) = row.get::<_, Option<String>>(1) else { continue };
+            let many = row.get::<_, Option<i32>>(2).unwrap_or(0) as usize;
+            let known = told.entry(name).or_insert(0);
             *known = many.max(*known);
         }
-        Ok((told, (mark, 0)))
+        Ok((told, (rows[0].get(0), 0)))
     }
 
     fn changed(&self, wait: Duration) -> Result<(), StoreError> {
@@ -343,7 +370,9 @@ impl Store for Postgres {
             return Ok(());
         };
         let Connection { runtime, told, .. } = connection;
-        let _nothing_new = runtime.block_on(async { tokio::time::timeout(wait, told.recv()).await });
+        let own = self.notices.backend.load(Ordering::SeqCst);
+        let by_others = async { while told.recv().await == Some(own) {} };
+        let _nothing_new = runtime.block_on(async { tokio::time::timeout(wait, by_others).await });
         while told.try_recv().is_ok() {}
         Ok(())
     }
@@ -452,7 +481,9 @@ impl Transaction for Open<'_> {
 
     fn append(&mut self, put: Put<'_>) -> Result<bool, StoreError> {
         self.inside.0.all("release savepoint cf_function")?; // (it is there, unless the function has ended its transaction)
-        let rows = self.inside.0.rows(&format!("{PUT} on conflict do nothing returning 1"), &PutValues::new(&put).all())?;
+        let values = PutValues::new(&put);
+        let (statement, values) = values.all();
+        let rows = self.inside.0.rows(&format!("{statement} on conflict do nothing returning 1"), &values)?;
         Ok(rows.len() == put.entries.len())
     }
 

@@ -58,6 +58,8 @@ pub(crate) struct Inner {
     changed: Condvar,
     /// How many entries were seen.
     pub(crate) seen: AtomicUsize,
+    /// How many the store has said that there are.
+    pub(crate) told: AtomicUsize,
     /// Whether a thread is to look what is to do.
     pub(crate) is_queued: AtomicBool,
     /// Whether it is closed in the store, as far as is known.
@@ -77,6 +79,7 @@ impl Inner {
             name: view.opened.name.clone(),
             number: view.opened.number,
             seen: AtomicUsize::new(view.seen()),
+            told: AtomicUsize::new(0),
             host: Arc::clone(host),
             view: Arc::new(Mutex::new(view)),
             writes: locks_out.then(Mutex::default),
@@ -108,7 +111,19 @@ impl Inner {
     }
 
     pub(crate) fn catch_up(&self) -> Result<(), StoreError> {
-        let mut view = self.view();
+        self.read(self.view())
+    }
+
+    /// Does the same where the store has said that there is more than is seen.
+    pub(crate) fn catch_up_if_told(&self) -> Result<(), StoreError> {
+        let view = self.view(); // (a put of this process's is seen by then)
+        if self.told.load(Ordering::SeqCst) <= view.seen() {
+            return Ok(());
+        }
+        self.read(view)
+    }
+
+    fn read(&self, mut view: MutexGuard<'_, View>) -> Result<(), StoreError> {
         let told = view.catch_up();
         self.show(view);
         told.map(|_| ())
@@ -254,7 +269,9 @@ impl Request {
     pub fn end(&self) -> Result<(), StoreError> {
         self.inner.catch_up()?;
         let seen = self.inner.seen.load(Ordering::Relaxed);
-        self.service.sure(|| self.service.store.end(&self.inner.name, self.inner.number, seen))?;
+        if self.service.sure(|| self.service.store.end(&self.inner.name, self.inner.number, seen))? {
+            self.service.tell_end(&self.inner);
+        }
         self.inner.is_closed.store(true, Ordering::Relaxed);
         Ok(())
     }
@@ -297,7 +314,7 @@ impl Request {
         }
         let done = self.inner.act(decide);
         let reopened = if done.is_ok() { self.service.reopen(&self.inner) } else { Ok(()) };
-        self.service.serve(&self.inner);
+        self.service.go_on(&self.inner);
         reopened?;
         match done?.last().map(|it| it.reply) {
             Some(Reply::Attached(Some(number))) => Ok(Stage::of(self, number)),
@@ -311,7 +328,7 @@ impl Request {
             let complete = |(stage, payload): &(u16, Option<Vec<u8>>)| Wanted { call: Call::Complete(*stage, Value::Nil), payload: payload.clone() };
             self.inner.act(|view| Ok(some.iter().filter(|(stage, _)| !view.is_settled(*stage)).map(complete).collect()))?;
         }
-        self.service.serve(&self.inner);
+        self.service.go_on(&self.inner);
         Ok(())
     }
 
@@ -437,10 +454,10 @@ impl Stage {
     fn settle(&self, call: Call, payload: Option<Vec<u8>>, waits: bool) -> Result<bool, StoreError> {
         let (inner, number) = (&self.request.inner, self.number);
         let done = inner.act(|view| {
-            let rests = view.is_settled(number) || waits && view.is_claimed(number);
+            let rests = view.is_settled(number) || waits && view.holder(number)?.is_some();
             Ok(if rests { vec![] } else { vec![Wanted { call, payload: payload.clone() }] })
         });
-        self.request.service.serve(inner);
+        self.request.service.go_on(inner);
         match done?.first().map(|it| it.reply) {
             Some(Reply::Flag(won)) => Ok(won),
             _ => Ok(matches!(call, Call::Cancel(_)) && inner.view().state(number) == CANCELLED),
@@ -566,7 +583,6 @@ pub(crate) fn fired(timer: &Timer) -> Wanted {
 }
 
 /// What a function gave.
-#[derive(Clone)]
 pub(crate) enum Given {
     Value(Json),
     /// A stage, as which the promise of its own stage is to end.
@@ -576,15 +592,14 @@ pub(crate) enum Given {
     },
 }
 
-/// What a function came to.
-pub(crate) fn finish(stage: u16, result: Result<Given, Failed>) -> Wanted {
-    let (answer, payload) = match result {
+/// The answer of a finish at a place, by what the function came to, and its payload.
+pub(crate) fn answer_of(result: &Result<Given, Failed>, place: usize) -> (Answer, Option<Vec<u8>>) {
+    match result {
         Ok(Given::Value(Json::Null)) => (Answer::Give(Value::Nil), None),
-        Ok(Given::Value(value)) => (Answer::Give(Value::Nil), Some(value.to_string().into_bytes())),
-        Ok(Given::Stage { promise, stage }) => (Answer::Link(promise), Some(json!({ "stage": stage }).to_string().into_bytes())),
-        Err(failed) => (Answer::Throw(0), Some(bytes_of(&failed))),
-    };
-    Wanted { call: Call::Finish(stage, answer), payload }
+        Ok(Given::Value(value)) => (Answer::Give(Value::Int(place as i32)), Some(value.to_string().into_bytes())),
+        Ok(Given::Stage { promise, stage }) => (Answer::Link(*promise), Some(json!({ "stage": stage }).to_string().into_bytes())),
+        Err(failed) => (Answer::Throw(place as u32), Some(bytes_of(failed))),
+    }
 }
 
 impl fmt::Debug for Request {

@@ -1,17 +1,18 @@
 //! The threads that work on requests: a pool that runs functions, and the pump, which looks what is new.
 use crate::context;
+use crate::ends::{Closed, Ends};
 use crate::error::{Error, Failed, StoreError, ABANDONED};
 use crate::flow::Flow;
 use crate::functions::{Functions, Kind};
 use crate::host::{Host, Machine};
 use crate::plan::{self, Said};
-use crate::request::{finish, fired, payload_of, Given, Inner, Request};
+use crate::request::{answer_of, fired, payload_of, Given, Inner, Request};
 use crate::store::{Mark, Opened, Store, Timer, Transaction};
-use crate::view::{bytes_of, sure, View, Wanted, SESSION_BITS};
-use cf_graph::{Args, Call, Claimed, Form, Outcome, Reply, State};
+use crate::view::{sure, View, Wanted, SESSION_BITS};
+use cf_graph::{Answer, Args, Call, Claimed, Form, Outcome, Reply, State};
 use serde_json::{Map, Value as Json};
 use std::any::Any;
-use std::collections::{BTreeMap, HashSet, VecDeque};
+use std::collections::{BTreeMap, BTreeSet, HashSet, VecDeque};
 use std::fmt;
 use std::sync::atomic::{AtomicBool, Ordering};
 use std::sync::{Arc, Condvar, Mutex, MutexGuard, PoisonError, Weak};
@@ -40,11 +41,13 @@ pub struct Options {
     pub takes_all: bool,
     /// Told what goes wrong where nobody waits for it. By default it is written to standard error.
     pub warns: fn(&str),
+    /// Told of each request that this process closes. By default nobody is.
+    pub on_end: Option<Ends>,
 }
 
 impl Default for Options {
     fn default() -> Options {
-        Options { threads: 4, lease: Duration::from_secs(10), takes_all: false, warns: |text| eprintln!("cf-store: {text}") }
+        Options { threads: 4, lease: Duration::from_secs(10), takes_all: false, warns: |text| eprintln!("cf-store: {text}"), on_end: None }
     }
 }
 
@@ -240,7 +243,7 @@ impl Shared {
         sure(&*self.host, call)
     }
 
-    fn warn(&self, name: &str, what: &dyn fmt::Display) {
+    pub(crate) fn warn(&self, name: &str, what: &dyn fmt::Display) {
         self.host.warns(self.options.warns, name, &format!("request {name:?}: {what}"));
     }
 
@@ -374,6 +377,13 @@ impl Shared {
         Ok(())
     }
 
+    /// Lets a thread do what is to do in a request, by what is seen of it, behind a put of this process. (What others put meanwhile the pump is told.)
+    pub(crate) fn go_on(&self, inner: &Arc<Inner>) {
+        if self.needs(inner, &mut inner.view()) {
+            self.serve(inner);
+        }
+    }
+
     /// Lets a thread look what is to do in a request.
     pub(crate) fn serve(&self, inner: &Arc<Inner>) {
         if !self.is_over() && !inner.is_queued.swap(true, Ordering::SeqCst) {
@@ -419,8 +429,10 @@ impl Shared {
         }
         for (name, end) in ends {
             let Some(inner) = self.taken(&name) else { continue };
-            let seen = inner.seen.load(Ordering::Relaxed);
-            if end > seen || (looks || end == 0) && self.needs(&inner) {
+            inner.told.fetch_max(end, Ordering::SeqCst);
+            // (who has the view looks)
+            let needs = |inner: &Inner| inner.try_view().map_or(false, |mut view| self.needs(inner, &mut view));
+            if end > inner.seen.load(Ordering::Relaxed) || (looks || end == 0) && needs(&inner) {
                 self.serve(&inner);
             }
         }
@@ -451,10 +463,14 @@ impl Shared {
     }
 
     /// Whether something is to do in a request without a new word.
-    fn needs(&self, inner: &Inner) -> bool {
-        let Some(mut view) = inner.try_view() else { return false }; // (who has it looks)
+    fn needs(&self, inner: &Inner, view: &mut View) -> bool {
         let reopens = inner.reopens.load(Ordering::Relaxed);
-        reopens || view.has_left() || view.open_claims().into_iter().any(|(_, session)| self.is_gone(session)) || self.is_finished(&view)
+        reopens || view.has_left(self.runs()) || self.gone_in(view).map_or(true, |gone| !gone.is_empty()) || self.is_finished(view).unwrap_or(true)
+    }
+
+    /// Whether it claims stages.
+    fn runs(&self) -> bool {
+        self.options.threads > 0 && !self.is_over()
     }
 
     fn is_gone(&self, session: u64) -> bool {
@@ -462,8 +478,13 @@ impl Shared {
     }
 
     /// Whether it is a flow's, and nothing is left to do.
-    fn is_finished(&self, view: &View) -> bool {
-        view.is_planned() && view.is_done(|session| self.is_gone(session))
+    fn is_finished(&self, view: &mut View) -> Result<bool, StoreError> {
+        Ok(view.is_planned() && view.is_done(|session| self.is_gone(session))?)
+    }
+
+    /// The sessions that are gone, and that have stages.
+    fn gone_in(&self, view: &mut View) -> Result<BTreeSet<u64>, StoreError> {
+        Ok(view.open_claims()?.into_iter().map(|(_, session)| session).filter(|session| self.is_gone(*session)).collect())
     }
 
     fn look_for_timers(self: &Arc<Shared>) -> Result<(), StoreError> {
@@ -483,7 +504,7 @@ impl Shared {
                 let is_there = usize::from(timer.stage) < view.len();
                 Ok(if !is_there || view.is_settled(timer.stage) { vec![] } else { vec![fired(timer)] })
             })?;
-            self.serve(&inner);
+            self.go_on(&inner);
         }
         self.store.drop_timer(timer)
     }
@@ -537,8 +558,8 @@ impl Shared {
     }
 
     fn work_on(self: &Arc<Shared>, inner: &Arc<Inner>) -> Result<(), StoreError> {
-        inner.is_queued.store(false, Ordering::SeqCst);
-        inner.catch_up()?;
+        inner.is_queued.swap(false, Ordering::SeqCst);
+        inner.catch_up_if_told()?;
         self.reopen(inner)?;
         self.abandon(inner)?;
         self.relay(inner)?;
@@ -550,22 +571,29 @@ impl Shared {
             }
         }
         self.relay(inner)?;
-        if self.is_finished(&inner.view()) {
+        if self.is_finished(&mut inner.view())? {
             let seen = inner.seen.load(Ordering::Relaxed);
-            self.store.end(&inner.name, inner.number, seen)?;
+            if self.store.end(&inner.name, inner.number, seen)? {
+                self.tell_end(inner);
+            }
         }
         Ok(())
+    }
+
+    /// Has the hook told of a request that this process has closed.
+    pub(crate) fn tell_end(self: &Arc<Shared>, inner: &Inner) {
+        if let Some(ends) = &self.options.on_end {
+            let view = inner.view();
+            ends.tell(Closed { service: Arc::clone(self), opened: view.opened.clone(), context: view.context().clone() });
+        }
     }
 
     /// A stage that this session has by now, or else claims.
     fn first(&self, inner: &Arc<Inner>) -> Result<Option<Task>, StoreError> {
         loop {
             let Some((stage, args)) = inner.view().take_found() else { return self.next(inner, None) };
-            let is_open = {
-                let view = inner.view();
-                view.is_held(stage) && !view.is_settled(stage)
-            };
-            let task = if is_open { self.task(inner, stage, args).map(Some) } else { self.next(inner, Some((stage, Ok(Given::Value(Json::Null))))) };
+            let has = inner.view().has(stage)?;
+            let task = if has { self.task(inner, stage, args).map(Some) } else { self.next(inner, Some((stage, Ok(Given::Value(Json::Null))))) };
             match task {
                 Ok(None) => {}
                 Ok(some) => return Ok(some),
@@ -579,15 +607,9 @@ impl Shared {
 
     /// Fails the stages whose session is gone. If it isn't, the row says who was first.
     fn abandon(&self, inner: &Arc<Inner>) -> Result<(), StoreError> {
-        let claims = inner.view().open_claims();
-        for (stage, session) in claims.into_iter().filter(|(_, session)| self.is_gone(*session)) {
-            let name = inner.view().said(stage)?.name;
-            let failed = Failed::new(ABANDONED, format!("the worker that ran {name} is gone, and it may have run"));
-            inner.act(|view| {
-                let is_so = view.open_claims().contains(&(stage, session));
-                let wanted = || Wanted { call: Call::Fail(stage, 0), payload: Some(bytes_of(&failed)) };
-                Ok(is_so.then(wanted).into_iter().collect())
-            })?;
+        let gone = self.gone_in(&mut inner.view())?;
+        for session in gone {
+            while !inner.act(|view| Ok(view.abandoned(session)?.into_iter().collect()))?.is_empty() {}
         }
         Ok(())
     }
@@ -603,9 +625,14 @@ impl Shared {
         let mut chosen = Vec::new();
         let done = loop {
             let told = inner.act(|view| {
-                let held = ended.as_ref().filter(|(stage, _)| view.is_held(*stage));
-                let mut wanted: Vec<_> = held.map(|(stage, result)| finish(*stage, result.clone())).into_iter().collect();
-                chosen = self.choice(view, &inner.name, ended.as_ref())?;
+                let mut wanted = Vec::with_capacity(2);
+                let mut held = None;
+                if let Some((stage, result)) = &ended {
+                    let (answer, payload) = answer_of(result, view.seen() + 1);
+                    wanted.extend(view.finish(*stage, answer, payload)?);
+                    held = Some((*stage, answer));
+                }
+                chosen = self.choice(view, &inner.name, held)?;
                 wanted.extend(chosen.first().map(|stage| Wanted { call: Call::Claim(*stage), payload: None }));
                 Ok(wanted)
             });
@@ -635,26 +662,15 @@ impl Shared {
         }
     }
 
-    /// Up to two stages that this session could claim: those that are ready, or that the finish makes ready.
-    fn choice(&self, view: &mut View, name: &str, ended: Option<&(u16, Result<Given, Failed>)>) -> Result<Vec<u16>, StoreError> {
-        if self.is_over() || self.options.threads == 0 {
-            return Ok(Vec::new());
-        }
-        let mut ready = view.ready()?;
-        if let Some((stage, result)) = ended.filter(|(stage, _)| !view.is_settled(*stage)) {
-            let goes_on = |form: Form| match form {
-                Form::Handle | Form::WhenComplete => true,
-                Form::Apply => result.is_ok(),
-                Form::Exceptionally => result.is_err(),
-                _ => false,
-            };
-            ready.extend(view.alone_behind(*stage).into_iter().filter(|it| goes_on(view.form(*it).0)));
-        }
-        let mut chosen = Vec::new();
-        for stage in ready {
-            if chosen.len() < 2 && self.knows(view, name, stage)? {
+    /// Up to two stages that this session could claim behind the finish of what has ended, and whose functions it knows.
+    fn choice(&self, view: &mut View, name: &str, ended: Option<(u16, Answer)>) -> Result<Vec<u16>, StoreError> {
+        let (mut chosen, mut from) = (Vec::with_capacity(2), 0);
+        while self.runs() && chosen.len() < 2 {
+            let Some(stage) = view.next_claim(ended, from)? else { break };
+            if self.knows(view, name, stage)? {
                 chosen.push(stage);
             }
+            from = stage + 1;
         }
         Ok(chosen)
     }
@@ -787,12 +803,9 @@ impl Shared {
     fn tried(self: &Arc<Shared>, inner: &Arc<Inner>, task: &Task, transaction: &mut dyn Transaction) -> Result<Tried, StoreError> {
         let mut view = inner.view();
         view.catch_up()?;
-        let (is_held, is_settled) = (view.is_held(task.stage), view.is_settled(task.stage));
+        let has = view.has(task.stage)?;
         drop(view);
-        if !is_held {
-            return Ok(Tried::Stands);
-        }
-        if is_settled {
+        if !has {
             return Ok(Tried::Ended(Ok(Given::Value(Json::Null)))); // late: it does nothing
         }
         match self.called(inner, task, Some(transaction.connection())) {
@@ -804,7 +817,9 @@ impl Shared {
                 if view.is_settled(task.stage) {
                     return Ok(Tried::Lost);
                 }
-                let stands = view.act_within(transaction, finish(task.stage, Ok(given)))?;
+                let (answer, payload) = answer_of(&Ok(given), view.seen() + 1);
+                let Some(finish) = view.finish(task.stage, answer, payload)? else { return Ok(Tried::Lost) };
+                let stands = view.act_within(transaction, finish)?;
                 Ok(if stands { Tried::Stands } else { Tried::Lost })
             }
         }

@@ -3,14 +3,14 @@ use crate::error::StoreError;
 use crate::store::{in_a_row, Mark, Opened, Put, Store, Timer, Transaction};
 use cf_graph::Entry;
 use rusqlite::types::ValueRef;
-use rusqlite::{params, Connection, ErrorCode, Row, ToSql, TransactionBehavior};
+use rusqlite::{params, Connection, ErrorCode, OptionalExtension, Row, ToSql};
 use rustix::fs::{flock, FlockOperation};
 use std::any::Any;
 use std::cell::RefCell;
 use std::collections::BTreeMap;
 use std::fs::{File, OpenOptions};
 use std::path::{Path, PathBuf};
-use std::sync::{mpsc, Mutex, PoisonError};
+use std::sync::{mpsc, Arc, Mutex, PoisonError};
 use std::thread;
 use std::time::{Duration, Instant, SystemTime, UNIX_EPOCH};
 
@@ -32,6 +32,7 @@ const SCHEMA: &str = "
 ";
 const PUT: &str = "insert or ignore into cf_word (request, at, word, token, payload) select id, ?, ?, ?, ? from cf_request where id = ?";
 const READ: &str = "select at, word, token from cf_request left join cf_word on request = id and at >= ? where id = ? order by at";
+const SMALL_PAYLOAD: &str = "select payload from cf_word where request = ? and at = ?";
 const ENDS: &str = "select name, (select max(at) + 1 from cf_word where request = id) from cf_request where closed is null";
 /// In bytes: a larger payload would make the words' own pages large.
 const SMALL: usize = 512;
@@ -54,6 +55,8 @@ pub struct SQLite {
     path: PathBuf,
     /// Connections that nobody uses now.
     idle: Mutex<Vec<Connection>>,
+    /// Files of the line that nobody uses now. Each stands in it for itself.
+    lines: Arc<Mutex<Vec<File>>>,
     /// One by whose version it is seen what the others, and other processes, have committed; and that version.
     watch: Mutex<Option<(Connection, i64)>>,
 }
@@ -61,7 +64,7 @@ pub struct SQLite {
 impl SQLite {
     /// Opens a file, and makes it where it isn't there.
     pub fn open(path: impl AsRef<Path>) -> Result<SQLite, StoreError> {
-        let store = SQLite { path: path.as_ref().to_owned(), idle: Mutex::default(), watch: Mutex::default() };
+        let store = SQLite { path: path.as_ref().to_owned(), idle: Mutex::default(), lines: Arc::default(), watch: Mutex::default() };
         store.writing(|db| db.execute_batch(SCHEMA))?;
         Ok(store)
     }
@@ -91,34 +94,40 @@ impl SQLite {
         used.map_err(|error| self.told(&error))
     }
 
-    /// Acts in a transaction, in the line of writers.
+    /// Acts in a transaction, in the line of writers. (Its statements are prepared once a connection.)
     fn writing<T>(&self, act: impl FnOnce(&Connection) -> rusqlite::Result<T>) -> Result<T, StoreError> {
-        let _line = self.line()?;
+        let _turn = self.turn()?;
         self.using(|db| {
-            let transaction = db.transaction_with_behavior(TransactionBehavior::Immediate)?;
-            let told = act(&transaction)?;
-            transaction.commit()?;
-            Ok(told)
+            let does = |statement: &str| db.prepare_cached(statement)?.execute([]).map(|_| ());
+            does("begin immediate")?;
+            let told = act(db).and_then(|told| does("commit").map(|()| told));
+            if told.is_err() {
+                let _closed_where_it_fails = does("rollback");
+            }
+            told
         })
     }
 
-    /// This one's turn to write, which ends where the file is dropped. A wait for the system's lock can't be given up, and who has it may have been
-    /// stopped: where it isn't free a thread waits in this one's place.
-    fn line(&self) -> Result<File, StoreError> {
+    /// This one's turn to write. A wait for the system's lock can't be given up, and who has it may have been stopped: where it isn't free a thread
+    /// waits in this one's place.
+    fn turn(&self) -> Result<Turn, StoreError> {
         if WITHIN.with(|it| it.borrow().contains(&self.path)) {
             return Err(StoreError::Refused(format!("{}: a transactional function can't put, since nobody can meanwhile", self.path.display())));
         }
         let mut name = self.path.clone().into_os_string();
         name.push("-line");
         let away = |why: &dyn std::fmt::Display| StoreError::Unknown(format!("{}: {why}", self.path.display()));
-        let file = OpenOptions::new().read(true).write(true).create(true).truncate(false).open(name).map_err(|error| away(&error))?;
+        let idle = self.lines.lock().unwrap_or_else(PoisonError::into_inner).pop();
+        let opened = || OpenOptions::new().read(true).write(true).create(true).truncate(false).open(name);
+        let file = idle.map_or_else(opened, Ok).map_err(|error| away(&error))?;
+        let turn = |file, lines| Turn { file: Some(file), lines };
         if flock(&file, FlockOperation::NonBlockingLockExclusive).is_ok() {
-            return Ok(file);
+            return Ok(turn(file, Arc::clone(&self.lines)));
         }
-        let (gives, gets) = mpsc::channel();
+        let ((gives, gets), lines) = (mpsc::channel(), Arc::clone(&self.lines));
         let wait = move || {
             if flock(&file, FlockOperation::LockExclusive).is_ok() {
-                let _given_up = gives.send(file);
+                let _given_up = gives.send(turn(file, lines));
             }
         };
         thread::Builder::new().name("cf-line".into()).spawn(wait).map_err(|error| away(&error))?;
@@ -172,7 +181,15 @@ impl Store for SQLite {
     }
 
     fn append(&self, put: Put<'_>) -> Result<Option<Vec<Entry>>, StoreError> {
-        if self.writing(|db| put_in(db, put))? {
+        // (one statement is a transaction of its own)
+        let is_alone = put.entries.len() == 1 && put.payloads.values().all(|it| it.len() <= SMALL);
+        let landed = if is_alone {
+            let _turn = self.turn()?;
+            self.using(|db| put_in(db, put))?
+        } else {
+            self.writing(|db| put_in(db, put))?
+        };
+        if landed {
             return Ok(None);
         }
         let stands = self.read(put.request, put.number, put.at)?;
@@ -191,9 +208,20 @@ impl Store for SQLite {
         in_a_row(name, at, rows.into_iter().filter_map(|(place, word, token)| Some((place?, word?, token?))))
     }
 
+    fn payloads(&self, name: &str, number: i64, places: &[usize]) -> Result<Vec<Option<Vec<u8>>>, StoreError> {
+        let read = |db: &mut Connection| {
+            let mut one = db.prepare_cached(SMALL_PAYLOAD)?;
+            places.iter().map(|place| one.query_row(params![number, *place as i64 - 1], |row| bytes(row.get_ref(0)?)).optional()).collect()
+        };
+        let small: Vec<Option<Option<Vec<u8>>>> = self.using(read)?;
+        let small = small.into_iter().zip(places);
+        // one that isn't small stands elsewhere
+        small.map(|(it, place)| it.flatten().map_or_else(|| self.payload(name, number, *place), |payload| Ok(Some(payload)))).collect()
+    }
+
     fn payload(&self, name: &str, number: i64, place: usize) -> Result<Option<Vec<u8>>, StoreError> {
         let at = place as i64 - 1;
-        let small = self.ask("select payload from cf_word where request = ? and at = ?", &[&number, &at], |row| bytes(row.get_ref(0)?))?;
+        let small = self.ask(SMALL_PAYLOAD, &[&number, &at], |row| bytes(row.get_ref(0)?))?;
         match small.into_iter().next() {
             Some(Some(payload)) => Ok(Some(payload)),
             Some(None) => {
@@ -231,7 +259,8 @@ impl Store for SQLite {
                 Some(known) => known,
                 None => (self.connected().map_err(|error| self.told(&error))?, -1),
             };
-            let now = db.query_row("pragma data_version", [], |row| row.get(0)).map_err(|error| self.told(&error))?;
+            let read = db.prepare_cached("pragma data_version").and_then(|mut it| it.query_row([], |row| row.get(0)));
+            let now = read.map_err(|error| self.told(&error))?;
             *watch = Some((db, now));
             let left = until.saturating_duration_since(Instant::now());
             if now != last || left.is_zero() {
@@ -319,15 +348,16 @@ impl Store for SQLite {
     }
 
     fn transaction(&self) -> Result<Box<dyn Transaction + '_>, StoreError> {
-        let line = self.line()?;
-        let db = self.connected().and_then(|db| db.execute_batch("begin immediate; savepoint cf_function").map(|()| db)).map_err(|error| self.told(&error))?;
-        Ok(Box::new(Open { store: self, db, _within: Within::new(&self.path), _line: line }))
+        let turn = self.turn()?;
+        let begun = self.connected().and_then(|db| db.execute_batch("begin immediate; savepoint cf_function").map(|()| db));
+        let db = begun.map_err(|error| self.told(&error))?;
+        Ok(Box::new(Open { store: self, db, _within: Within::new(&self.path), _turn: turn }))
     }
 }
 
 /// Puts a group in a transaction that holds the file: whether it landed.
 fn put_in(db: &Connection, put: Put<'_>) -> rusqlite::Result<bool> {
-    let (mut word, mut large) = (db.prepare_cached(PUT)?, db.prepare_cached("insert into cf_large values (?, ?, ?)")?);
+    let mut word = db.prepare_cached(PUT)?;
     for (k, entry) in put.entries.iter().enumerate() {
         let payload = put.payloads.get(&(put.at + 1 + k));
         let small = payload.filter(|it| it.len() <= SMALL);
@@ -336,7 +366,7 @@ fn put_in(db: &Connection, put: Put<'_>) -> rusqlite::Result<bool> {
         }
         if small.is_none() {
             if let Some(payload) = payload {
-                large.execute(params![put.number, put.at + 1 + k, payload])?;
+                db.prepare_cached("insert into cf_large values (?, ?, ?)")?.execute(params![put.number, put.at + 1 + k, payload])?;
             }
         }
     }
@@ -348,7 +378,21 @@ struct Open<'a> {
     store: &'a SQLite,
     db: Connection,
     _within: Within,
-    _line: File,
+    _turn: Turn,
+}
+
+/// A turn to write, which ends with the value.
+struct Turn {
+    file: Option<File>,
+    lines: Arc<Mutex<Vec<File>>>,
+}
+
+impl Drop for Turn {
+    fn drop(&mut self) {
+        // (a file that is closed stands in no line)
+        let ended = self.file.take().filter(|it| flock(it, FlockOperation::Unlock).is_ok());
+        self.lines.lock().unwrap_or_else(PoisonError::into_inner).extend(ended);
+    }
 }
 
 /// The time in which a thread has a transaction open in a file.

@@ -89,10 +89,15 @@ pub trait Store: Send + Sync {
     /// The payload of a place, if it has one.
     fn payload(&self, name: &str, number: i64, place: usize) -> Result<Option<Vec<u8>>, StoreError>;
 
+    /// The payloads of several places, in their order. By default each is asked for by itself.
+    fn payloads(&self, name: &str, number: i64, places: &[usize]) -> Result<Vec<Option<Vec<u8>>>, StoreError> {
+        places.iter().map(|place| self.payload(name, number, *place)).collect()
+    }
+
     /// How many words those open requests have that may have changed since a mark, and the next mark. Without one, all of them.
     fn news(&self, since: Option<Mark>) -> Result<(BTreeMap<String, usize>, Mark), StoreError>;
 
-    /// Waits until something may have been put since the last call, for so long at most. One thread at a time waits so.
+    /// Waits until others may have put something since the last call, for so long at most. One thread at a time waits so.
     fn changed(&self, wait: Duration) -> Result<(), StoreError>;
 
     /// Marks a request as closed, where it has just so many words, and forgets its timers. Whether this call has closed it.

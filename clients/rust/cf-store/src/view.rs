@@ -1,9 +1,11 @@
 //! What this session knows of one request's row, and how it puts words there.
-use crate::error::{Error, Failed, StoreError};
+use crate::error::{Error, Failed, StoreError, ABANDONED};
 use crate::host::Host;
 use crate::plan::{self, Said};
 use crate::store::{Opened, Put, Store, Transaction};
-use cf_graph::{Call, Cause, Claimed, Entry, Event, Failure, Form, Of, Outcome, Refused, Reply, Row, RowOpening, State, Value};
+use cf_graph::{
+    Answer, Args, Call, Cause, Claimed, Entry, Event, Failure, Finished, Form, Of, Outcome, Refused, Reply, Row, RowOpening, State, Value,
+};
 use serde_json::{Map, Value as Json};
 use std::collections::{BTreeMap, BTreeSet};
 use std::sync::Arc;
@@ -17,6 +19,8 @@ pub(crate) const SESSION_BITS: u32 = 39;
 const MOST_STAGES: usize = 4096;
 /// How many may be attached at first.
 const ROOM: usize = 8;
+/// Of how many stages the store is asked at once what is said.
+const READ_AT_ONCE: usize = 64;
 /// How long the store may be silent.
 pub(crate) const PATIENCE: Duration = Duration::from_secs(60);
 
@@ -27,6 +31,13 @@ type Payloads = BTreeMap<usize, Vec<u8>>;
 pub(crate) struct Wanted {
     pub(crate) call: Call,
     pub(crate) payload: Option<Vec<u8>>,
+}
+
+impl Wanted {
+    /// One that the library has told.
+    fn of_word(word: u64, payload: Option<Vec<u8>>) -> Result<Wanted, StoreError> {
+        Ok(Wanted { call: Event::of_word(word)?.call, payload })
+    }
 }
 
 /// An entry that was done: its word's call, and its reply.
@@ -47,8 +58,6 @@ struct Known {
     settled: usize,
     /// The place of the payload by which it, or a source of it, timed out or had a bad answer, or 0.
     failed: usize,
-    /// The session whose claim was granted last.
-    session: u64,
 }
 
 pub(crate) struct View {
@@ -69,10 +78,8 @@ pub(crate) struct View {
     links: BTreeMap<u16, usize>,
     /// Composing stages that were settled, and whose promises may be waited for by nobody.
     unlinked: BTreeSet<u16>,
-    /// The stages whose claim is open, as far as they were seen.
-    claims: BTreeSet<u16>,
     /// Claims of this session's that were granted, as it found when it read them.
-    found: BTreeMap<u16, cf_graph::Args>,
+    found: BTreeMap<u16, Args>,
     /// Tokens of words of which it isn't known whether they stand, and the places where they would.
     doubt: BTreeMap<u64, usize>,
     /// Payloads that this view put.
@@ -92,11 +99,11 @@ impl View {
             }
         };
         let planned = stages.len();
-        let known = |(form, of, said)| Known { form, of, said: Some(said), attached: 0, settled: 0, failed: 0, session: 0 };
-        let (links, unlinked, claims) = Default::default();
+        let known = |(form, of, said)| Known { form, of, said: Some(said), attached: 0, settled: 0, failed: 0 };
+        let (links, unlinked) = Default::default();
         let (found, doubt, own) = Default::default();
         let stages = stages.into_iter().map(known).collect();
-        Ok(View { opened, session, store, host, row, stages, planned, context, room, seen: 0, links, unlinked, claims, found, doubt, own })
+        Ok(View { opened, session, store, host, row, stages, planned, context, room, seen: 0, links, unlinked, found, doubt, own })
     }
 
     /// How many entries were seen.
@@ -129,39 +136,53 @@ impl View {
     }
 
     /// The ready stages, rising.
+    #[cfg(feature = "testing")]
     pub(crate) fn ready(&mut self) -> Result<Vec<u16>, StoreError> {
-        let (mut ready, mut from) = (Vec::new(), 0);
-        while let Some(stage) = self.row.ready(from)? {
-            ready.push(stage);
-            from = stage + 1;
-        }
-        Ok(ready)
+        rising(|from| self.row.ready(from), |stage| *stage)
     }
 
-    /// The stages that have this one as their only source, and aren't settled.
-    pub(crate) fn alone_behind(&self, stage: u16) -> Vec<u16> {
-        let numbers = stage + 1..self.stages.len() as u16;
-        numbers.filter(|it| self.stages[usize::from(*it)].of == [stage] && !self.is_settled(*it)).collect()
+    /// The stages whose claim is open, rising, each with the session to which it was granted. Some may be settled already.
+    fn claims(&mut self) -> Result<Vec<(u16, u64)>, StoreError> {
+        rising(|from| self.row.open_claim(from), |claim| claim.0)
     }
 
     /// The stages whose function runs somewhere: claimed and not settled, each with the session that has it.
-    pub(crate) fn open_claims(&mut self) -> Vec<(u16, u64)> {
-        let claims: Vec<_> = self.claims.iter().map(|stage| (*stage, self.stages[usize::from(*stage)].session)).collect();
-        claims.into_iter().filter(|(stage, _)| matches!(self.state(*stage), State::Claimed)).collect()
+    pub(crate) fn open_claims(&mut self) -> Result<Vec<(u16, u64)>, StoreError> {
+        let claims = self.claims()?;
+        Ok(claims.into_iter().filter(|(stage, _)| !self.is_settled(*stage)).collect())
     }
 
-    /// Whether this session has a claim of a stage that isn't finished.
-    pub(crate) fn is_held(&self, stage: u16) -> bool {
-        self.claims.contains(&stage) && self.stages[usize::from(stage)].session == self.session
+    /// The session to which a stage's claim was granted that is open, if one is.
+    pub(crate) fn holder(&mut self, stage: u16) -> Result<Option<u64>, StoreError> {
+        Ok(self.row.open_claim(stage)?.filter(|claim| claim.0 == stage).map(|claim| claim.1))
     }
 
-    /// Whether a claim of a stage is open.
-    pub(crate) fn is_claimed(&self, stage: u16) -> bool {
-        self.claims.contains(&stage)
+    /// Whether this session has a stage: its claim is open, and it isn't settled.
+    pub(crate) fn has(&mut self, stage: u16) -> Result<bool, StoreError> {
+        Ok(self.row.held(self.session, stage)? == Some(stage))
+    }
+
+    /// The word that finishes a stage of this session's, if its claim is open.
+    pub(crate) fn finish(&mut self, stage: u16, answer: Answer, payload: Option<Vec<u8>>) -> Result<Option<Wanted>, StoreError> {
+        let word = self.row.finish(stage, answer)?;
+        word.map(|word| Wanted::of_word(word, payload)).transpose()
+    }
+
+    /// The lowest stage from a number on that this session could claim behind the finish of what has ended.
+    pub(crate) fn next_claim(&mut self, ended: Option<(u16, Answer)>, from: u16) -> Result<Option<u16>, StoreError> {
+        Ok(self.row.next_claim(ended, from)?)
+    }
+
+    /// The word that fails the lowest stage that a session has, which is gone.
+    pub(crate) fn abandoned(&mut self, session: u64) -> Result<Option<Wanted>, StoreError> {
+        let Some(stage) = self.row.held(session, 0)? else { return Ok(None) };
+        let failed = Failed::new(ABANDONED, format!("the worker that ran {} is gone, and it may have run", self.said(stage)?.name));
+        let word = self.row.abandon(session, stage, self.seen as u32 + 1)?;
+        word.map(|word| Wanted::of_word(word, Some(bytes_of(&failed)))).transpose()
     }
 
     /// A claim of this session's that was granted without its being told.
-    pub(crate) fn take_found(&mut self) -> Option<(u16, cf_graph::Args)> {
+    pub(crate) fn take_found(&mut self) -> Option<(u16, Args)> {
         let stage = *self.found.keys().next()?;
         self.found.remove_entry(&stage)
     }
@@ -172,19 +193,19 @@ impl View {
         !self.found.is_empty()
     }
 
-    pub(crate) fn put_back(&mut self, stage: u16, args: cf_graph::Args) {
+    pub(crate) fn put_back(&mut self, stage: u16, args: Args) {
         self.found.insert(stage, args);
     }
 
-    /// Whether something is to do in it without a new word.
-    pub(crate) fn has_left(&mut self) -> bool {
-        !self.links.is_empty() || !self.unlinked.is_empty() || !self.found.is_empty() || !matches!(self.row.ready(0), Ok(None))
+    /// Whether something is to do in it without a new word, by those who run functions or by anybody.
+    pub(crate) fn has_left(&mut self, runs: bool) -> bool {
+        let has_ready = runs && !matches!(self.row.ready(0), Ok(None));
+        has_ready || !self.links.is_empty() || !self.unlinked.is_empty() || !self.found.is_empty()
     }
 
     /// Whether all stages are settled, and no claim is open but for those of sessions that are gone.
-    pub(crate) fn is_done(&self, is_gone: impl Fn(u64) -> bool) -> bool {
-        let sessions = self.claims.iter().map(|stage| self.stages[usize::from(*stage)].session);
-        self.stages.iter().all(|it| it.settled > 0) && sessions.into_iter().all(is_gone)
+    pub(crate) fn is_done(&mut self, is_gone: impl Fn(u64) -> bool) -> Result<bool, StoreError> {
+        Ok(self.stages.iter().all(|it| it.settled > 0) && self.claims()?.into_iter().all(|(_, session)| is_gone(session)))
     }
 
     // Reading and putting.
@@ -299,20 +320,13 @@ impl View {
                     Of::One(first) => vec![first],
                     Of::Two(first, second) => vec![first, second],
                 };
-                self.stages.push(Known { form, of, said: None, attached: place, settled: 0, failed: 0, session: 0 });
+                self.stages.push(Known { form, of, said: None, attached: place, settled: 0, failed: 0 });
             }
-            (Call::Claim(stage), Reply::Claimed(Claimed::Granted(args))) => {
-                self.claims.insert(stage);
-                self.stages[usize::from(stage)].session = entry.session();
-                if is_own {
-                    self.found.insert(stage, args);
-                }
+            (Call::Claim(stage), Reply::Claimed(Claimed::Granted(args))) if is_own => {
+                self.found.insert(stage, args);
             }
-            (Call::Finish(stage, answer), Reply::Finished(finished)) if finished != cf_graph::Finished::NotYours => {
-                self.claims.remove(&stage);
-                if let (cf_graph::Answer::Link(to), cf_graph::Finished::Won) = (answer, finished) {
-                    self.links.insert(to, place);
-                }
+            (Call::Finish(_, Answer::Link(to)), Reply::Finished(Finished::Won)) => {
+                self.links.insert(to, place);
             }
             _ => {}
         }
@@ -338,7 +352,7 @@ impl View {
     fn take_news(&mut self, call: Call, place: usize) {
         let given = match call {
             Call::FailAs(..) => place,
-            Call::Finish(_, cf_graph::Answer::Link(to)) => self.stages[usize::from(to)].failed,
+            Call::Finish(_, Answer::Link(to)) => self.stages[usize::from(to)].failed,
             _ => 0,
         };
         for news in self.row.news().collect::<Vec<_>>() {
@@ -390,20 +404,39 @@ impl View {
 
     /// What is said of a stage: its name, and its function's name and version.
     pub(crate) fn said(&mut self, stage: u16) -> Result<Said, StoreError> {
-        let known = &self.stages[usize::from(stage)];
-        if let Some(said) = &known.said {
-            return Ok(said.clone());
+        if self.stages[usize::from(stage)].said.is_none() {
+            self.read_said(stage)?;
         }
-        let place = known.attached;
-        let payload = self.payload(place)?;
-        let said = plan::said_in(&payload, usize::from(stage)).map_err(|why| self.unreadable(place, &why))?;
-        self.stages[usize::from(stage)].said = Some(said.clone());
-        Ok(said)
+        let known = &self.stages[usize::from(stage)];
+        match &known.said {
+            Some(said) => Ok(said.clone()),
+            None => plan::said_in(&self.payload(known.attached)?, usize::from(stage)).map_err(|why| self.unreadable(known.attached, &why)),
+        }
+    }
+
+    /// Takes in what is said of a stage, and of those that were attached behind it: one question of the store for many.
+    fn read_said(&mut self, stage: u16) -> Result<(), StoreError> {
+        let unread = (stage..self.stages.len() as u16).filter(|it| self.stages[usize::from(*it)].said.is_none());
+        let wanted: Vec<_> = unread.take(READ_AT_ONCE).map(|it| (it, self.stages[usize::from(it)].attached)).collect();
+        let others: Vec<usize> = wanted.iter().map(|it| it.1).filter(|place| !self.own.contains_key(place)).collect();
+        let ask = || self.store.payloads(&self.opened.name, self.opened.number, &others);
+        let told = if others.is_empty() { Vec::new() } else { sure(&*self.host, ask)? };
+        let read: Payloads = others.into_iter().zip(told).filter_map(|(place, it)| Some((place, it?))).collect();
+        for (stage, place) in wanted {
+            let payload = self.own.get(&place).or_else(|| read.get(&place));
+            self.stages[usize::from(stage)].said = payload.and_then(|it| plan::said_in(it, usize::from(stage)).ok());
+        }
+        Ok(())
     }
 
     /// The place of the word that attached a stage, or 0 for one of the plan.
     pub(crate) fn attached(&self, stage: u16) -> usize {
         self.stages[usize::from(stage)].attached
+    }
+
+    /// What goes along with the functions of its plan.
+    pub(crate) fn context(&self) -> &Map<String, Json> {
+        &self.context
     }
 
     /// What goes along with a stage's function.
@@ -525,22 +558,29 @@ impl View {
     }
 }
 
+/// What a question tells that asks for the lowest from a number on, asked again and again.
+fn rising<T>(mut ask: impl FnMut(u16) -> Result<Option<T>, Refused>, number: impl Fn(&T) -> u16) -> Result<Vec<T>, StoreError> {
+    let (mut told, mut from) = (Vec::new(), 0);
+    while let Some(it) = ask(from)? {
+        from = number(&it) + 1;
+        told.push(it);
+    }
+    Ok(told)
+}
+
 /// An error as bytes.
 pub(crate) fn bytes_of(failed: &Failed) -> Vec<u8> {
     serde_json::to_vec(failed).unwrap_or_else(|_| br#"{"error":"Error","text":"(it can't be written)"}"#.to_vec())
 }
 
-/// The call of a word at a place, whose value or error is named by this place where it has a payload.
+/// The call of a word at a place, whose value or error is named by this place where it has a payload. (A finish names its own already.)
 fn named(call: Call, place: usize, has_payload: bool) -> Call {
-    use cf_graph::Answer;
     if !has_payload {
         return call;
     }
     match call {
         Call::Complete(stage, _) => Call::Complete(stage, Value::Int(place as i32)),
         Call::Fail(stage, _) => Call::Fail(stage, place as u32),
-        Call::Finish(stage, Answer::Give(_)) => Call::Finish(stage, Answer::Give(Value::Int(place as i32))),
-        Call::Finish(stage, Answer::Throw(_)) => Call::Finish(stage, Answer::Throw(place as u32)),
         other => other,
     }
 }

@@ -1,4 +1,5 @@
 //! Transactional functions: their effects stand once, with the finish, or not at all.
+#[macro_use]
 mod common;
 
 use cf_store::{Entry, Error, Failed, Flow, Functions, Mark, Opened, Put, SQLite, Service, Store, StoreError, Timer, Transaction};
@@ -235,25 +236,7 @@ impl Transaction for Open<'_> {
 }
 
 impl Store for Wrapped {
-    passed_on! {
-        fn open(name: &str, plan: &str) -> Opened;
-        fn find(name: &str) -> Option<Opened>;
-        fn append(put: Put<'_>) -> Option<Vec<Entry>>;
-        fn read(name: &str, number: i64, at: usize) -> Vec<Entry>;
-        fn payload(name: &str, number: i64, place: usize) -> Option<Vec<u8>>;
-        fn news(since: Option<Mark>) -> (BTreeMap<String, usize>, Mark);
-        fn changed(wait: Duration) -> ();
-        fn end(name: &str, number: i64, at: usize) -> bool;
-        fn reopen(name: &str, number: i64) -> ();
-        fn beat(session: u64) -> ();
-        fn beats() -> BTreeMap<u64, i64>;
-        fn drop_beat(session: u64) -> ();
-        fn name_session(session: u64, name: &str) -> ();
-        fn now() -> f64;
-        fn set_timer(timer: &Timer) -> ();
-        fn due(now: f64) -> Vec<Timer>;
-        fn drop_timer(timer: &Timer) -> ();
-    }
+    questions!(passed_on);
 
     fn transacts(&self) -> bool {
         true

@@ -75,6 +75,7 @@
 #![forbid(unsafe_code)]
 #![warn(missing_docs, missing_debug_implementations, unreachable_pub, rust_2018_idioms)]
 
+mod aside;
 mod clock;
 mod context;
 mod core;
@@ -105,6 +106,8 @@ mod value;
 mod wakers;
 mod word;
 
+#[doc(hidden)]
+pub use aside::Aside;
 pub use clock::{Alarm, Clock, HandClock, SystemClock};
 pub use describe::{Describe, Describes};
 pub use ends::Ends;

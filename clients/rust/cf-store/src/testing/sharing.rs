@@ -380,7 +380,7 @@ impl Shop {
         }
         let tells = |view: &mut View| {
             let shows = unseen.iter().any(|stage| view.is_settled(*stage));
-            let closes = is_open && view.is_planned() && view.is_done(|_| false);
+            let closes = is_open && view.is_planned() && matches!(view.is_done(|_| false), Ok(true));
             shows || closes || is_open && matches!(view.relay(), Ok(Some(_)))
         };
         finds || self.rows.ask(name, tells).unwrap_or(false)
@@ -409,7 +409,7 @@ impl Shop {
     /// Whether another one takes a process for gone, if it has claimed something.
     fn gone(&self, other: u16, free: &[u16]) -> Option<Stored> {
         let session = self.service(other)?.shared.session;
-        let has = |view: &mut View| view.open_claims().into_iter().any(|(_, its)| its == session);
+        let has = |view: &mut View| matches!(view.open_claims(), Ok(claims) if claims.iter().any(|(_, its)| *its == session));
         let claimed: Vec<String> = self.rows.names().into_iter().filter(|name| self.rows.ask(name, has).unwrap_or(false)).collect();
         let by = free.iter().find(|it| **it != other && claimed.iter().any(|name| self.works_on(**it, name)))?;
         Some(Stored::Gone(*by, other))

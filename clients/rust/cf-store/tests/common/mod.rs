@@ -7,6 +7,33 @@ use std::path::PathBuf;
 use std::process::{Child, Command, Stdio};
 use std::time::Duration;
 
+/// The questions of a store, handed to a macro that answers them.
+#[allow(unused_macros)]
+macro_rules! questions {
+    ($answered:ident) => {
+        $answered! {
+            fn open(name: &str, plan: &str) -> Opened;
+            fn find(name: &str) -> Option<Opened>;
+            fn append(put: Put<'_>) -> Option<Vec<Entry>>;
+            fn read(name: &str, number: i64, at: usize) -> Vec<Entry>;
+            fn payload(name: &str, number: i64, place: usize) -> Option<Vec<u8>>;
+            fn payloads(name: &str, number: i64, places: &[usize]) -> Vec<Option<Vec<u8>>>;
+            fn news(since: Option<Mark>) -> (BTreeMap<String, usize>, Mark);
+            fn changed(wait: Duration) -> ();
+            fn end(name: &str, number: i64, at: usize) -> bool;
+            fn reopen(name: &str, number: i64) -> ();
+            fn beat(session: u64) -> ();
+            fn beats() -> BTreeMap<u64, i64>;
+            fn drop_beat(session: u64) -> ();
+            fn name_session(session: u64, name: &str) -> ();
+            fn now() -> f64;
+            fn set_timer(timer: &Timer) -> ();
+            fn due(now: f64) -> Vec<Timer>;
+            fn drop_timer(timer: &Timer) -> ();
+        }
+    };
+}
+
 /// A file of its own, which goes with the value.
 pub struct File(pub PathBuf);
 

@@ -1,0 +1,88 @@
+//! How often is the store asked?
+#[macro_use]
+mod common;
+
+use cf_store::{Entry, Functions, Mark, Opened, Put, SQLite, Service, Store, StoreError, Timer};
+use common::{quick, settled, File};
+use std::collections::BTreeMap;
+use std::sync::{Arc, Mutex};
+use std::time::Duration;
+
+const MANY: usize = 50;
+
+/// How often each question was asked.
+type Asked = Arc<Mutex<BTreeMap<&'static str, usize>>>;
+
+/// A store that counts its questions.
+struct Counted {
+    store: SQLite,
+    asked: Asked,
+}
+
+macro_rules! counted {
+    ($(fn $name:ident($($arg:ident: $type:ty),*) -> $told:ty;)*) => {$(
+        fn $name(&self, $($arg: $type),*) -> Result<$told, StoreError> {
+            *self.asked.lock().unwrap().entry(stringify!($name)).or_default() += 1;
+            self.store.$name($($arg),*)
+        }
+    )*};
+}
+
+impl Store for Counted {
+    questions!(counted);
+}
+
+fn service(file: &File, threads: usize) -> (Service, Asked) {
+    let (asked, mut options) = (Asked::default(), quick());
+    options.threads = threads;
+    let functions = Functions::new().with("seven", 1, || Ok::<_, String>(7)).with("inc", 1, |it: i64| Ok::<_, String>(it + 1));
+    (Service::with(Counted { store: file.store(), asked: Arc::clone(&asked) }, functions, options).unwrap(), asked)
+}
+
+/// How often this was asked.
+fn times(asked: &Asked, what: &str) -> usize {
+    asked.lock().unwrap().get(what).copied().unwrap_or_default()
+}
+
+#[test]
+fn a_put_is_one_question() {
+    let file = File::new("questions");
+    let (planner, asked) = service(&file, 0);
+    let request = planner.request("asked").unwrap();
+    for _ in 0..MANY {
+        request.supply("seven", &[]).unwrap();
+    }
+    assert_eq!((times(&asked, "append"), times(&asked, "payload"), times(&asked, "payloads")), (MANY, 0, 0));
+    assert!(times(&asked, "read") < MANY / 2, "what it has put itself it reads only where the pump sees it first: {asked:?}");
+    drop(planner);
+
+    let (worker, asked) = service(&file, 1);
+    let request = worker.open("asked").unwrap();
+    for number in 0..MANY as u16 {
+        assert_eq!(settled::<i64>(&request.stage(number).unwrap()), Ok(7));
+    }
+    assert_eq!(times(&asked, "append"), MANY + 1, "a finish and the next claim are one put");
+    assert_eq!((times(&asked, "payload"), times(&asked, "payloads")), (0, 1), "what is said of all stages is asked for at once");
+    for _ in 0..MANY {
+        assert_eq!(settled::<i64>(&request.supply("seven", &[]).unwrap()), Ok(7));
+    }
+    assert_eq!((times(&asked, "payload"), times(&asked, "payloads")), (0, 1), "it knows what it has put itself");
+    assert!(times(&asked, "read") < MANY / 2, "{asked:?}");
+}
+
+#[test]
+fn a_chain_is_a_put_a_stage() {
+    let file = File::new("chains");
+    let (planner, _) = service(&file, 0);
+    let request = planner.request("chain").unwrap();
+    let mut last = request.promise("first").unwrap();
+    for _ in 0..MANY {
+        last = last.then("inc").unwrap();
+    }
+    assert!(request.stage(0).unwrap().complete(&0).unwrap());
+    drop(planner);
+    let (worker, asked) = service(&file, 1);
+    let last = worker.open("chain").unwrap().stage(last.number()).unwrap();
+    assert_eq!(settled::<i64>(&last), Ok(MANY as i64));
+    assert_eq!(times(&asked, "append"), MANY + 1, "the finish of each comes with the claim of the next");
+}

@@ -1,0 +1,129 @@
+//! What is told aside of all else, one thing after another: on a thread that is there while something is left to tell.
+use std::collections::VecDeque;
+use std::fmt;
+use std::mem::{forget, replace};
+use std::panic::{catch_unwind, AssertUnwindSafe};
+use std::sync::{Arc, Condvar, Mutex, MutexGuard, PoisonError};
+use std::thread;
+use std::time::Duration;
+
+/// How many wait at most.
+const MOST: usize = 2048;
+
+/// Tells what it is given, on a thread of its own. It is a handle: clones are the same. It is public for the crate `cf-store` alone.
+pub struct Aside<T>(Arc<Shared<T>>);
+
+struct Shared<T> {
+    tells: Box<dyn Fn(T) + Send + Sync>,
+    queue: Mutex<Queue<T>>,
+    /// Is rung as the thread ends.
+    rests: Condvar,
+}
+
+struct Queue<T> {
+    left: VecDeque<T>,
+    has_thread: bool,
+    is_losing: bool,
+}
+
+impl<T: Send + 'static> Aside<T> {
+    /// One that tells by this function. If that panics, it is called for the next one all the same.
+    pub fn new(tells: impl Fn(T) + Send + Sync + 'static) -> Aside<T> {
+        let queue = Mutex::new(Queue { left: VecDeque::new(), has_thread: false, is_losing: false });
+        Aside(Arc::new(Shared { tells: Box::new(tells), queue, rests: Condvar::new() }))
+    }
+
+    /// Waits until all was told that was given before, or so long. Whether it was.
+    pub fn flush(&self, wait: Duration) -> bool {
+        let queue = self.0.lock();
+        let ended = self.0.rests.wait_timeout_while(queue, wait, |queue| queue.has_thread);
+        let (mut queue, _) = ended.unwrap_or_else(PoisonError::into_inner);
+        if queue.has_thread {
+            return false;
+        }
+        // No thread could be started for these.
+        queue.has_thread = !queue.left.is_empty();
+        if queue.has_thread {
+            drop(queue);
+            self.0.run();
+        }
+        true
+    }
+
+    /// Tells this, or drops it where too many wait.
+    pub fn tell(&self, it: T) {
+        let mut queue = self.0.lock();
+        let is_full = queue.left.len() >= MOST;
+        let was_losing = replace(&mut queue.is_losing, is_full);
+        if is_full {
+            drop(queue);
+            if !was_losing {
+                eprintln!("cf: {MOST} histories of ended requests wait for their function, and further ones aren't told");
+            }
+            return;
+        }
+        queue.left.push_back(it);
+        if replace(&mut queue.has_thread, true) {
+            return;
+        }
+        drop(queue);
+        let shared = Arc::clone(&self.0);
+        if thread::Builder::new().name("cf ends".into()).spawn(move || shared.run()).is_err() {
+            // The next one tries again.
+            self.0.lock().has_thread = false;
+        }
+    }
+}
+
+impl<T> Shared<T> {
+    fn lock(&self) -> MutexGuard<'_, Queue<T>> {
+        self.queue.lock().unwrap_or_else(PoisonError::into_inner)
+    }
+
+    fn run(&self) {
+        loop {
+            let mut queue = self.lock();
+            let next = queue.left.pop_front();
+            queue.has_thread = next.is_some();
+            drop(queue);
+            let next = match next {
+                Some(next) => next,
+                None => return self.rests.notify_all(),
+            };
+            // A value's drop may panic, too, and so may that of a payload.
+            let told = || (self.tells)(next);
+            if let Err(payload) = catch_unwind(AssertUnwindSafe(told)) {
+                forget(payload);
+            }
+        }
+    }
+}
+
+impl<T> Clone for Aside<T> {
+    fn clone(&self) -> Aside<T> {
+        Aside(Arc::clone(&self.0))
+    }
+}
+
+impl<T> fmt::Debug for Aside<T> {
+    fn fmt(&self, f: &mut fmt::Formatter<'_>) -> fmt::Result {
+        f.debug_struct("Aside").field("waiting", &self.0.lock().left.len()).finish_non_exhaustive()
+    }
+}
+
+#[cfg(test)]
+mod tests {
+    use super::*;
+    use std::sync::atomic::{AtomicU32, Ordering};
+
+    /// Where the system starts no thread, whoever waits for the function calls it.
+    #[test]
+    fn what_no_thread_could_tell_is_told_by_a_flush() {
+        let told = Arc::new(AtomicU32::new(0));
+        let tells = Arc::clone(&told);
+        let aside = Aside::new(move |it| tells.store(it, Ordering::SeqCst));
+        aside.0.lock().left.push_back(7);
+        assert!(aside.flush(Duration::from_secs(60)));
+        assert_eq!(told.load(Ordering::SeqCst), 7);
+    }
+}
