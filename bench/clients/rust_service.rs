@@ -4,6 +4,8 @@
 //! - fan-out: a source is completed, 510 functions take its value on eight threads, and all have answered. What is built before isn't counted.
 //! - chain: 16 functions, each of the value before it, on one thread, making included.
 //! - bytes: what a request of 512 stages takes beside one of none, once all are settled, or before.
+//!
+//! With the words `count NAME ROUNDS` it does one way so often and prints nothing: valgrind counts the instructions.
 #[path = "../joined.rs"]
 mod joined;
 #[path = "../left.rs"]
@@ -23,6 +25,8 @@ const PARTS: usize = STAGES - 2;
 const CHAIN: usize = 16;
 /// Chains in one round.
 const CHAINS: usize = 32;
+/// Promises with a limit in one request.
+const LIMITED: usize = 8;
 
 fn one_more(value: i32) -> i32 {
     value.wrapping_add(1)
@@ -98,6 +102,18 @@ fn chain_of_boxes() -> Duration {
         assert_eq!(black_box(futures::executor::block_on(last)), 17);
     }
     since.elapsed()
+}
+
+/// Each of them can be awaited by others, as a stage can.
+fn chain_of_shared_boxes() {
+    use futures::future::{ready, FutureExt};
+    for _ in 0..CHAINS {
+        let mut last = ready(1).boxed().shared();
+        for _ in 0..CHAIN {
+            last = last.map(one_more).boxed().shared();
+        }
+        assert_eq!(black_box(futures::executor::block_on(last)), 17);
+    }
 }
 
 /// The same from a oneshot channel that is sent to last, so that each future waits first.
@@ -218,6 +234,25 @@ fn chain_of_settled_stages(spawn: &Arc<dyn Spawn>, room: u16) -> Duration {
     since.elapsed()
 }
 
+/// Its functions give numbers on this thread, making included.
+fn fan_out_alone(spawn: &Arc<dyn Spawn>) {
+    let request = request(spawn, STAGES as u16);
+    let source = request.promise::<i32>();
+    let parts: Vec<Stage<i32>> = (1..STAGES).map(|_| source.clone().then(|value| one_more(*value))).collect();
+    source.complete(1).expect("it is pending");
+    assert_eq!(black_box(&parts[0]).wait().expect("a value"), 2);
+}
+
+/// Promises with a limit each, which are completed before that comes.
+fn limits(spawn: &Arc<dyn Spawn>) {
+    for _ in 0..STAGES / LIMITED {
+        let request = request(spawn, LIMITED as u16);
+        let parts: Vec<Stage<i32>> = (0..LIMITED).map(|_| request.promise().or_timeout(Duration::from_secs(5))).collect();
+        parts.iter().for_each(|part| part.complete(1).expect("it is pending"));
+        black_box(parts);
+    }
+}
+
 /// The library's part of the same chain: its ledger and its words.
 fn chain_of_words(plan: &mut cf_graph::Plan) -> Duration {
     let since = Instant::now();
@@ -308,8 +343,27 @@ fn bytes_of_ledger(plan: &mut cf_graph::Plan) {
     println!("bytes a stage, of the library's ledger alone: {}", (in_use() - before) / STAGES);
 }
 
+/// Does one way so often. Each round is of 512 stages.
+fn count(name: &str, rounds: usize) {
+    let inline: Arc<dyn Spawn> = Arc::new(Inline);
+    let once: Box<dyn Fn()> = match name {
+        "chain" => Box::new(|| _ = chain_of_stages(&inline, 17)),
+        "chain, run when attached" => Box::new(|| _ = chain_of_settled_stages(&inline, 17)),
+        "fan-out" => Box::new(|| fan_out_alone(&inline)),
+        "promises with a limit" => Box::new(|| limits(&inline)),
+        "boxed futures" => Box::new(|| _ = chain_of_boxes()),
+        "boxed().shared()" => Box::new(chain_of_shared_boxes),
+        _ => panic!("no way has this name: {name}"),
+    };
+    (0..rounds).for_each(|_| once());
+}
+
 fn main() {
-    let mut args = std::env::args().skip(1);
+    let mut args = std::env::args().skip(1).peekable();
+    if args.next_if_eq("count").is_some() {
+        let name = args.next().expect("the name of a way");
+        return count(&name, args.next().and_then(|it| it.parse().ok()).expect("how often"));
+    }
     let rounds = args.next().and_then(|it| it.parse().ok()).unwrap_or(300);
     let mut plans: Vec<_> = (0..4).map(|_| cf_graph::PlanBuilder::new().and_then(|it| it.build()).expect("a plan")).collect();
     bytes();

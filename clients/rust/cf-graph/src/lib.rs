@@ -62,6 +62,7 @@
 //! ```
 #![deny(unsafe_op_in_unsafe_fn)]
 #![warn(missing_debug_implementations, unreachable_pub, rust_2018_idioms, clippy::undocumented_unsafe_blocks)]
+mod clock;
 mod closed;
 mod desk;
 mod event;
@@ -78,6 +79,7 @@ mod tale;
 mod text;
 mod values;
 
+pub use clock::nanos;
 pub use closed::{Closed, Record};
 pub use desk::{Caller, Desk, NotClosed};
 pub use event::{Call, Event, Of};

@@ -97,15 +97,15 @@ impl Told {
     }
 
     /// Makes a call that tells: where to, for how many there is room, and where it writes how many there were to tell. What there was no room
-    /// for is taken behind it.
-    #[inline]
+    /// for is taken behind it. It is always in line, as the calls of each stage are, so that no more is read of C's reply than is asked of it.
+    #[inline(always)]
     fn tell(
         &mut self,
         handle: &mut Handle,
         call: impl FnOnce(*mut sys::cf_handle, *mut sys::cf_told, usize, *mut usize) -> u32,
     ) -> Result<(), Refused> {
         if self.rows.is_empty() {
-            self.rows = vec![sys::cf_told::default(); ROOM];
+            self.make_room();
         }
         self.count = 0;
         let mut count = 0;
@@ -116,6 +116,11 @@ impl Told {
             self.take_rest(handle, room)?;
         }
         answer
+    }
+
+    #[cold]
+    fn make_room(&mut self) {
+        self.rows = vec![sys::cf_told::default(); ROOM];
     }
 
     /// Takes what there was no room for behind so many.
@@ -144,7 +149,7 @@ impl Request {
 
     /// Does the event of a word as a ledger does, and settles the stages that follow one that is settled now. A stage that it attaches is of this
     /// lane. `NO_LANE`, `NO_WORD`, `NO_STAGE`, `NO_ROOM`, `NO_MEMORY`: nothing is changed then.
-    #[inline]
+    #[inline(always)]
     pub fn apply(&mut self, word: u64, lane: u8, told: &mut Told) -> Result<Reply, Refused> {
         let mut applied = sys::cf_applied::default();
         let to = &mut applied;
@@ -193,7 +198,7 @@ impl Request {
     /// One step of a caller of a lane: finishes the stage that it holds with this answer, settles the stages that follow one that is settled now,
     /// and claims the lowest ready stage of the lane. `NO_LANE`, `NO_WORD` where `who` is above 63, `NO_STAGE`, `NOT_HELD`, `NO_MEMORY`: nothing is
     /// changed then.
-    #[inline]
+    #[inline(always)]
     pub fn next(&mut self, who: u8, lane: u8, held: Option<(u16, Answer)>, told: &mut Told) -> Result<Step, Refused> {
         let mut step = sys::cf_request_step { who, lane, told: 0 };
         let mut task = task_in(held);
@@ -380,7 +385,7 @@ impl Calls {
     }
 
     /// Adds a call of [`next`](Request::next).
-    #[inline]
+    #[inline(always)]
     pub fn next(&mut self, who: u8, lane: u8, held: Option<(u16, Answer)>) {
         // This call looks at no code, so that it can say whether something was held.
         let code = u32::from(held.is_some());
@@ -453,5 +458,5 @@ impl Calls {
 #[inline]
 fn told_out(told: &sys::cf_told) -> (u16, Outcome) {
     // A stage is told only once it has an outcome.
-    (told.stage, outcome_out(told.outcome).unwrap_or(Outcome::Value(Value::Nil)))
+    (told.stage, settled_out(&told.outcome))
 }

@@ -25,11 +25,11 @@ pub struct Taken {
 /// A stage that a caller holds, and what its function answered.
 #[inline]
 pub(crate) fn task_in(held: Option<(u16, Answer)>) -> sys::cf_task {
-    let none = sys::cf_task::default();
-    match held {
-        None => none,
-        Some((stage, answer)) => sys::cf_task { held: 1, stage, answer: answer_in(answer), ..none },
+    let mut task = sys::cf_task::default();
+    if let Some((stage, answer)) = held {
+        (task.held, task.stage, task.answer) = (1, stage, answer_in(answer));
     }
+    task
 }
 
 #[inline]

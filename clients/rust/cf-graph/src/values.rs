@@ -111,12 +111,13 @@ pub(crate) fn value_out(value: sys::cf_value) -> Value {
 
 #[inline]
 pub(crate) fn answer_in(answer: Answer) -> sys::cf_answer {
-    let none = sys::cf_answer::default();
+    let mut row = sys::cf_answer::default();
     match answer {
-        Answer::Give(value) => sys::cf_answer { value: value_in(value), ..none },
-        Answer::Throw(code) => sys::cf_answer { kind: 1, code, ..none },
-        Answer::Link(stage) => sys::cf_answer { kind: 2, stage, ..none },
+        Answer::Give(value) => row.value = value_in(value),
+        Answer::Throw(code) => (row.kind, row.code) = (1, code),
+        Answer::Link(stage) => (row.kind, row.stage) = (2, stage),
     }
+    row
 }
 
 #[inline]
@@ -150,9 +151,23 @@ pub(crate) fn failure_out(kind: u32) -> Failure {
 pub(crate) fn outcome_out(outcome: sys::cf_outcome) -> Option<Outcome> {
     match outcome.kind {
         0 => None,
-        1 => Some(Outcome::Value(value_out(outcome.value))),
-        _ => Some(Outcome::Fault { cause: cause_of(outcome), wrapped: outcome.wrapped != 0 }),
+        _ => Some(settled_out(&outcome)),
     }
+}
+
+/// What a settled stage has: mostly a value.
+#[inline]
+pub(crate) fn settled_out(outcome: &sys::cf_outcome) -> Outcome {
+    match outcome.kind {
+        // Where there is none, there would be no value either.
+        0 | 1 => Outcome::Value(value_out(outcome.value)),
+        _ => fault_out(outcome),
+    }
+}
+
+#[cold]
+fn fault_out(outcome: &sys::cf_outcome) -> Outcome {
+    Outcome::Fault { cause: cause_of(*outcome), wrapped: outcome.wrapped != 0 }
 }
 
 #[inline]
@@ -162,7 +177,7 @@ pub(crate) fn args_out(args: sys::cf_args) -> Args {
         1 => Args::One(value_out(args.first)),
         2 => Args::Two(value_out(args.first), value_out(args.second)),
         // A function is called with an outcome only once there is one.
-        _ => Args::Got(outcome_out(args.outcome).unwrap_or(Outcome::Value(Value::Nil))),
+        _ => Args::Got(settled_out(&args.outcome)),
     }
 }
 

@@ -5,22 +5,23 @@ use crate::clock::{try_again, Alarm, Clock};
 use crate::context::carried;
 use crate::error::{Error, Panic, Refusal};
 use crate::history::History;
-use crate::inner::{After, Feed, Inner, Kept};
+use crate::inner::{kept_of, After, Feed, Inner, Kept, News, With};
+use crate::ledger::Ledger;
 use crate::name::Made;
 use crate::slot::Held;
 use crate::spawn::{as_worker, guarded, in_turn, quietly, running, Job, Payload, Row, Spawn, Turn, CLOCK, RELAY};
 use crate::task::{Polling, Task};
 use crate::value::{Call, Gave, Given, Val};
 use crate::word::Form;
-use cf_graph::Args;
+use cf_graph::nanos;
 use std::borrow::Cow;
 use std::cell::RefCell;
-use std::mem::{replace, take};
+use std::mem::take;
 use std::panic::{catch_unwind, resume_unwind, AssertUnwindSafe};
 use std::sync::atomic::{AtomicBool, AtomicUsize, Ordering};
 use std::sync::{Arc, Mutex, MutexGuard, PoisonError, TryLockError};
 use std::task::{Poll, Waker};
-use std::time::{Duration, Instant};
+use std::time::Duration;
 
 pub(crate) struct Core {
     pub(crate) name: Box<str>,
@@ -31,8 +32,8 @@ pub(crate) struct Core {
     most: usize,
     clock: Arc<dyn Clock>,
     begun: Duration,
-    /// The same where the clock is the computer's.
-    begun_at: Option<Instant>,
+    /// The same in nanoseconds where the clock is the computer's.
+    begun_at: Option<u64>,
     inner: Mutex<Inner>,
     /// Jobs that rest in a function that waits.
     resting: AtomicUsize,
@@ -53,8 +54,8 @@ impl Core {
     pub(crate) const TURN: usize = 64;
 
     pub(crate) fn new(name: Box<str>, spawn: Arc<dyn Spawn>, clock: Arc<dyn Clock>, room: u16) -> Result<Arc<Core>, Refusal> {
-        let (place, most, inner) = (spawn.id(), spawn.parallelism().max(1), Mutex::new(Inner::new(room)?));
-        let (begun, begun_at) = if clock.is_system() { (Duration::ZERO, Some(Instant::now())) } else { (clock.now(), None) };
+        let (place, most, ledger) = (spawn.id(), spawn.parallelism().max(1), Ledger::new(room)?);
+        let (begun, begun_at) = if clock.is_system() { (Duration::ZERO, Some(nanos())) } else { (clock.now(), None) };
         let core = Arc::new(Core {
             name,
             spawn,
@@ -63,7 +64,7 @@ impl Core {
             clock,
             begun,
             begun_at,
-            inner,
+            inner: Mutex::new(Inner::over(ledger, room)),
             resting: AtomicUsize::new(0),
             has_helpers: AtomicBool::new(false),
             #[cfg(feature = "testing")]
@@ -75,18 +76,27 @@ impl Core {
     }
 
     /// No code of a user runs under the lock, so what a panic leaves behind it is whole.
-    #[inline]
+    #[inline(always)]
     pub(crate) fn lock(&self) -> MutexGuard<'_, Inner> {
         #[cfg(test)]
         crate::search::turn();
+        match self.inner.try_lock() {
+            Ok(inner) => inner,
+            Err(_) => self.lock_taken(),
+        }
+    }
+
+    #[cold]
+    fn lock_taken(&self) -> MutexGuard<'_, Inner> {
         let mut pauses = 1;
-        for _ in 0..LOOKS {
+        for _ in 1..LOOKS {
+            (0..pauses).for_each(|_| std::hint::spin_loop());
+            pauses = PAUSES.min(2 * pauses);
             match self.inner.try_lock() {
                 Ok(inner) => return inner,
                 Err(TryLockError::Poisoned(inner)) => return inner.into_inner(),
-                Err(TryLockError::WouldBlock) => (0..pauses).for_each(|_| std::hint::spin_loop()),
+                Err(TryLockError::WouldBlock) => {}
             }
-            pauses = PAUSES.min(2 * pauses);
         }
         self.inner.lock().unwrap_or_else(PoisonError::into_inner)
     }
@@ -101,20 +111,18 @@ impl Core {
     }
 
     /// Lets something be done under the lock at this moment, and what comes of it be told behind it.
+    #[inline]
     pub(crate) fn change<T>(self: &Arc<Core>, act: impl FnOnce(&mut Inner, &mut After) -> T) -> T {
-        let mut after = After::nothing();
-        let now = self.now();
+        let (mut after, now) = (After::default(), self.now());
         let mut inner = self.lock();
         inner.ledger.record.go_on(now);
         let done = act(&mut inner, &mut after);
         inner.cancel_relays(&mut after);
         inner.hire(self.most(), false, &mut after);
         drop(inner);
-        let mut panicked = None;
-        self.tell(&mut after, &mut panicked);
-        after.keep();
-        if let Some(payload) = panicked {
-            resume_unwind(payload);
+        let (jobs, news) = after.into_parts();
+        if jobs > 0 || news.is_some() {
+            self.tell_now(jobs, news);
         }
         #[cfg(feature = "testing")]
         self.watched(|watch| watch.changed());
@@ -123,20 +131,26 @@ impl Core {
 
     /// Nanoseconds since the request began. A clock may be a user's, so it isn't asked under the lock, and one that panics tells nothing: the
     /// time is that of the call before then.
+    #[inline]
     pub(crate) fn now(&self) -> u64 {
         #[cfg(feature = "testing")]
         if let Some(watch) = &self.watch {
             return watch.now();
         }
-        let since = match self.begun_at {
-            Some(begun) => begun.elapsed(),
-            None => catch_unwind(AssertUnwindSafe(|| self.clock.now())).unwrap_or_default().saturating_sub(self.begun),
-        };
-        since.as_secs().saturating_mul(1_000_000_000).saturating_add(u64::from(since.subsec_nanos()))
+        match self.begun_at {
+            Some(begun) => nanos().saturating_sub(begun),
+            None => self.told_by_clock(),
+        }
+    }
+
+    fn told_by_clock(&self) -> u64 {
+        let since = catch_unwind(AssertUnwindSafe(|| self.clock.now())).unwrap_or_default().saturating_sub(self.begun);
+        u64::try_from(since.as_nanos()).unwrap_or(u64::MAX)
     }
 
     // Changes by callers.
 
+    #[inline]
     pub(crate) fn attach(self: &Arc<Core>, who: u8, form: Form, of: &[u16], call: Option<Call>, made: Made) -> Result<u16, Refusal> {
         let call = call.map(carried);
         self.change(|inner, after| inner.attach(who, form, of, call, made, after))
@@ -153,13 +167,13 @@ impl Core {
         let call = carried(call);
         self.change(|inner, after| {
             if inner.ledger.left() < 2 {
-                after.dropped.push(Held::Call(call));
+                after.news().dropped.push(Held::Call(call));
                 return Err(Refusal::Full);
             }
             match inner.attach(who, Form::Source, &[], None, Made::as_a(|| "relay"), after) {
                 Ok(_) => inner.attach(who, form, &[of], Some(call), made, after),
                 Err(why) => {
-                    after.dropped.push(Held::Call(call));
+                    after.news().dropped.push(Held::Call(call));
                     Err(why)
                 }
             }
@@ -172,7 +186,7 @@ impl Core {
         let late = self.change(|inner, after| {
             inner.fed_now(relay);
             let late = inner.settle(RELAY, relay, told, after);
-            feeds.append(&mut after.feeds);
+            feeds.append(&mut after.news().feeds);
             late
         });
         drop(late);
@@ -288,15 +302,15 @@ impl Core {
 
     // Waiting.
 
-    /// What a stage ended in; until then the handle's waker is kept, at its place.
-    pub(crate) fn poll(&self, stage: u16, place: &mut Option<u32>, waker: &Waker) -> Poll<Result<Val, Error>> {
-        if let Some(place) = *place {
+    /// What a stage ended in; until then the handle's waker is kept, at this place, or at the one that is given back.
+    pub(crate) fn poll(&self, stage: u16, place: Option<u32>, waker: &Waker) -> (Poll<Result<Val, Error>>, Option<u32>) {
+        if let Some(place) = place {
             let mut inner = self.lock();
             if let Some(told) = inner.told(stage) {
-                return Poll::Ready(told);
+                return (Poll::Ready(told), None);
             }
             if inner.waiting.will_wake(place, waker) {
-                return Poll::Pending;
+                return (Poll::Pending, None);
             }
         }
         // A waker is cloned and dropped by code of others.
@@ -304,19 +318,16 @@ impl Core {
         let mut guard = self.lock();
         if let Some(told) = guard.told(stage) {
             drop(guard);
-            return Poll::Ready(told);
+            return (Poll::Ready(told), None);
         }
         let inner = &mut *guard;
-        let old = match *place {
-            Some(place) => inner.waiting.replace(place, waker),
-            None => {
-                *place = Some(inner.waiting.keep(stage, waker));
-                None
-            }
+        let (old, kept) = match place {
+            Some(place) => (inner.waiting.replace(place, waker), None),
+            None => (None, Some(inner.waiting.keep(stage, waker))),
         };
         drop(guard);
         drop(old);
-        Poll::Pending
+        (Poll::Pending, kept)
     }
 
     /// Forgets the waker of a handle.
@@ -336,44 +347,58 @@ impl Core {
     /// Runs ready functions, at most so many, until none is left.
     pub(crate) fn work(self: &Arc<Core>, who: u8, most: usize) {
         let _running = running(self, true);
-        let mut after = After::nothing();
-        let (mut ended, mut left, mut begins, mut panicked) = (None, most, true, None);
-        let mut given = (Args::None, Given::Nothing);
+        let (mut ended, mut left, mut begins, mut panicked) = ((None, Held::Nothing), most, true, None);
+        let mut with = With::nothing();
         loop {
-            let now = self.now();
+            let (mut after, now) = (After::default(), self.now());
             let mut inner = self.lock();
             inner.ledger.record.go_on(now);
-            let next = match (ended.take(), left) {
-                (Some((stage, gave)), 0) => {
-                    inner.finish(self, who, stage, gave, &mut after);
-                    None
-                }
-                (_, 0) => None,
-                (ended, _) => inner.step(self, who, ended, &mut after),
+            let (held, keeps) = ended;
+            let next = if left > 0 {
+                inner.step(who, held, keeps, &mut with, &mut after)
+            } else {
+                inner.last(who, held, keeps, &mut after);
+                None
             };
             inner.cancel_relays(&mut after);
-            inner.coming -= usize::from(begins);
-            inner.jobs -= usize::from(next.is_none());
-            inner.hire(self.most(), begins || next.is_none(), &mut after);
-            let next = next.map(|(stage, call, args)| {
-                // Those before may be what is given now, as it is where many take one value.
-                let old = (args != given.0).then(|| replace(&mut given, (args, inner.given(args))));
-                (stage, call, old)
-            });
+            if begins || next.is_none() {
+                inner.coming -= usize::from(begins);
+                inner.jobs -= usize::from(next.is_none());
+            }
+            // Where a step finds nothing, nothing is ready.
+            inner.hire(self.most(), begins && next.is_some() || left == 0, &mut after);
             drop(inner);
             begins = false;
-            self.tell(&mut after, &mut panicked);
-            match next {
-                None => break,
-                Some((stage, call, _old)) => {
-                    left -= 1;
-                    ended = self.called(who, stage, call, &given.1, &mut panicked).map(|gave| (stage, gave));
-                }
+            let (jobs, news) = after.into_parts();
+            if jobs > 0 || news.is_some() {
+                self.tell(jobs, news, &mut panicked);
             }
+            let (stage, call) = match next {
+                Some(next) => next,
+                None => break,
+            };
+            left -= 1;
+            ended = match catch_unwind(AssertUnwindSafe(|| call(&with.given))) {
+                Ok(Gave::Value(Val::Nil)) => (Some(stage), Held::Nothing),
+                Ok(Gave::Value(value)) => (Some(stage), Held::Value(value)),
+                gave => self.gave(who, stage, gave, &mut panicked),
+            };
         }
-        after.keep();
         if let Some(payload) = panicked {
             resume_unwind(payload);
+        }
+    }
+
+    /// What is held, and kept of what a function gave, which is no value: a link or a future is seen to at once.
+    #[inline(never)]
+    fn gave(self: &Arc<Core>, who: u8, stage: u16, gave: Result<Gave, Payload>, panicked: &mut Option<Payload>) -> (Option<u16>, Held) {
+        match self.begun(who, stage, gave, panicked) {
+            None => (None, Held::Nothing),
+            Some(gave @ Gave::Stage(..)) => {
+                guarded(panicked, || self.end(who, stage, gave));
+                (None, Held::Nothing)
+            }
+            Some(gave) => (Some(stage), kept_of(gave)),
         }
     }
 
@@ -415,7 +440,8 @@ impl Core {
             Ok(Begun::Function(stage, call, given)) => {
                 let _running = running(self, false);
                 as_worker(|who| {
-                    if let Some(gave) = self.called(who, stage, call, &given, &mut panicked) {
+                    let gave = catch_unwind(AssertUnwindSafe(|| call(&given)));
+                    if let Some(gave) = self.begun(who, stage, gave, &mut panicked) {
                         self.end(who, stage, gave);
                     }
                 });
@@ -461,8 +487,8 @@ impl Core {
     }
 
     /// What a function gave, or None where that comes later. A waker or a `Drop` that panics as a future is begun doesn't end the worker's row.
-    fn called(self: &Arc<Core>, who: u8, stage: u16, call: Call, given: &Given, panicked: &mut Option<Payload>) -> Option<Gave> {
-        match catch_unwind(AssertUnwindSafe(|| call(given))) {
+    fn begun(self: &Arc<Core>, who: u8, stage: u16, gave: Result<Gave, Payload>, panicked: &mut Option<Payload>) -> Option<Gave> {
+        match gave {
             Ok(Gave::Later(future)) => {
                 guarded(panicked, || Polling::begin(self, who, stage, future));
                 None
@@ -477,43 +503,52 @@ impl Core {
         self.change(|inner, after| inner.finish(self, who, stage, gave, after));
     }
 
-    /// Tells what came of changes. The lock is free. A waker or a `Drop` that panics doesn't keep the others from being
-    /// told, and what the first panicked with is kept.
-    #[inline]
-    fn tell(self: &Arc<Core>, after: &mut After, panicked: &mut Option<Payload>) {
-        if !after.is_empty() {
-            self.tell_all(after, panicked);
+    /// Tells what came of a change. What a waker or a `Drop` panics with goes on.
+    fn tell_now(self: &Arc<Core>, jobs: usize, news: Option<Box<News>>) {
+        let mut panicked = None;
+        self.tell(jobs, news, &mut panicked);
+        if let Some(payload) = panicked {
+            resume_unwind(payload);
         }
     }
 
-    fn tell_all(self: &Arc<Core>, after: &mut After, panicked: &mut Option<Payload>) {
-        if let Some((number, wait)) = after.alarm.take() {
+    /// Tells what came of changes. The lock is free. A waker or a `Drop` that panics doesn't keep the others from being
+    /// told, and what the first panicked with is kept.
+    fn tell(self: &Arc<Core>, jobs: usize, mut news: Option<Box<News>>, panicked: &mut Option<Payload>) {
+        if let Some((number, wait)) = news.as_mut().and_then(|news| news.alarm.take()) {
             guarded(panicked, || self.clock.after(wait, Alarm { core: Arc::downgrade(self), number, wait }));
         }
-        for _ in 0..take(&mut after.jobs) {
+        for _ in 0..jobs {
             guarded(panicked, || self.spawn(Job::new(Turn::Work(Arc::clone(self)))));
         }
-        while let Some(waker) = after.wakers.pop() {
+        if let Some(news) = news {
+            self.tell_news(news, panicked);
+        }
+    }
+
+    fn tell_news(self: &Arc<Core>, mut news: Box<News>, panicked: &mut Option<Payload>) {
+        while let Some(waker) = news.wakers.pop() {
             guarded(panicked, || waker.wake());
         }
-        while let Some(task) = after.tasks.pop() {
+        while let Some(task) = news.tasks.pop() {
             guarded(panicked, || task.stop(self));
         }
-        while let Some((core, relay, told)) = after.feeds.pop() {
-            let feeds = &mut after.feeds;
+        while let Some((core, relay, told)) = news.feeds.pop() {
+            let feeds = &mut news.feeds;
             guarded(panicked, || core.settle_fed(relay, told, feeds));
             guarded(panicked, || drop(core));
         }
-        while let Some((of, stage, relay)) = after.links.pop() {
+        while let Some((of, stage, relay)) = news.links.pop() {
             guarded(panicked, || of.feed(stage, Arc::clone(self), relay));
             guarded(panicked, || drop(of));
         }
-        while let Some((of, stage, relay)) = after.ends.pop() {
+        while let Some((of, stage, relay)) = news.ends.pop() {
             guarded(panicked, || of.upgrade().into_iter().for_each(|of| of.unfeed(stage, self, relay)));
         }
-        while let Some(dropped) = after.dropped.pop() {
+        while let Some(dropped) = news.dropped.pop() {
             guarded(panicked, || drop(dropped));
         }
+        news.keep();
     }
 
     /// Has a job run. One that is given back is dropped, and so refused.

@@ -15,13 +15,13 @@ use crate::task::Task;
 use crate::value::{Call, Gave, Given, Val};
 use crate::wakers::Wakers;
 use crate::word::{self, Form, BAD_ANSWER, CANCEL, CLAIM, COMPLETE, FAIL, FAIL_AS, FINISH, LINKS, SOME, THROWS, TIMED_OUT};
-use cf_graph::{Answer, Args, Cause, Claimed, Finished, Outcome, Reply, Told, Value};
+use cf_graph::{Answer, Args, Cause, Claimed, Finished, Outcome, Reply, Value};
 #[cfg(feature = "tokio")]
 use std::any::Any;
 use std::borrow::Cow;
 use std::cell::RefCell;
 use std::collections::BTreeMap;
-use std::mem::{replace, take};
+use std::mem::{forget, replace, take};
 use std::ops::Range;
 use std::sync::{Arc, Weak};
 use std::task::Waker;
@@ -93,7 +93,9 @@ impl Awaited {
     /// The alarm isn't wanted any more. Its moment.
     fn stop(&mut self, _after: &mut After) -> u64 {
         #[cfg(feature = "tokio")]
-        _after.dropped.extend(self.timer.take().map(Held::Timer));
+        if let Some(timer) = self.timer.take() {
+            _after.news().dropped.push(Held::Timer(timer));
+        }
         replace(&mut self.moment, NEVER)
     }
 }
@@ -126,11 +128,16 @@ impl Kept {
     }
 }
 
-/// What a hold of the lock changed, and what is to be told once the lock is free.
+/// What is to be told once the lock is free, after what a hold of it changed: mostly nothing, or that jobs are to be asked for.
 #[derive(Default)]
 pub(crate) struct After {
-    /// What the last call of the machine settled.
-    told: Told,
+    pub(crate) jobs: usize,
+    news: Option<Box<News>>,
+}
+
+/// What else is to be told.
+#[derive(Default)]
+pub(crate) struct News {
     pub(crate) wakers: Vec<Waker>,
     pub(crate) dropped: Vec<Held>,
     pub(crate) feeds: Vec<Feed>,
@@ -139,7 +146,6 @@ pub(crate) struct After {
     pub(crate) links: Vec<(Arc<Core>, u16, u16)>,
     /// A stage of another request, and the relay that is settled and stands for it.
     pub(crate) ends: Vec<(Weak<Core>, u16, u16)>,
-    pub(crate) jobs: usize,
     /// The alarm for which the clock is to be asked, and after which while it is to be rung.
     pub(crate) alarm: Option<(u64, Duration)>,
 }
@@ -151,35 +157,37 @@ pub(crate) type Feed = (Arc<Core>, u16, Result<Val, Error>);
 pub(crate) type Todo = (u16, Call, Args);
 
 thread_local! {
-    /// What this thread has told of all, to be used again. One is large, so they are handed on behind a pointer.
+    /// What this thread has told all of, to be used again: it has room.
     #[allow(clippy::vec_box)]
-    static TOLD: RefCell<Vec<Box<After>>> = const { RefCell::new(Vec::new()) };
+    static TOLD: RefCell<Vec<Box<News>>> = const { RefCell::new(Vec::new()) };
 }
 
 impl After {
-    /// Nothing, with room that was there before.
+    /// What is to be told, to which more comes.
     #[inline]
-    pub(crate) fn nothing() -> Box<After> {
-        TOLD.try_with(|told| told.borrow_mut().pop()).ok().flatten().unwrap_or_default()
+    pub(crate) fn news(&mut self) -> &mut News {
+        self.news.get_or_insert_with(|| TOLD.try_with(|told| told.borrow_mut().pop()).ok().flatten().unwrap_or_default())
     }
 
-    /// Keeps the room of what was told of all.
+    /// How many jobs are to be asked for, and what else is to be told.
     #[inline]
-    pub(crate) fn keep(self: Box<After>) {
+    pub(crate) fn into_parts(self) -> (usize, Option<Box<News>>) {
+        (self.jobs, self.news)
+    }
+}
+
+impl News {
+    /// Keeps the room of what was told all of.
+    pub(crate) fn keep(self: Box<News>) {
         let _ = TOLD.try_with(|told| told.borrow_mut().push(self));
-    }
-
-    #[inline]
-    pub(crate) fn is_empty(&self) -> bool {
-        let ends = self.tasks.is_empty() && self.feeds.is_empty() && self.links.is_empty() && self.ends.is_empty();
-        self.jobs == 0 && self.wakers.is_empty() && self.dropped.is_empty() && ends && self.alarm.is_none()
     }
 }
 
 impl Inner {
-    pub(crate) fn new(room: u16) -> Result<Inner, Refusal> {
-        Ok(Inner {
-            ledger: Ledger::new(room)?,
+    #[inline]
+    pub(crate) fn over(ledger: Ledger, room: u16) -> Inner {
+        Inner {
+            ledger,
             slots: Vec::with_capacity(usize::from(room.min(SLOTS))),
             made: Vec::new(),
             names: BTreeMap::new(),
@@ -194,7 +202,7 @@ impl Inner {
             letting: Vec::new(),
             limits: Vec::new(),
             awaited: Awaited::nothing(),
-        })
+        }
     }
 
     #[inline]
@@ -243,7 +251,6 @@ impl Inner {
     }
 
     /// What a function is called with.
-    #[inline]
     pub(crate) fn given(&self, args: Args) -> Given {
         match args {
             Args::None => Given::Nothing,
@@ -255,13 +262,14 @@ impl Inner {
 
     // Changes.
 
+    #[inline(always)]
     pub(crate) fn attach(&mut self, who: u8, form: Form, of: &[u16], call: Option<Call>, made: Made, after: &mut After) -> Result<u16, Refusal> {
         // Nothing can come of a stage now that has no function, or sources none of which is settled.
         let waits = match of {
             [] => call.is_none(),
             of => !of.iter().any(|source| self.slots[usize::from(*source)].is_settled()),
         };
-        match self.ledger.attach(who, form, of, call.is_some(), &mut after.told) {
+        match self.ledger.attach(who, form, of, call.is_some()) {
             Ok(stage) => {
                 let made = self.made(made);
                 self.slots.push(Slot::new(made, call));
@@ -270,7 +278,7 @@ impl Inner {
                 Ok(stage)
             }
             Err(why) => {
-                after.dropped.extend(call.map(Held::Call));
+                Inner::let_drop(call.map_or(Held::Nothing, Held::Call), after);
                 Err(why)
             }
         }
@@ -279,6 +287,13 @@ impl Inner {
     /// The place of what a stage is called, which may be that of one of the stages before.
     #[inline]
     fn made(&mut self, made: Made) -> u16 {
+        match self.made.last() {
+            Some(last) if last.is(made) => self.made.len() as u16 - 1,
+            _ => self.made_before(made),
+        }
+    }
+
+    fn made_before(&mut self, made: Made) -> u16 {
         let lately = self.made.iter().enumerate().rev().take(4);
         let at = lately.into_iter().find(|(_, other)| other.is(made)).map_or(self.made.len(), |(at, _)| at);
         if at == self.made.len() {
@@ -290,19 +305,21 @@ impl Inner {
     /// Attaches a row of stages, of which the last is given. Each is attached by an event, which settles no other one.
     pub(crate) fn gather(&mut self, who: u8, form: cf_graph::Form, of: &[u16], made: Made, after: &mut After) -> Result<u16, Refusal> {
         let first = self.ledger.stages;
-        let root = self.ledger.gather(who, form, of, &mut after.told)?;
+        let root = self.ledger.gather(who, form, of)?;
         let (made, mut hangs, mut shown) = (self.made(made), Hangs::new(), 0);
         for stage in first..=root {
             self.slots.push(Slot::new(made, None));
             self.ledger.gathered(stage);
-            if shown < after.told.len() && after.told.at(shown).0 == stage {
-                self.settled(stage, after.told.at(shown).1, &mut hangs, after);
+            if shown < self.ledger.settled() && self.ledger.settled_at(shown).0 == stage {
+                let outcome = self.ledger.settled_at(shown).1;
+                self.show_one(stage, outcome, &mut hangs, after);
                 shown += 1;
             }
         }
         Ok(root)
     }
 
+    #[inline]
     pub(crate) fn settle(&mut self, who: u8, stage: u16, with: Result<Val, Error>, after: &mut After) -> Result<(), Result<Val, Error>> {
         let number = u64::from(stage);
         let (kind, tail, holds) = match with {
@@ -318,7 +335,7 @@ impl Inner {
                 (kind, tail, Held::Error(Box::new(error)))
             }
         };
-        if matches!(self.act(word::of(kind, who, stage, tail), after), Reply::Flag(true)) {
+        if matches!(self.ledger.act(word::of(kind, who, stage, tail)), Reply::Flag(true)) {
             self.hold(stage, holds, after);
             self.show(after);
             return Ok(());
@@ -331,61 +348,84 @@ impl Inner {
         })
     }
 
-    #[inline]
-    fn act(&mut self, word: u64, after: &mut After) -> Reply {
-        self.ledger.act(word, &mut after.told)
+    /// Keeps what a stage was settled with, unless it was cancelled again. What it held is to be dropped.
+    #[inline(always)]
+    fn hold(&mut self, stage: u16, keeps: Held, after: &mut After) {
+        let slot = self.slot(stage);
+        let old = if slot.is_settled() { keeps } else { replace(&mut slot.held, keeps) };
+        Inner::let_drop(old, after);
     }
 
-    /// Keeps what a stage was settled with, unless it was cancelled again, or has nothing to keep.
     #[inline]
-    fn hold(&mut self, stage: u16, holds: Held, after: &mut After) {
-        let slot = self.slot(stage);
-        if !slot.is_settled() {
-            let old = replace(&mut slot.held, holds);
-            if let Held::Call(_) = old {
-                after.dropped.push(old);
-            }
+    fn let_drop(held: Held, after: &mut After) {
+        match held {
+            // To drop it would take a call.
+            Held::Nothing => forget(held),
+            held => after.news().dropped.push(held),
         }
     }
 
     /// Shows which stages the last call settled.
     #[inline]
     fn show(&mut self, after: &mut After) {
-        self.show_by(after, |_, _, _, _| false);
-    }
-
-    /// Shows which stages the last call settled. It has done an event more for each relay that follows, and for those stages of which this holds:
-    /// each is the lowest one that its event settles.
-    #[inline]
-    fn show_by(&mut self, after: &mut After, has_event: impl Fn(&mut Inner, u16, Outcome, &mut After) -> bool) {
-        let mut hangs = Hangs::new();
-        for at in 0..after.told.len() {
-            let (stage, outcome) = after.told.at(at);
-            if self.slots[usize::from(stage)].follows || has_event(self, stage, outcome, after) {
-                self.ledger.settled();
-            }
-            self.settled(stage, outcome, &mut hangs, after);
+        if self.ledger.settled() > 0 {
+            self.show_some(after);
         }
     }
 
-    /// A stage is told to be settled.
-    #[inline]
-    fn settled(&mut self, stage: u16, outcome: Outcome, hangs: &mut Hangs, after: &mut After) {
-        self.is_more = true;
+    #[inline(never)]
+    fn show_some(&mut self, after: &mut After) {
+        self.show_each(after);
+    }
+
+    #[inline(always)]
+    fn show_each(&mut self, after: &mut After) {
+        for at in 0..self.ledger.settled() {
+            match self.ledger.settled_at(at) {
+                (stage, Outcome::Value(value)) if !self.slots[usize::from(stage)].follows => self.settled(stage, Outcome::Value(value), stage, after),
+                _ => return self.show_by(at, after, |_, _, _, _| false),
+            }
+        }
+    }
+
+    /// Shows which stages the last call settled, from this one on. It has done an event more for each relay that follows, and for those stages of
+    /// which this holds: each is the lowest one that its event settles.
+    #[cold]
+    fn show_by(&mut self, first: usize, after: &mut After, has_event: impl Fn(&mut Inner, u16, Outcome, &mut After) -> bool) {
+        let mut hangs = Hangs::new();
+        for at in first..self.ledger.settled() {
+            let (stage, outcome) = self.ledger.settled_at(at);
+            if self.slots[usize::from(stage)].follows || has_event(self, stage, outcome, after) {
+                self.ledger.settled_beside();
+            }
+            self.show_one(stage, outcome, &mut hangs, after);
+        }
+    }
+
+    fn show_one(&mut self, stage: u16, outcome: Outcome, hangs: &mut Hangs, after: &mut After) {
         let from = match outcome {
             Outcome::Fault { cause: Cause::TimedOut | Cause::BadAnswer, .. } => self.came_from(stage, hangs),
             _ => stage,
         };
+        self.settled(stage, outcome, from, after);
+    }
+
+    /// A stage is told to be settled, by an error of that one where the error has no code.
+    #[inline]
+    fn settled(&mut self, stage: u16, outcome: Outcome, from: u16, after: &mut After) {
+        self.is_more = true;
         let slot = &mut self.slots[usize::from(stage)];
         slot.settle(outcome, from);
         self.ledger.told(stage, outcome);
         if let Held::Call(_) = slot.held {
-            after.dropped.push(replace(&mut slot.held, Held::Nothing));
+            after.news().dropped.push(replace(&mut slot.held, Held::Nothing));
         }
         if slot.has_extra {
             self.settled_extra(stage, after);
         }
-        self.waiting.take(stage, &mut after.wakers);
+        if self.waiting.has(stage) {
+            self.waiting.take(stage, &mut after.news().wakers);
+        }
     }
 
     /// From which stage the time-out or the bad answer came that this one is settled with, since the ledger has no code for it: from this one, where
@@ -410,11 +450,15 @@ impl Inner {
             Some(extra) => extra,
             None => return,
         };
-        after.tasks.extend(extra.task);
+        if let Some(task) = extra.task {
+            after.news().tasks.push(task);
+        }
         self.letting.extend(extra.lets_go);
-        after.ends.extend(extra.of.map(|(of, number)| (of, number, stage)));
+        if let Some((of, number)) = extra.of {
+            after.news().ends.push((of, number, stage));
+        }
         for (to, relay) in extra.feeds {
-            after.feeds.push((to, relay, self.told(stage).expect("the stage is settled")));
+            after.news().feeds.push((to, relay, self.told(stage).expect("the stage is settled")));
         }
     }
 
@@ -472,7 +516,9 @@ impl Inner {
         if limits.is_empty() {
             return;
         }
-        after.dropped.extend(self.limits[limits].iter_mut().filter_map(|limit| limit.gives.take()).map(Held::Value));
+        for value in self.limits[limits].iter_mut().filter_map(|limit| limit.gives.take()) {
+            after.news().dropped.push(Held::Value(value));
+        }
         self.awaited.stages -= 1;
         if self.awaited.stages == 0 {
             self.limits.clear();
@@ -487,7 +533,7 @@ impl Inner {
             self.awaited.number += 1;
             self.awaited.moment = moment;
             let wait = Duration::from_nanos(moment.saturating_sub(self.ledger.record.now()));
-            after.alarm = Some((self.awaited.number, wait));
+            after.news().alarm = Some((self.awaited.number, wait));
         }
     }
 
@@ -501,8 +547,8 @@ impl Inner {
 
     /// Time passes up to a moment. Then the next alarm is asked for.
     pub(crate) fn pass(&mut self, moment: u64, after: &mut After) {
-        self.ledger.pass(moment, &mut after.told);
-        self.show_by(after, Inner::came_due);
+        self.ledger.pass(moment);
+        self.show_by(0, after, Inner::came_due);
         if let Some(next) = self.ledger.next_deadline() {
             self.await_alarm(next, after);
         }
@@ -522,11 +568,11 @@ impl Inner {
             Some(value) => Held::Value(value),
             None => Held::Error(Box::new(Error::TimedOut(limit.wait))),
         });
-        let came_due = held.is_some();
-        if let Some(held) = held {
-            self.hold(stage, held, after);
+        match held {
+            Some(held) => self.hold(stage, held, after),
+            None => return false,
         }
-        came_due
+        true
     }
 
     /// An alarm is never rung, so the stages fail that have deadlines.
@@ -545,34 +591,72 @@ impl Inner {
 
     // Working.
 
-    /// A step of a worker: what it has to do next, if something is ready. Before that it finishes what it did.
+    /// A step of a worker: the stage that it has to do next, if one is ready, its function, and what that is called with. Before that it finishes
+    /// the stage that it holds, of which this is kept.
     #[inline]
-    pub(crate) fn step(&mut self, core: &Arc<Core>, who: u8, ended: Option<(u16, Gave)>, after: &mut After) -> Option<Todo> {
-        let (held, holds) = match ended {
-            Some((stage, Gave::Stage(of, target))) => {
-                self.link(core, who, stage, of, target, after);
-                (None, Held::Nothing)
-            }
-            Some((stage, gave)) => {
-                let (answer, holds) = answered(stage, gave);
-                (Some((stage, answer)), holds)
-            }
-            None => (None, Held::Nothing),
+    pub(crate) fn step(&mut self, who: u8, held: Option<u16>, keeps: Held, with: &mut With, after: &mut After) -> Option<(u16, Call)> {
+        let taken = match (held, &keeps) {
+            // Most give a value. Where that is known, what the machine is handed is known but for the stage.
+            (Some(stage), Held::Value(_)) => self.go_on(who, stage, Answer::Give(Value::Int(i32::from(stage))), keeps, after),
+            (Some(stage), _) => self.go_on_without(who, stage, keeps, after),
+            (None, _) => self.ledger.begin(who),
         };
-        let (finished, taken) = self.ledger.step(who, held, &mut after.told);
-        if let (Some(finished), Some((stage, _))) = (finished, held) {
-            self.ended(stage, finished, holds, after);
+        let (stage, args) = match taken {
+            Some(taken) => taken,
+            None => {
+                // All that was ready by now was looked at.
+                self.is_more = false;
+                return None;
+            }
+        };
+        match args {
+            Args::One(value) => {
+                self.ledger.claimed(Args::One(value));
+                if with.of != Some(value) {
+                    with.becomes(Given::One(self.value(value)), Some(value));
+                }
+            }
+            args => self.give_more(stage, args, with),
         }
-        let (stage, args) = taken?;
+        Some((stage, self.call(stage)))
+    }
+
+    /// Finishes a stage, of which this is kept, and claims the next.
+    #[inline(always)]
+    fn go_on(&mut self, who: u8, stage: u16, answer: Answer, keeps: Held, after: &mut After) -> Option<(u16, Args)> {
+        let (finished, taken) = self.ledger.go_on(who, stage, answer);
+        self.ended(stage, finished, keeps, after);
+        taken
+    }
+
+    #[inline(never)]
+    fn go_on_without(&mut self, who: u8, stage: u16, keeps: Held, after: &mut After) -> Option<(u16, Args)> {
+        self.go_on(who, stage, answer_of(stage, &keeps), keeps, after)
+    }
+
+    #[inline(never)]
+    fn give_more(&mut self, stage: u16, args: Args, with: &mut With) {
         self.ledger.claimed(args);
-        Some(self.taken(stage, args))
+        let args = self.blaming(stage, args);
+        with.becomes(self.given(args), None);
+    }
+
+    /// The last step of a worker, which finishes the stage that it holds.
+    pub(crate) fn last(&mut self, who: u8, held: Option<u16>, keeps: Held, after: &mut After) {
+        if let Some(stage) = held {
+            self.answer(who, stage, answer_of(stage, &keeps), keeps, after);
+        }
+    }
+
+    fn taken(&mut self, stage: u16, args: Args) -> Todo {
+        let args = self.blaming(stage, args);
+        (stage, self.call(stage), args)
     }
 
     #[inline]
-    fn taken(&mut self, stage: u16, args: Args) -> Todo {
-        let args = self.blaming(stage, args);
+    fn call(&mut self, stage: u16) -> Call {
         match replace(&mut self.slot(stage).held, Held::Nothing) {
-            Held::Call(call) => (stage, call, args),
+            Held::Call(call) => call,
             _ => unreachable!("a stage that is ready has its function"),
         }
     }
@@ -591,8 +675,8 @@ impl Inner {
     }
 
     /// Claims a stage that is ready.
-    pub(crate) fn claim(&mut self, who: u8, stage: u16, after: &mut After) -> Todo {
-        match self.act(word::of(CLAIM, who, stage, 0), after) {
+    pub(crate) fn claim(&mut self, who: u8, stage: u16, _after: &mut After) -> Todo {
+        match self.ledger.act(word::of(CLAIM, who, stage, 0)) {
             Reply::Claimed(Claimed::Granted(args)) => self.taken(stage, args),
             _ => unreachable!("the stage is ready"),
         }
@@ -651,27 +735,31 @@ impl Inner {
         if let Gave::Stage(of, target) = gave {
             return self.link(core, who, stage, of, target, after);
         }
-        let (answer, holds) = answered(stage, gave);
+        let keeps = kept_of(gave);
+        self.answer(who, stage, answer_of(stage, &keeps), keeps, after);
+    }
+
+    /// Finishes a claimed stage, whose answer is kept so.
+    pub(crate) fn answer(&mut self, who: u8, stage: u16, answer: Answer, keeps: Held, after: &mut After) {
         let tail = match answer {
             Answer::Give(Value::Nil) => 0,
             Answer::Give(Value::Int(number)) => SOME | u64::from(number as u32),
             Answer::Throw(code) => THROWS | u64::from(code),
             Answer::Link(target) => LINKS | u64::from(target),
         };
-        if let Reply::Finished(finished) = self.act(word::of(FINISH, who, stage, tail), after) {
-            self.ended(stage, finished, holds, after);
+        if let Reply::Finished(finished) = self.ledger.act(word::of(FINISH, who, stage, tail)) {
+            self.ended(stage, finished, keeps, after);
         }
     }
 
     /// A function's answer was taken, or came too late.
     #[inline]
-    fn ended(&mut self, stage: u16, finished: Finished, holds: Held, after: &mut After) {
-        match (finished, holds) {
-            (Finished::Won, holds) => self.hold(stage, holds, after),
-            (_, Held::Nothing) => {}
-            (_, late) => after.dropped.push(late),
+    fn ended(&mut self, stage: u16, finished: Finished, keeps: Held, after: &mut After) {
+        match finished {
+            Finished::Won => self.hold(stage, keeps, after),
+            _ => Inner::let_drop(keeps, after),
         }
-        self.show(after);
+        self.show_each(after);
     }
 
     /// Finishes a composing stage with a link to the stage that its function gave, or to the relay that stands for that.
@@ -679,24 +767,24 @@ impl Inner {
         let is_own = Arc::ptr_eq(core, &of);
         let relay = stage - 1;
         let target = if is_own && number < stage { number } else { relay };
-        let reply = self.act(word::of(FINISH, who, stage, LINKS | u64::from(target)), after);
+        let reply = self.ledger.act(word::of(FINISH, who, stage, LINKS | u64::from(target)));
         self.show(after);
         // Who waits for this stage may have to run what it hangs on now.
-        after.wakers.append(&mut self.helpers);
+        after.news().wakers.append(&mut self.helpers);
         if reply != Reply::Finished(Finished::Won) || (is_own && target == number) {
             // It may be the other request's last handle.
-            after.dropped.push(Held::Core(of));
+            after.news().dropped.push(Held::Core(of));
             return;
         }
         if !is_own {
             self.names.insert(target, format!("relay of {number} of {}", of.name).into());
             self.let_go(Some(stage), vec![target]);
-            after.links.push((of, number, target));
+            after.news().links.push((of, number, target));
             return;
         }
         self.names.insert(target, format!("relay of {number}").into());
         self.slot(target).follows = true;
-        self.ledger.follow(target, number, &mut after.told);
+        self.ledger.follow(target, number);
         self.show(after);
     }
 
@@ -713,8 +801,8 @@ impl Inner {
 
     fn hire_one(&mut self, is_more: bool, may_hire: bool, after: &mut After) {
         let ready = self.ledger.ready();
-        if is_more && ready > 0 {
-            after.wakers.append(&mut self.helpers);
+        if is_more && ready > 0 && !self.helpers.is_empty() {
+            after.news().wakers.append(&mut self.helpers);
         }
         if ready > self.coming && may_hire {
             self.jobs += 1;
@@ -751,13 +839,47 @@ impl Inner {
     }
 }
 
-/// A function's answer as the ledger has it, and what is kept of it.
+/// What is kept of what a function gave.
 #[inline]
-fn answered(stage: u16, gave: Gave) -> (Answer, Held) {
+pub(crate) fn kept_of(gave: Gave) -> Held {
     match gave {
-        Gave::Value(Val::Nil) => (Answer::Give(Value::Nil), Held::Nothing),
-        Gave::Value(value) => (Answer::Give(Value::Int(i32::from(stage))), Held::Value(value)),
-        Gave::Error(error) => (Answer::Throw(u32::from(stage)), Held::Error(Box::new(error))),
+        Gave::Value(Val::Nil) => Held::Nothing,
+        Gave::Value(value) => Held::Value(value),
+        Gave::Error(error) => Held::Error(Box::new(error)),
         Gave::Stage(..) | Gave::Later(_) => unreachable!("a link and what comes later are no answers"),
+    }
+}
+
+/// The answer of a stage's function as the machine has it, by what is kept of it.
+#[inline]
+fn answer_of(stage: u16, keeps: &Held) -> Answer {
+    match keeps {
+        Held::Value(_) => Answer::Give(Value::Int(i32::from(stage))),
+        Held::Error(_) => Answer::Throw(u32::from(stage)),
+        _ => Answer::Give(Value::Nil),
+    }
+}
+
+/// What a worker's function is called with, and of which value that is, if it is one: the next may be called with the same, as where many take one
+/// value. Slots keep their values, so none is dropped here for the last time.
+pub(crate) struct With {
+    pub(crate) given: Given,
+    of: Option<Value>,
+}
+
+impl With {
+    pub(crate) fn nothing() -> With {
+        With { given: Given::Nothing, of: None }
+    }
+
+    #[inline]
+    fn becomes(&mut self, given: Given, of: Option<Value>) {
+        self.of = of;
+        if let Given::Nothing | Given::One(Val::Nil | Val::Small(_)) = self.given {
+            // Nothing in it is to be dropped, which would take a call.
+            forget(replace(&mut self.given, given));
+        } else {
+            self.given = given;
+        }
     }
 }

@@ -5,10 +5,10 @@ use crate::record::Record;
 use crate::spawn::CLOCK;
 use crate::word::{self, Form};
 use cf_graph::{
-    Answer, Args, Claimed, Finished, Ledger as Words, Limit, Outcome, Plan, PlanBuilder, Refused, Reply, Request, RequestSizes, State, Tale, Told,
-    Value,
+    Answer, Args, Finished, Ledger as Words, Limit, Outcome, Plan, PlanBuilder, Refused, Reply, Request, RequestSizes, State, Step, Tale, Told, Value,
 };
 use std::cell::RefCell;
+use std::mem::take;
 use std::sync::{Mutex, MutexGuard, PoisonError};
 
 /// How many stages a request can have.
@@ -19,7 +19,7 @@ const LANE: u8 = 0;
 
 pub(crate) struct Ledger {
     /// There until this is dropped.
-    machine: Option<Request>,
+    machine: Option<Box<Machine>>,
     /// For how many stages there was room at first.
     room: u16,
     pub(crate) stages: u16,
@@ -28,6 +28,13 @@ pub(crate) struct Ledger {
     pub(crate) record: Record,
     /// The last moment up to which time has passed for deadlines.
     passed: u64,
+}
+
+/// The machine, what its last call settled, and room for moments, while no request has it.
+struct Machine {
+    request: Request,
+    told: Told,
+    moments: Vec<u64>,
 }
 
 /// A word, what it was answered, and what it settled.
@@ -78,7 +85,7 @@ pub(crate) fn done_again(words: &[u64], stages: u16) -> Result<Vec<Replied>, Ref
 pub(crate) fn comes_again(words: &[u64], record: &Record, stages: u16) -> Result<bool, Refused> {
     let mut same = Record::default();
     for (_, reply, told) in done_again(words, stages)? {
-        same.event(reply);
+        same.reply(reply);
         told.into_iter().for_each(|(stage, outcome)| same.told(stage, outcome));
     }
     Ok(same.events() == record.events() && same.digest() == record.digest())
@@ -87,43 +94,68 @@ pub(crate) fn comes_again(words: &[u64], record: &Record, stages: u16) -> Result
 impl Ledger {
     pub(crate) fn new(room: u16) -> Result<Ledger, Refusal> {
         let room = room.clamp(1, MOST_STAGES);
-        let (room, machine) = kept(room).map_or_else(|| opened(room).map(|machine| (room, machine)), Ok).map_err(|_| Refusal::NoLedger)?;
-        Ok(Ledger { machine: Some(machine), room, stages: 0, relays: Vec::new(), record: Record::default(), passed: 0 })
+        let (room, mut machine) = kept(room).map_or_else(|| opened(room).map(|machine| (room, machine)), Ok).map_err(|_| Refusal::NoLedger)?;
+        let record = Record::over(take(&mut machine.moments));
+        Ok(Ledger { machine: Some(machine), room, stages: 0, relays: Vec::new(), record, passed: 0 })
     }
 
     #[inline]
-    fn machine(&mut self) -> &mut Request {
+    fn machine(&mut self) -> &mut Machine {
         self.machine.as_mut().expect("it is there until this is dropped")
+    }
+
+    /// How many stages the last call settled.
+    #[inline]
+    pub(crate) fn settled(&self) -> usize {
+        self.machine.as_ref().map_or(0, |machine| machine.told.len())
+    }
+
+    /// A stage that the last call settled, by its place among these.
+    #[inline]
+    pub(crate) fn settled_at(&mut self, at: usize) -> (u16, Outcome) {
+        self.machine().told.at(at)
     }
 
     /// Does the event of a word, and writes down what it was answered.
     #[inline]
-    pub(crate) fn act(&mut self, word: u64, told: &mut Told) -> Reply {
-        let reply = self.machine().apply(word, LANE, told).expect("memory for a word");
-        self.record.event(reply);
+    pub(crate) fn act(&mut self, word: u64) -> Reply {
+        let Machine { request, told, .. } = self.machine();
+        let reply = request.apply(word, LANE, told).expect("memory for a word");
+        self.record.reply(reply);
         reply
     }
 
-    /// Finishes what a caller holds, if it holds a stage, and claims the lowest ready stage, if there is one. What the finish was answered is written
-    /// down, and what was claimed is to be, by [`claimed`](Ledger::claimed), behind what the finish settled.
-    #[inline]
-    pub(crate) fn step(&mut self, who: u8, held: Option<(u16, Answer)>, told: &mut Told) -> (Option<Finished>, Option<(u16, Args)>) {
-        let step = self.machine().next(who, LANE, held, told).expect("memory for two words, and an open claim of what is held");
-        if let Some(finished) = step.finished {
-            self.record.event(Reply::Finished(finished));
-        }
-        (step.finished, step.taken.map(|taken| (taken.stage, taken.args)))
+    /// Claims the lowest ready stage, if there is one. What was claimed is to be written down by [`claimed`](Ledger::claimed).
+    pub(crate) fn begin(&mut self, who: u8) -> Option<(u16, Args)> {
+        self.step(who, None).taken.map(|taken| (taken.stage, taken.args))
+    }
+
+    /// Finishes the stage that a caller holds, writes down what that was answered, and claims the lowest ready stage, if there is one. What was
+    /// claimed is to be written down behind what the finish settled, by [`claimed`](Ledger::claimed).
+    #[inline(always)]
+    pub(crate) fn go_on(&mut self, who: u8, stage: u16, answer: Answer) -> (Finished, Option<(u16, Args)>) {
+        let step = self.step(who, Some((stage, answer)));
+        let finished = step.finished.expect("a stage is held");
+        self.record.finished(finished);
+        (finished, step.taken.map(|taken| (taken.stage, taken.args)))
+    }
+
+    #[inline(always)]
+    fn step(&mut self, who: u8, held: Option<(u16, Answer)>) -> Step {
+        let Machine { request, told, .. } = self.machine();
+        request.next(who, LANE, held, told).expect("memory for two words, and an open claim of what is held")
     }
 
     /// Writes down what a claim was granted with.
     #[inline]
     pub(crate) fn claimed(&mut self, args: Args) {
-        self.record.event(Reply::Claimed(Claimed::Granted(args)));
+        self.record.claimed(args);
     }
 
     /// Lets a stage end as another one does.
-    pub(crate) fn follow(&mut self, relay: u16, stage: u16, told: &mut Told) {
-        self.machine().follow(relay, stage, told).expect("memory for a relay");
+    pub(crate) fn follow(&mut self, relay: u16, stage: u16) {
+        let Machine { request, told, .. } = self.machine();
+        request.follow(relay, stage, told).expect("memory for a relay");
         self.relays.push((relay, stage));
     }
 
@@ -136,39 +168,40 @@ impl Ledger {
     /// Sets a deadline of a stage, at which that gets the value of its own number, or times out.
     pub(crate) fn deadline(&mut self, stage: u16, moment: u64, gives: bool) {
         let limit = if gives { Limit::Give(Value::Int(i32::from(stage))) } else { Limit::Timeout };
-        self.machine().deadline(stage, moment, limit).expect("memory for a deadline");
+        self.machine().request.deadline(stage, moment, limit).expect("memory for a deadline");
     }
 
     /// Lets time pass up to a moment. A clock may have told of a later one by now.
-    pub(crate) fn pass(&mut self, moment: u64, told: &mut Told) {
+    pub(crate) fn pass(&mut self, moment: u64) {
         let passed = self.passed.max(moment);
         self.passed = passed;
-        self.machine().pass(passed, told).expect("memory for what is due");
+        let Machine { request, told, .. } = self.machine();
+        request.pass(passed, told).expect("memory for what is due");
     }
 
     /// The moment of the deadline that comes next.
     pub(crate) fn next_deadline(&mut self) -> Option<u64> {
-        self.machine().next_deadline().expect("the machine is there").map(|next| next.moment)
+        self.machine().request.next_deadline().expect("the machine is there").map(|next| next.moment)
     }
 
     /// Writes down an event by which a call settled a stage, beside the one that it was asked for.
-    pub(crate) fn settled(&mut self) {
-        self.record.event(Reply::Flag(true));
+    pub(crate) fn settled_beside(&mut self) {
+        self.record.flag(true);
     }
 
     /// How many stages are ready.
     #[inline]
     pub(crate) fn ready(&mut self) -> usize {
-        usize::from(self.machine().ready(LANE).expect("the lane is there"))
+        usize::from(self.machine().request.ready(LANE).expect("the lane is there"))
     }
 
     /// The lowest stage from a number on that is ready.
     pub(crate) fn lowest_ready(&mut self, from: u16) -> Option<u16> {
-        self.machine().lowest_ready(from).expect("the machine is there")
+        self.machine().request.lowest_ready(from).expect("the machine is there")
     }
 
     pub(crate) fn is_ready(&mut self, stage: u16) -> bool {
-        self.machine().stage(stage).expect("the stage is there").state == State::Ready
+        self.machine().request.stage(stage).expect("the stage is there").state == State::Ready
     }
 
     /// Writes down that a stage was settled by the last event.
@@ -179,30 +212,33 @@ impl Ledger {
 
     /// Attaches a stage, whose function has the stage's own number, and gives the number.
     #[inline]
-    pub(crate) fn attach(&mut self, who: u8, form: Form, of: &[u16], has_function: bool, told: &mut Told) -> Result<u16, Refusal> {
+    pub(crate) fn attach(&mut self, who: u8, form: Form, of: &[u16], has_function: bool) -> Result<u16, Refusal> {
         let number = self.stages;
         if number == MOST_STAGES {
             return Err(Refusal::Full);
         }
         let word = word::attach(who, form, of, if has_function { number } else { 0 });
-        let mut applied = self.machine().apply(word, LANE, told);
+        let Machine { request, told, .. } = self.machine();
+        let mut applied = request.apply(word, LANE, told);
         if applied == Err(Refused::NO_ROOM) {
-            self.machine().grow().map_err(|_| Refusal::NoLedger)?;
-            applied = self.machine().apply(word, LANE, told);
+            request.grow().map_err(|_| Refusal::NoLedger)?;
+            applied = request.apply(word, LANE, told);
         }
-        self.record.event(applied.expect("memory for a word"));
+        applied.expect("memory for a word");
+        self.record.attached(number);
         self.stages = number + 1;
         Ok(number)
     }
 
     /// Attaches stages that wait for all of these or for one of them, and gives the number of the last.
-    pub(crate) fn gather(&mut self, who: u8, form: cf_graph::Form, of: &[u16], told: &mut Told) -> Result<u16, Refusal> {
+    pub(crate) fn gather(&mut self, who: u8, form: cf_graph::Form, of: &[u16]) -> Result<u16, Refusal> {
         if of.len() > usize::from(self.left()) + 1 || self.left() == 0 {
             return Err(Refusal::Full);
         }
+        let Machine { request, told, .. } = self.machine();
         let root = loop {
-            match self.machine().gather(who, form, of, told) {
-                Err(Refused::NO_ROOM) => self.machine().grow().map_err(|_| Refusal::NoLedger)?,
+            match request.gather(who, form, of, told) {
+                Err(Refused::NO_ROOM) => request.grow().map_err(|_| Refusal::NoLedger)?,
                 gathered => break gathered.expect("memory for words"),
             }
         };
@@ -212,7 +248,7 @@ impl Ledger {
 
     /// Writes down that a stage was attached with others.
     pub(crate) fn gathered(&mut self, stage: u16) {
-        self.record.event(Reply::Attached(Some(stage)));
+        self.record.attached(stage);
     }
 
     /// How many stages can be attached yet.
@@ -236,7 +272,7 @@ impl Ledger {
     }
 
     pub(crate) fn words(&mut self) -> Vec<u64> {
-        self.machine().words().expect("the words are there")
+        self.machine().request.words().expect("the words are there")
     }
 }
 
@@ -247,8 +283,12 @@ impl Drop for Ledger {
         let machine = self.machine.take().filter(|_| is_small);
         let _ = KEPT.try_with(|kept| {
             let mut kept = kept.borrow_mut();
-            let machine = machine.filter(|_| kept.len() < MOST_KEPT);
-            kept.extend(machine.and_then(|mut machine| machine.restart().ok().map(|()| (room, machine))));
+            if let Some(mut machine) = machine.filter(|_| kept.len() < MOST_KEPT) {
+                if machine.request.restart().is_ok() {
+                    machine.moments = self.record.room();
+                    kept.push((room, machine));
+                }
+            }
         });
     }
 }
@@ -258,12 +298,12 @@ const MOST_KEPT: usize = 8;
 
 thread_local! {
     /// The machines of requests that ended on this thread, and their rooms.
-    static KEPT: RefCell<Vec<(u16, Request)>> = const { RefCell::new(Vec::new()) };
+    static KEPT: RefCell<Vec<(u16, Box<Machine>)>> = const { RefCell::new(Vec::new()) };
 }
 
 /// A machine that was kept, with room for so many stages or more.
-fn kept(room: u16) -> Option<(u16, Request)> {
-    let taken = |kept: &RefCell<Vec<(u16, Request)>>| {
+fn kept(room: u16) -> Option<(u16, Box<Machine>)> {
+    let taken = |kept: &RefCell<Vec<(u16, Box<Machine>)>>| {
         let mut kept = kept.borrow_mut();
         let at = kept.iter().rposition(|it| it.0 >= room)?;
         Some(kept.swap_remove(at))
@@ -272,11 +312,12 @@ fn kept(room: u16) -> Option<(u16, Request)> {
 }
 
 /// A machine of no stages, which settles what it settles by itself as the clock.
-fn opened(room: u16) -> Result<Request, Refused> {
-    match nothing()?.as_mut() {
-        Some(plan) => Request::new(plan, RequestSizes { room, lanes: LANE + 1, own: CLOCK }, &[]),
-        None => Err(Refused::NO_MEMORY),
-    }
+fn opened(room: u16) -> Result<Box<Machine>, Refused> {
+    let request = match nothing()?.as_mut() {
+        Some(plan) => Request::new(plan, RequestSizes { room, lanes: LANE + 1, own: CLOCK }, &[])?,
+        None => return Err(Refused::NO_MEMORY),
+    };
+    Ok(Box::new(Machine { request, told: Told::default(), moments: Vec::new() }))
 }
 
 #[cfg(test)]
@@ -284,8 +325,8 @@ mod tests {
     use super::*;
     use crate::word::{CANCEL, COMPLETE, SOME};
 
-    fn promise(ledger: &mut Ledger, told: &mut Told) -> Result<u16, Refusal> {
-        ledger.attach(0, Form::Source, &[], false, told)
+    fn promise(ledger: &mut Ledger) -> Result<u16, Refusal> {
+        ledger.attach(0, Form::Source, &[], false)
     }
 
     /// A few small ones, which are as they were opened.
@@ -295,21 +336,24 @@ mod tests {
         let count = || KEPT.with(|kept| kept.borrow().len());
         drop(many(SLOTS + 1));
         assert_eq!(count(), 0);
-        let (mut ledgers, mut told) = (many(4), Told::default());
+        let mut ledgers = many(4);
         for ledger in &mut ledgers {
-            promise(ledger, &mut told).unwrap();
-            assert_eq!(ledger.words().len(), 1);
+            promise(ledger).unwrap();
+            ledger.record.go_on(1);
+            promise(ledger).unwrap();
+            ledger.record.go_on(2);
+            assert_eq!((ledger.words().len(), ledger.record.events()), (2, 2));
         }
         drop(ledgers);
         assert_eq!(count(), MOST_KEPT);
         let mut again = Ledger::new(3).unwrap();
-        assert_eq!((count(), again.room, again.words()), (MOST_KEPT - 1, 4, Vec::new()));
+        assert_eq!((count(), again.room, again.words(), again.record.events()), (MOST_KEPT - 1, 4, Vec::new(), 0));
         let large = Ledger::new(5).unwrap();
         assert_eq!((count(), large.room), (MOST_KEPT - 1, 5));
         for _ in 0..SLOTS {
-            promise(&mut again, &mut told).unwrap();
+            promise(&mut again).unwrap();
         }
-        assert_eq!(promise(&mut again, &mut told), Ok(SLOTS));
+        assert_eq!(promise(&mut again), Ok(SLOTS));
         drop(again);
         assert_eq!(count(), MOST_KEPT - 1);
         drop(large);
@@ -319,20 +363,23 @@ mod tests {
     /// What another ledger would tell of the same words, or this one of others.
     #[test]
     fn what_differs_does_not_come_again() {
-        let (mut ledger, mut told) = (Ledger::new(2).unwrap(), Told::default());
+        let mut ledger = Ledger::new(2).unwrap();
         for _ in 0..2 {
-            promise(&mut ledger, &mut told).unwrap();
+            promise(&mut ledger).unwrap();
         }
         for word in [word::of(COMPLETE, 0, 0, SOME), word::of(COMPLETE, 0, 0, SOME | 1), word::of(CANCEL, 0, 1, 0)] {
-            ledger.act(word, &mut told);
-            told.iter().for_each(|(stage, outcome)| ledger.told(stage, outcome));
+            ledger.act(word);
+            for at in 0..ledger.settled() {
+                let (stage, outcome) = ledger.settled_at(at);
+                ledger.told(stage, outcome);
+            }
         }
         let (words, replies) = (ledger.words(), done_again(&ledger.words(), 2).unwrap());
         assert!(words.len() == 5 && comes_again(&words, &ledger.record, 2).unwrap());
         let comes = |words: &[u64], replies: &[Replied]| {
             let mut record = Record::default();
             for (_, reply, told) in replies {
-                record.event(*reply);
+                record.reply(*reply);
                 told.iter().for_each(|(stage, outcome)| record.told(*stage, *outcome));
             }
             comes_again(words, &record, 2).unwrap_or(false)

@@ -5,23 +5,34 @@ use std::mem::take;
 
 #[derive(Clone, Debug, Default)]
 pub(crate) struct Record {
-    /// Of each moment at which there were events, but for the last one, how much later it was than the one before, and how many events there
-    /// were.
-    moments: Vec<Moment>,
+    /// Of each moment at which there were events, but for the last one, how much later it was than the one before, and in the lowest bits how many
+    /// events there were, or 0 where there follows more of it.
+    moments: Vec<u64>,
     /// The last one of these moments.
     before: u64,
     /// The moment of what is done at present, in nanoseconds since the request began, and how many events there were at it.
     now: u64,
-    lately: u32,
+    lately: u64,
     told: Digest,
 }
 
-/// The lower and the upper half of so many nanoseconds, and how many events. Where there are none, it is so many seconds.
-type Moment = [u16; 3];
-
-const SECOND: u64 = 1_000_000_000;
+/// How many bits say how many events there were, the most that they say, and the longest while that the others do.
+const BITS: u32 = 16;
+const MOST: u64 = (1 << BITS) - 1;
+const LONGEST: u64 = u64::MAX >> BITS;
 
 impl Record {
+    /// Of no events, with this room.
+    pub(crate) fn over(moments: Vec<u64>) -> Record {
+        Record { moments, ..Record::default() }
+    }
+
+    /// The room that it had.
+    pub(crate) fn room(&mut self) -> Vec<u64> {
+        self.moments.clear();
+        take(&mut self.moments)
+    }
+
     /// It is this moment now, or a later one if there was one.
     #[inline]
     pub(crate) fn go_on(&mut self, now: u64) {
@@ -38,18 +49,54 @@ impl Record {
         self.now
     }
 
-    /// An event that is done now.
+    // Events that are done now, by what they are answered.
+
     #[inline]
-    pub(crate) fn event(&mut self, reply: Reply) {
+    pub(crate) fn flag(&mut self, did: bool) {
+        self.event(1, u32::from(did));
+    }
+
+    #[inline]
+    pub(crate) fn attached(&mut self, stage: u16) {
+        self.event(2, u32::from(stage));
+    }
+
+    #[inline]
+    pub(crate) fn finished(&mut self, finished: Finished) {
+        self.event(3, finished as u32);
+    }
+
+    #[inline]
+    pub(crate) fn claimed(&mut self, args: Args) {
         self.lately += 1;
-        self.told.reply(reply);
+        self.told.args(args);
+    }
+
+    /// An event that is answered so.
+    #[inline]
+    pub(crate) fn reply(&mut self, reply: Reply) {
+        match reply {
+            Reply::Flag(did) => self.flag(did),
+            Reply::Attached(Some(stage)) => self.attached(stage),
+            Reply::Finished(finished) => self.finished(finished),
+            Reply::Claimed(Claimed::Granted(args)) => self.claimed(args),
+            Reply::Attached(None) => self.event(4, 0),
+            Reply::Claimed(claimed) => self.event(5, matches!(claimed, Claimed::Settled) as u32 + 2 * matches!(claimed, Claimed::Taken) as u32),
+            Reply::Ticked(Ticked::Fired(limits)) => self.event(6, limits),
+            Reply::Ticked(Ticked::Past) => self.event(7, 0),
+        }
+    }
+
+    #[inline]
+    fn event(&mut self, kind: u8, number: u32) {
+        self.lately += 1;
+        self.told.number(0, kind, number);
     }
 
     /// A stage that the last event settled.
     #[inline]
     pub(crate) fn told(&mut self, stage: u16, outcome: Outcome) {
-        self.told.add(u64::from(stage));
-        self.told.outcome(outcome);
+        self.told.outcome(stage, outcome);
     }
 
     /// What callers were told, as a number. What was told otherwise has another one.
@@ -57,44 +104,57 @@ impl Record {
         self.told.0
     }
 
+    #[inline]
     fn write_moment(&mut self) {
-        let mut since = self.now - self.before;
-        if since > u64::from(u32::MAX) {
-            self.write(since / SECOND, 0);
-            since %= SECOND;
+        if self.now - self.before > LONGEST || self.lately > MOST {
+            self.write_parts();
         }
-        while self.lately > u32::from(u16::MAX) {
-            self.write(take(&mut since), u16::MAX);
-            self.lately -= u32::from(u16::MAX);
-        }
-        self.write(since, self.lately as u16);
+        self.write((self.now - self.before) << BITS | self.lately);
         self.before = self.now;
         self.lately = 0;
     }
 
-    /// The row grows by a quarter, since there are many that grow no more.
-    #[inline]
-    fn write(&mut self, number: u64, count: u16) {
-        if self.moments.len() == self.moments.capacity() {
-            self.moments.reserve_exact(16 + self.moments.len() / 4);
+    /// Writes down what one row can't hold, so that one is enough for what is left.
+    #[cold]
+    fn write_parts(&mut self) {
+        while self.now - self.before > LONGEST {
+            self.write(LONGEST << BITS);
+            self.before += LONGEST;
         }
-        self.moments.push([number as u16, (number >> 16) as u16, count]);
+        while self.lately > MOST {
+            self.write((self.now - self.before) << BITS | MOST);
+            self.before = self.now;
+            self.lately -= MOST;
+        }
+    }
+
+    #[inline]
+    fn write(&mut self, moment: u64) {
+        if self.moments.len() == self.moments.capacity() {
+            self.make_room();
+        }
+        self.moments.push(moment);
+    }
+
+    /// The row grows by a quarter, since there are many that grow no more.
+    #[cold]
+    fn make_room(&mut self) {
+        self.moments.reserve_exact(16 + self.moments.len() / 4);
     }
 
     /// The moment of each event.
     pub(crate) fn times(&self) -> impl Iterator<Item = u64> + '_ {
         let mut at = 0;
-        let written = self.moments.iter().map(move |&[low, high, count]| {
-            let number = u64::from(high) << 16 | u64::from(low);
-            at += if count > 0 { number } else { number * SECOND };
-            (at, count)
+        let written = self.moments.iter().map(move |moment| {
+            at += moment >> BITS;
+            (at, moment & MOST)
         });
-        written.map(|(at, count)| (at, u32::from(count))).chain([(self.now, self.lately)]).flat_map(|(at, count)| (0..count).map(move |_| at))
+        written.chain([(self.now, self.lately)]).flat_map(|(at, count)| (0..count).map(move |_| at))
     }
 
     /// How many events there were.
     pub(crate) fn events(&self) -> usize {
-        self.moments.iter().map(|moment| usize::from(moment[2])).sum::<usize>() + self.lately as usize
+        (self.moments.iter().map(|moment| moment & MOST).sum::<u64>() + self.lately) as usize
     }
 }
 
@@ -108,46 +168,32 @@ impl Digest {
         self.0 = (self.0.rotate_left(23) ^ number).wrapping_add(1).wrapping_mul(0x9e37_79b9_7f4a_7c15);
     }
 
-    /// A number of some kind.
+    /// A number of some kind, of a stage or of none.
     #[inline]
-    fn number(&mut self, kind: u8, number: u32) {
-        self.add(u64::from(kind) << 32 | u64::from(number));
-    }
-
-    #[inline]
-    fn reply(&mut self, reply: Reply) {
-        match reply {
-            Reply::Flag(did) => self.number(1, u32::from(did)),
-            Reply::Attached(Some(stage)) => self.number(2, u32::from(stage)),
-            Reply::Attached(None) => self.number(3, 0),
-            Reply::Finished(finished) => self.number(4, matches!(finished, Finished::Won) as u32 + 2 * matches!(finished, Finished::Late) as u32),
-            Reply::Claimed(Claimed::Granted(args)) => self.args(args),
-            Reply::Claimed(claimed) => self.number(5, matches!(claimed, Claimed::Settled) as u32 + 2 * matches!(claimed, Claimed::Taken) as u32),
-            Reply::Ticked(Ticked::Fired(limits)) => self.number(6, limits),
-            Reply::Ticked(Ticked::Past) => self.number(7, 0),
-        }
+    fn number(&mut self, stage: u16, kind: u8, number: u32) {
+        self.add(u64::from(stage) << 40 | u64::from(kind) << 32 | u64::from(number));
     }
 
     #[inline]
     fn args(&mut self, args: Args) {
         match args {
-            Args::None => self.number(8, 0),
-            Args::One(value) => self.value(9, value),
+            Args::None => self.number(0, 8, 0),
+            Args::One(value) => self.value(0, 9, value),
             Args::Two(first, second) => {
-                self.value(11, first);
-                self.value(13, second);
+                self.value(0, 11, first);
+                self.value(0, 13, second);
             }
             Args::Got(outcome) => {
-                self.number(15, 0);
-                self.outcome(outcome);
+                self.number(0, 15, 0);
+                self.outcome(0, outcome);
             }
         }
     }
 
     #[inline]
-    fn outcome(&mut self, outcome: Outcome) {
+    fn outcome(&mut self, stage: u16, outcome: Outcome) {
         match outcome {
-            Outcome::Value(value) => self.value(16, value),
+            Outcome::Value(value) => self.value(stage, 16, value),
             Outcome::Fault { cause, wrapped } => {
                 let (kind, code) = match cause {
                     Cause::Thrown(code) => (18, code),
@@ -155,17 +201,17 @@ impl Digest {
                     Cause::TimedOut => (22, 0),
                     Cause::BadAnswer => (24, 0),
                 };
-                self.number(kind + u8::from(wrapped), code);
+                self.number(stage, kind + u8::from(wrapped), code);
             }
         }
     }
 
     /// A value, by this kind or the next one.
     #[inline]
-    fn value(&mut self, kind: u8, value: Value) {
+    fn value(&mut self, stage: u16, kind: u8, value: Value) {
         match value {
-            Value::Nil => self.number(kind, 0),
-            Value::Int(number) => self.number(kind + 1, number as u32),
+            Value::Nil => self.number(stage, kind, 0),
+            Value::Int(number) => self.number(stage, kind + 1, number as u32),
         }
     }
 }
@@ -179,26 +225,26 @@ mod tests {
     fn times_are_read_as_they_were_written() {
         let (mut record, mut wanted, mut at) = (Record::default(), Vec::new(), 0);
         for k in 0..2000_u64 {
-            // Up to a day.
-            at += if k % 3 == 0 { 1 << (k % 47) } else { 0 };
+            // Up to a week.
+            at += if k % 3 == 0 { 1 << (k % 50) } else { 0 };
             record.go_on(at);
-            record.event(Reply::Flag(true));
+            record.flag(true);
             wanted.push(at);
             // A clock that goes back has stood.
             if k % 500 == 1 {
                 record.go_on(at - 1);
-                record.event(Reply::Flag(true));
+                record.flag(true);
                 wanted.push(at);
             }
         }
         // More at one moment than a number says.
         for _ in 0..70_000 {
-            record.event(Reply::Flag(true));
+            record.flag(true);
             wanted.push(at);
         }
         assert_eq!(record.times().collect::<Vec<_>>(), wanted);
         record.go_on(at + 5);
-        record.event(Reply::Flag(true));
+        record.flag(true);
         wanted.push(at + 5);
         assert_eq!(record.times().collect::<Vec<_>>(), wanted);
         assert_eq!((record.events(), Record::default().events(), Record::default().times().count()), (wanted.len(), 0, 0));
@@ -231,14 +277,14 @@ mod tests {
         };
         has_another(&|_| {});
         for first in &replies {
-            has_another(&|record| record.event(*first));
+            has_another(&|record| record.reply(*first));
             for second in &replies {
-                has_another(&|record| [first, second].into_iter().for_each(|reply| record.event(*reply)));
+                has_another(&|record| [first, second].into_iter().for_each(|reply| record.reply(*reply)));
             }
             for (stage, outcome) in outcomes.iter().enumerate() {
                 for stage in [stage as u16, stage as u16 + 1] {
                     has_another(&|record| {
-                        record.event(*first);
+                        record.reply(*first);
                         record.told(stage, *outcome);
                     });
                 }

@@ -74,7 +74,7 @@
 //! there is none. Where there is none, the call gives a handle of a stage that has failed with `Refusal::Full`: its `at` is an
 //! error, and nothing was attached.
 //!
-//! **Which code calls a user's.** `Core::called` (a stage's function), `Polling::poll` (a future), `Core::tell` (wakers, and the
+//! **Which code calls a user's.** `Core::work` and `Core::help_by` (a stage's function), `Polling::poll` (a future), `Core::tell` (wakers, and the
 //! `Drop` of values, functions, errors and futures), `Core::spawn` (`Spawn::spawn`), `Core::now` and `Core::tell` (`Clock`),
 //! `Core::poll` (cloning and dropping a waker), and histories and `Debug` (`Describe`, `Display` of errors).
 use crate::core::Core;
@@ -115,14 +115,34 @@ use std::time::{Duration, Instant};
 pub struct Stage<T> {
     pub(crate) core: Arc<Core>,
     pub(crate) at: Result<u16, Refusal>,
-    /// Where the waker of this handle is kept.
-    key: Option<u32>,
+    waits: Waits,
     of: PhantomData<fn() -> T>,
+}
+
+/// Where the waker of a handle is kept, once that has waited: its request, its stage, and the place. It is forgotten with the handle.
+struct Waits(Option<(Arc<Core>, u16, u32)>);
+
+impl Waits {
+    #[cold]
+    fn forget(&mut self) {
+        if let Some((core, number, place)) = self.0.take() {
+            core.forget(number, place);
+        }
+    }
+}
+
+impl Drop for Waits {
+    #[inline]
+    fn drop(&mut self) {
+        if self.0.is_some() {
+            self.forget();
+        }
+    }
 }
 
 impl<T> Stage<T> {
     pub(crate) fn new(core: &Arc<Core>, at: Result<u16, Refusal>) -> Stage<T> {
-        Stage { core: Arc::clone(core), at, key: None, of: PhantomData }
+        Stage { core: Arc::clone(core), at, waits: Waits(None), of: PhantomData }
     }
 
     /// Its number in the request's history. A stage that was refused has none.
@@ -254,10 +274,16 @@ impl<T> Stage<T> {
 
     pub(crate) fn poll_value(&mut self, cx: &mut Context<'_>) -> Poll<Result<Val, Error>> {
         self.reads();
-        match self.at {
-            Ok(number) => self.core.poll(number, &mut self.key, cx.waker()),
-            Err(why) => Poll::Ready(Err(why.into())),
+        let number = match self.at {
+            Ok(number) => number,
+            Err(why) => return Poll::Ready(Err(why.into())),
+        };
+        let before = self.waits.0.as_ref().map(|(_, _, place)| *place);
+        let (polled, place) = self.core.poll(number, before, cx.waker());
+        if let (None, Some(place)) = (before, place) {
+            self.waits.0 = Some((Arc::clone(&self.core), number, place));
         }
+        polled
     }
 
     fn wait_value(&self, wait: Option<Duration>) -> Option<Result<Val, Error>> {
@@ -305,8 +331,11 @@ impl<T> Stage<T> {
 
     // Attaching.
 
-    fn behind<U>(&self, form: Form, call: Call, made: Made) -> Stage<U> {
-        Stage::new(&self.core, self.at.and_then(|number| self.core.attach(here(), form, &[number], Some(call), made)))
+    fn behind<U>(self, form: Form, call: Call, made: Made) -> Stage<U> {
+        let Stage { core, at, waits, .. } = self;
+        let at = behind(&core, at, form, call, made);
+        drop(waits);
+        Stage { core, at, waits: Waits(None), of: PhantomData }
     }
 
     fn behind_both<O: Send + Sync + 'static, U>(&self, form: Form, other: &Stage<O>, call: Call, made: Made) -> Stage<U> {
@@ -321,6 +350,11 @@ impl<T> Stage<T> {
     fn composing<U>(&self, form: Form, call: Call, made: Made) -> Stage<U> {
         Stage::new(&self.core, self.at.and_then(|number| self.core.attach_composing(here(), form, number, call, made)))
     }
+}
+
+/// A stage of this form behind one.
+fn behind(core: &Arc<Core>, at: Result<u16, Refusal>, form: Form, call: Call, made: Made) -> Result<u16, Refusal> {
+    core.attach(here(), form, &[at?], Some(call), made)
 }
 
 /// What wakes a thread that waits.
@@ -361,7 +395,7 @@ impl Wake for Parked {
 }
 
 impl<T: Send + Sync + 'static> Stage<T> {
-    /// What the function gives of the value. Attaching takes about 0.3 µs, and the claim and the finish of a function 0.4.
+    /// What the function gives of the value. Attaching takes about 0.1 µs, and the claim and the finish of a function 0.25.
     ///
     /// ```
     /// let request = cf::Request::new("order 17", cf::Inline);
@@ -725,14 +759,6 @@ impl<T> Drop for CancelOnDrop<T> {
 impl<T> Clone for Stage<T> {
     fn clone(&self) -> Stage<T> {
         Stage::new(&self.core, self.at)
-    }
-}
-
-impl<T> Drop for Stage<T> {
-    fn drop(&mut self) {
-        if let (Ok(number), Some(key)) = (self.at, self.key) {
-            self.core.forget(number, key);
-        }
     }
 }
 

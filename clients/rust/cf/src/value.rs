@@ -6,58 +6,106 @@ use std::future::Future;
 use std::pin::Pin;
 use std::sync::Arc;
 
-macro_rules! values {
+/// A value of any type. Numbers and the like are kept in place, and take no memory of their own.
+#[derive(Clone)]
+pub(crate) enum Val {
+    Nil,
+    Small(Small),
+    Shared(Arc<dyn Shared>),
+}
+
+macro_rules! small {
     ($($kind:ident $type:ty),*) => {
-        /// A value of any type. Numbers and the like are kept in place, and take no memory of their own.
-        #[derive(Clone)]
-        pub(crate) enum Val {
-            Nil,
+        /// A value that is copied as it is.
+        #[derive(Clone, Copy)]
+        pub(crate) enum Small {
             $($kind($type),)*
-            Shared(Arc<dyn Shared>),
         }
 
-        impl Val {
+        impl Small {
             #[inline]
-            pub(crate) fn of<T: Send + Sync + 'static>(value: T) -> Val {
-                let any: &dyn Any = &value;
-                if any.is::<()>() {
-                    return Val::Nil;
-                }
+            fn of(any: &dyn Any) -> Option<Small> {
                 $(
                     if let Some(small) = any.downcast_ref::<$type>() {
-                        return Val::$kind(*small);
+                        return Some(Small::$kind(*small));
                     }
                 )*
-                Val::Shared(Arc::new(value))
+                None
             }
 
             #[inline]
-            pub(crate) fn any(&self) -> &dyn Any {
+            fn any(&self) -> &dyn Any {
                 match self {
-                    Val::Nil => &(),
-                    $(Val::$kind(small) => small,)*
-                    Val::Shared(value) => (**value).any(),
+                    $(Small::$kind(small) => small,)*
                 }
+            }
+
+            /// The value, if it is of this type.
+            #[inline]
+            fn get<T: 'static>(&self) -> Option<&T> {
+                let mut found = None;
+                $(
+                    // Which type it is asked for is known as this is compiled, so one of these is left.
+                    if let Small::$kind(small) = self {
+                        found = (small as &dyn Any).downcast_ref();
+                    }
+                )*
+                found
             }
 
             fn shared(self) -> Arc<dyn Any + Send + Sync> {
                 match self {
-                    Val::Nil => Arc::new(()),
-                    $(Val::$kind(small) => Arc::new(small),)*
-                    Val::Shared(value) => value.shared(),
+                    $(Small::$kind(small) => Arc::new(small),)*
                 }
             }
 
-            /// The name of its type.
-            pub(crate) fn type_name(&self) -> &'static str {
+            fn type_name(&self) -> &'static str {
                 match self {
-                    Val::Nil => "()",
-                    $(Val::$kind(_) => stringify!($type),)*
-                    Val::Shared(value) => (**value).type_name(),
+                    $(Small::$kind(_) => stringify!($type),)*
                 }
             }
         }
     };
+}
+
+impl Val {
+    #[inline]
+    pub(crate) fn of<T: Send + Sync + 'static>(value: T) -> Val {
+        let any: &dyn Any = &value;
+        if any.is::<()>() {
+            return Val::Nil;
+        }
+        match Small::of(any) {
+            Some(small) => Val::Small(small),
+            None => Val::Shared(Arc::new(value)),
+        }
+    }
+
+    #[inline]
+    pub(crate) fn any(&self) -> &dyn Any {
+        match self {
+            Val::Nil => &(),
+            Val::Small(small) => small.any(),
+            Val::Shared(value) => (**value).any(),
+        }
+    }
+
+    fn shared(self) -> Arc<dyn Any + Send + Sync> {
+        match self {
+            Val::Nil => Arc::new(()),
+            Val::Small(small) => small.shared(),
+            Val::Shared(value) => value.shared(),
+        }
+    }
+
+    /// The name of its type.
+    pub(crate) fn type_name(&self) -> &'static str {
+        match self {
+            Val::Nil => "()",
+            Val::Small(small) => small.type_name(),
+            Val::Shared(value) => (**value).type_name(),
+        }
+    }
 }
 
 /// A value of any type, which knows the type's name.
@@ -82,7 +130,7 @@ impl<T: Send + Sync + 'static> Shared for T {
     }
 }
 
-values!(Bool bool, Char char, I8 i8, U8 u8, I16 i16, U16 u16, I32 i32, U32 u32, I64 i64, U64 u64, Isize isize, Usize usize, F32 f32, F64 f64);
+small!(Bool bool, Char char, I8 i8, U8 u8, I16 i16, U16 u16, I32 i32, U32 u32, I64 i64, U64 u64, Isize isize, Usize usize, F32 f32, F64 f64);
 
 /// What a function is called with.
 pub(crate) enum Given {
@@ -124,7 +172,11 @@ impl Gave {
 /// The value of a stage, whose type the stage's own type says.
 #[inline]
 pub(crate) fn of<T: 'static>(value: &Val) -> &T {
-    value.any().downcast_ref().expect("a stage's value is of its type")
+    let found = match value {
+        Val::Small(small) => small.get(),
+        value => value.any().downcast_ref(),
+    };
+    found.expect("a stage's value is of its type")
 }
 
 pub(crate) fn arc_of<T: Send + Sync + 'static>(value: Val) -> Arc<T> {

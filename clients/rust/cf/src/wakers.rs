@@ -75,6 +75,12 @@ impl Wakers {
         waker
     }
 
+    /// Whether somebody waits for a stage.
+    #[inline]
+    pub(crate) fn has(&self, stage: u16) -> bool {
+        self.firsts.get(usize::from(stage)).map_or(false, |first| *first > 0)
+    }
+
     /// Takes all wakers of a stage's row.
     #[inline]
     pub(crate) fn take(&mut self, stage: u16, to: &mut Vec<Waker>) {
