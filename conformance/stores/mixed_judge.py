@@ -179,7 +179,7 @@ class MixedJudge(Judge):
         self.stages = list(plan["stages"])
         self.came = [(0, None)] * len(self.stages)  # where each was attached, and by which session
         self.places, self.failed = {}, {}  # where each was settled, and by which word each timed out, itself or what it has it from
-        self.claimed, self.finished, self.open, self.links = [], {}, {}, {}
+        self.claimed, self.finished, self.open, self.links, self.called_with = [], {}, {}, {}, {}
         self.tokens, self.put_at, self.labels = {}, {}, {it["kwargs"]["where"] for it in self.stages if "kwargs" in it}
         self.has = {kind for kind, note in (("timed", "timer"), ("called back", "called back"), ("opened again", "again")) if self.told[(note, *key)]}
         left = self.count["stages left"]
@@ -256,6 +256,7 @@ class MixedJudge(Judge):
             args = got[1:] if self.graph.form[stage] in ("exceptionally", "exceptionallyCompose") else got
         else:
             args = tuple(self.thing(it) for it in words[1:])
+        self.called_with[stage] = args
         passes, again = None, said.get("again")
         if again is not None:
             passes = self.passed_on(again, args[0], words[-1] == "wrapped")
@@ -275,14 +276,16 @@ class MixedJudge(Judge):
         return None if own["error"] == "Abandoned" and not self.graph.told[first][2] else own
 
     def args_again(self, stage):
+        """What a stage's function was called with; what its sources hold where it was settled by hand."""
+        if stage in self.called_with:
+            return self.called_with[stage]
         form, of = self.graph.form[stage], self.graph.of[stage]
         if form in ("handle", "whenComplete"):
             return self.outcome(of[0])
         if form == "exceptionally":
             return self.outcome(of[0])[1:]
-        if form == "applyEither":
-            of = [min((it for it in of if it in self.places), key=self.places.get)]
-        return tuple(self.outcome(it)[0] for it in of)
+        values = tuple(self.outcome(it)[0] for it in of)
+        return values if form != "applyEither" else values[:1] if values[0] is not None else values[1:]
 
     def kinds_of(self, stage):
         """Of which kinds a stage is, or the stage that it tries again."""

@@ -636,7 +636,11 @@ class DurableService(concurrent.futures.Executor):
         return (first, second)[:kind]
 
     def _args_again(self, request: DurableRequest, stage: int) -> Tuple[Any, ...]:
-        """What a stage's function was called with before, by what its sources hold."""
+        """What a stage's function was called with before. One that was settled by hand, and whose function wasn't to be
+        called, has what its sources hold by now."""
+        granted = request._view.granted.get(stage)
+        if granted is not None:
+            return self._args(request, stage, granted)
         form, of = request._view.forms[stage]
         told = [request._view.told[source] for source in of]
         if form in (Form.HANDLE, Form.WHEN_COMPLETE):
@@ -644,9 +648,7 @@ class DurableService(concurrent.futures.Executor):
         if form == Form.EXCEPTIONALLY:
             return (request._outcome(told[0], of)[1],)
         if form == Form.APPLY_EITHER:
-            first = min((source for source in of if request._view.is_settled(source)),
-                        key=lambda source: request._view.places[source])
-            told = [request._view.told[first]]
+            told = [next((it for it in told if it.kind == VALUE), told[0])]
         return tuple(request._value(it.some, it.number) if it.kind == VALUE else None for it in told)
 
     def _run(self, request: DurableRequest, claimed: Claimed) -> Optional[Claimed]:

@@ -126,6 +126,7 @@ class RowView:
         # the tokens of words of which it isn't known whether they stand, and the places where they would
         self._doubt: Dict[int, int] = {}
         self.found: Dict[int, Done] = {}  # claims of this session's that were granted, as it found when it read them
+        self.granted: Dict[int, Tuple[int, ...]] = {}  # what each claim that was granted was replied
 
     @property
     def who(self) -> int:
@@ -287,6 +288,8 @@ class RowView:
         self._sessions.append(token >> COUNT_BITS)
         if kind == ATTACH and not reply[ANSWER]:
             self._add(reply[NUMBER], word, place)
+        if kind == CLAIM and not reply[ANSWER]:
+            self.granted[word >> 36 & 0xFFF] = reply
         links = kind == FINISH and word >> 32 & 0xF == LINKS
         if links and not reply[ANSWER]:
             self.links[word & 0xFFF] = place

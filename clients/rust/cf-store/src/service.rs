@@ -860,27 +860,30 @@ fn passed_on(view: &mut View, first: u16, args: Args, failed: Failed) -> Result<
     Ok(if is_lost(outcome, &own) { None } else { Some(own) })
 }
 
-/// What a stage's function was called with before, by what its sources hold.
+/// What a stage's function was called with before. One that was settled by hand, and whose function wasn't to be called, has what its sources hold
+/// by now.
 fn again_with(view: &mut View, stage: u16) -> Result<Vec<Json>, StoreError> {
-    let (form, of) = view.form(stage);
-    let mut of = of.to_vec();
-    if form == Form::ApplyEither {
-        of = view.first_settled(&of).into_iter().collect();
+    if let Some(args) = view.granted(stage) {
+        return arguments(view, stage, args);
     }
-    let mut args = Vec::with_capacity(2);
-    for source in of {
+    let (form, of) = view.form(stage);
+    let (mut values, mut failed) = (Vec::with_capacity(2), Json::Null);
+    for source in of.to_vec() {
         match view.end_of(source)? {
-            Some(Ok(value)) if form == Form::Exceptionally => drop(value),
-            Some(Ok(value)) => args.push(value),
-            Some(Err(error)) if form == Form::Exceptionally => args.push(failure(error)?),
-            Some(Err(error)) => args.extend([Json::Null, failure(error)?]),
-            None => args.push(Json::Null),
+            Some(Ok(value)) => values.push(value),
+            Some(Err(error)) => {
+                values.push(Json::Null);
+                failed = failure(error)?;
+            }
+            None => values.push(Json::Null),
         }
     }
-    if matches!(form, Form::Handle | Form::WhenComplete) && args.len() == 1 {
-        args.push(Json::Null);
-    }
-    Ok(args)
+    Ok(match form {
+        Form::Exceptionally => vec![failed],
+        Form::Handle | Form::WhenComplete => vec![values.swap_remove(0), failed],
+        Form::ApplyEither => vec![values.into_iter().find(|it| !it.is_null()).unwrap_or_default()],
+        _ => values,
+    })
 }
 
 /// An end without a value, as functions are given it.

@@ -80,6 +80,8 @@ pub(crate) struct View {
     unlinked: BTreeSet<u16>,
     /// Claims of this session's that were granted, as it found when it read them.
     found: BTreeMap<u16, Args>,
+    /// What the function of each stage was to be called with whose claim was granted.
+    granted: BTreeMap<u16, Args>,
     /// Tokens of words of which it isn't known whether they stand, and the places where they would.
     doubt: BTreeMap<u64, usize>,
     /// Payloads that this view put.
@@ -101,9 +103,9 @@ impl View {
         let planned = stages.len();
         let known = |(form, of, said)| Known { form, of, said: Some(said), attached: 0, settled: 0, failed: 0 };
         let (links, unlinked) = Default::default();
-        let (found, doubt, own) = Default::default();
+        let (found, granted, doubt, own) = Default::default();
         let stages = stages.into_iter().map(known).collect();
-        Ok(View { opened, session, store, host, row, stages, planned, context, room, seen: 0, links, unlinked, found, doubt, own })
+        Ok(View { opened, session, store, host, row, stages, planned, context, room, seen: 0, links, unlinked, found, granted, doubt, own })
     }
 
     /// How many entries were seen.
@@ -322,8 +324,11 @@ impl View {
                 };
                 self.stages.push(Known { form, of, said: None, attached: place, settled: 0, failed: 0 });
             }
-            (Call::Claim(stage), Reply::Claimed(Claimed::Granted(args))) if is_own => {
-                self.found.insert(stage, args);
+            (Call::Claim(stage), Reply::Claimed(Claimed::Granted(args))) => {
+                self.granted.insert(stage, args);
+                if is_own {
+                    self.found.insert(stage, args);
+                }
             }
             (Call::Finish(_, Answer::Link(to)), Reply::Finished(Finished::Won)) => {
                 self.links.insert(to, place);
@@ -501,9 +506,9 @@ impl View {
         }
     }
 
-    /// The first source of a stage that was settled.
-    pub(crate) fn first_settled(&self, of: &[u16]) -> Option<u16> {
-        of.iter().copied().filter(|it| self.is_settled(*it)).min_by_key(|it| self.stages[usize::from(*it)].settled)
+    /// What a stage's function was to be called with, if a claim of it was granted.
+    pub(crate) fn granted(&self, stage: u16) -> Option<Args> {
+        self.granted.get(&stage).copied()
     }
 
     // Relays of composing stages.

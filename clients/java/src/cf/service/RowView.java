@@ -38,6 +38,8 @@ final class RowView {
     final TreeSet<Integer> unlinked = new TreeSet<>();
     /** Claims of this session's that were granted, as it found when it read them: what their functions are called with. */
     final TreeMap<Integer, int[]> found = new TreeMap<>();
+    /** What each claim that was granted was replied: what its stage's function was to be called with. */
+    final Map<Integer, int[]> granted = new HashMap<>();
     /** Tokens of words of which it isn't known whether they stand, and the places where they would. */
     private final Map<Long, Integer> doubt = new HashMap<>();
     private final Map<Integer, byte[]> own = new HashMap<>();
@@ -392,8 +394,11 @@ final class RowView {
                 }
                 break;
             case Words.CLAIM:
-                if (reply[Row.ANSWER] == 0 && isOwn) {
-                    found.put(Words.stage(entry.word), reply);
+                if (reply[Row.ANSWER] == 0) {
+                    granted.put(Words.stage(entry.word), reply);
+                    if (isOwn) {
+                        found.put(Words.stage(entry.word), reply);
+                    }
                 }
                 break;
             case Words.FINISH:
@@ -610,17 +615,6 @@ final class RowView {
     /** The numbers of a settled stage's outcome. */
     int[] outcome(int stage) {
         return stages.get(stage).outcome;
-    }
-
-    /** The first of these stages that was settled, or -1. */
-    int firstSettled(int... of) {
-        int first = -1;
-        for (int stage : of) {
-            if (isSettled(stage) && (first < 0 || stages.get(stage).settled < stages.get(first).settled)) {
-                first = stage;
-            }
-        }
-        return first;
     }
 
     // Relays of composing stages.

@@ -787,21 +787,25 @@ public final class StoreService implements AutoCloseable {
                         ? "BadAnswer" : "CancelledError", text);
     }
 
-    /** What a stage's function was called with before, by what its sources hold. */
+    /**
+     * What a stage's function was called with before. One that was settled by hand, and whose function wasn't to be called, has what its sources hold by
+     * now.
+     */
     private static List<Object> argumentsAgain(RowView view, int stage) {
+        int[] granted = view.granted.get(stage);
+        if (granted != null) {
+            return arguments(view, stage, granted);
+        }
         Form form = view.form(stage);
         int[] of = view.sources(stage);
         if (form.handles) {
             return got(view, form, view.outcome(of[0]), of);
         }
-        if (form == Form.APPLY_EITHER) {
-            of = new int[] {view.firstSettled(of)};
-        }
         List<Object> args = new ArrayList<>();
         for (int source : of) {
-            args.add(view.isSettled(source) ? view.value(view.outcome(source)) : null); // (open: it was settled by hand)
+            args.add(view.isSettled(source) ? view.value(view.outcome(source)) : null);
         }
-        return args;
+        return form == Form.APPLY_EITHER ? Collections.singletonList(args.get(args.get(0) == null ? 1 : 0)) : args;
     }
 
     private RowView.Finish called(StoredRequest request, Task task, Connection connection) {
