@@ -136,7 +136,6 @@ static void view_calls(cf_handle *h, uint32_t wanted) {
   ROW(cf_row_grow(h, 1), wanted);
   ROW(cf_row_number(h, &out.small), wanted);
   ROW(cf_row_number_of(h, 1, &out.small), wanted);
-  ROW(cf_row_claimed(h, 0, 0, &out.number), wanted);
   ROW(cf_row_open_claim(h, 0, &out.claim), wanted);
   ROW(cf_row_held(h, 1, 0, &out.number), wanted);
   ROW(cf_row_abandon(h, 1, 0, 1, &out.word), wanted);
@@ -379,7 +378,6 @@ static void by_pointers(void) {
   ROW(cf_row_saw(seen, &entry, &out.reply, out.news, 2, NULL), CF_NULL);
   ROW(cf_row_number(seen, NULL), CF_NULL);
   ROW(cf_row_number_of(seen, 1, NULL), CF_NULL);
-  ROW(cf_row_claimed(seen, 0, 0, NULL), CF_NULL);
   ROW(cf_row_open_claim(seen, 0, NULL), CF_NULL);
   ROW(cf_row_held(seen, 1, 0, NULL), CF_NULL);
   ROW(cf_row_abandon(seen, 1, 0, 1, NULL), CF_NULL);
@@ -471,7 +469,6 @@ static void by_numbers(uint16_t stage) {
   ROW(cf_request_deadline(asked, stage, 1, CF_TIMEOUT, value), CF_NO_STAGE);
   ROW(cf_ledger_stage(asked, stage, &out.stage), CF_NO_STAGE);
   ROW(cf_ledger_stage(&held[VIEW], stage, &out.stage), CF_NO_STAGE);
-  ROW(cf_row_claimed(&held[VIEW], 0, stage, &out.number), CF_NOTHING);
   ROW(cf_row_open_claim(&held[VIEW], stage, &out.claim), CF_NOTHING);
   ROW(cf_row_held(&held[VIEW], opening.session, stage, &out.number), CF_NOTHING);
   ROW(cf_row_abandon(&held[VIEW], opening.session, stage, 1, &out.word), CF_NOTHING);

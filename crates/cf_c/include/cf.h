@@ -1310,14 +1310,9 @@ uint32_t cf_row_number(cf_handle *view, uint8_t *who);
  * Code: CF_NOTHING if no entry that was seen is of this session. */
 uint32_t cf_row_number_of(cf_handle *view, uint64_t session, uint8_t *who);
 
-/* Tells the lowest stage from the number `from` on whose claim is open and a caller's. The stage may be settled already:
- * a claim is open until its caller has finished.
- *
- * Code: CF_NOTHING if there is none. */
-uint32_t cf_row_claimed(cf_handle *view, uint8_t who, uint16_t from, uint16_t *stage);
-
 /* Tells the lowest stage from the number `from` on whose claim is open, with the session to which it was granted, also
- * where several sessions have its caller's number. The stage may be settled already, as for cf_row_claimed.
+ * where several sessions have its caller's number. The stage may be settled already: a claim is open until its session
+ * has finished.
  *
  * Code: CF_NOTHING if no claim is open there. */
 uint32_t cf_row_open_claim(cf_handle *view, uint16_t from, cf_row_claim *claim);

@@ -29,7 +29,7 @@ LATER: Dict[str, str] = {
     **dict.fromkeys(["cf_history_new", "cf_history_times", "cf_history_say", "cf_history_text"], "1.7"),
     **dict.fromkeys(["cf_request_compose", "cf_request_link"], "1.8"),
     **dict.fromkeys(["cf_row_new", "cf_row_plan", "cf_row_met", "cf_row_give_up", "cf_row_saw", "cf_row_grow", "cf_row_number",
-                     "cf_row_number_of", "cf_row_claimed", "cf_row_open_claim", "cf_row_held",
+                     "cf_row_number_of", "cf_row_open_claim", "cf_row_held",
                      "cf_row_abandon", "cf_row_finish", "cf_row_next_claim"], "1.8"),
 }
 TEXT = """#include "cf.h"

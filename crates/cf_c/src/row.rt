@@ -1,6 +1,6 @@
 //! One session's view of a row in a store.
 ghost use Rattle.cf_c_handles.specs.Handles.{HandleDoes, HandleOpens, HandleTells, HandleWrites};
-ghost use Rattle.cf_c_handles.specs.Rows.{GivesUpIn, MeetsIn, OfRow, PlansIn, RoomsIn, RowOf, SeesIn, TellsAbandon, TellsClaimed, TellsFinish, TellsHeld, TellsNextClaim, TellsNumber, TellsNumberOf, TellsOpenClaim, entry_of};
+ghost use Rattle.cf_c_handles.specs.Rows.{GivesUpIn, MeetsIn, OfRow, PlansIn, RoomsIn, RowOf, SeesIn, TellsAbandon, TellsFinish, TellsHeld, TellsNextClaim, TellsNumber, TellsNumberOf, TellsOpenClaim, entry_of};
 
 use crate::handle::{ask, tell};
 use cf_c_handles::code::Code;
@@ -111,20 +111,6 @@ pub extern "C" fn cf_row_number_of(
     ensures { HandleTells (OfRow (TellsNumberOf session)) h.old h.new result who.old who.new }
 {
     tell!(alloc, h, who, held => row::number_of(&mut held, session))
-}
-
-/// The lowest stage from a number on whose claim is open and a caller's.
-#[unsafe(no_mangle)]
-pub extern "C" fn cf_row_claimed(
-    alloc: Global,
-    h: &mut CfHandle,
-    who: u8,
-    from: u16,
-    stage: &mut u16,
-) -> u32
-    ensures { HandleTells (OfRow (TellsClaimed who from)) h.old h.new result stage.old stage.new }
-{
-    tell!(alloc, h, stage, held => row::claimed(&mut held, who, from))
 }
 
 /// The lowest stage from a number on whose claim is open, with the session to which it was granted.

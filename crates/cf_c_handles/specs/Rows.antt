@@ -13,7 +13,7 @@ use Rattle.cf_row.specs.Abandoning.{Abandons}
 use Rattle.cf_row.specs.Next.{CanClaim, Finishes, HasNoClaim, NoneToClaim}
 use Rattle.cf_row.specs.Numbers.{FollowsRule}
 use Rattle.cf_row.specs.Puts.{IsNoPut, OnlyFinds, Plans, Row as Row', TellsOf, pairs_of}
-use Rattle.cf_row.specs.Rows.{IsNoEntry, NoneClaimed, NoneClaimedFrom, Replica, Takes, ledger_of, session_of, state_of, with_more}
+use Rattle.cf_row.specs.Rows.{IsNoEntry, Replica, Takes, ledger_of, session_of, state_of, with_more}
 use Rattle.cf_c_handles.specs.Ledgers.{HaveNews, word_code}
 use Rattle.cf_c_handles.specs.Replies.{as_reply}
 use Rattle.cf_c_handles.specs.RequestCalls.{IsDueAs}
@@ -163,17 +163,6 @@ TellsNumber seen (Err code) = ⊥
 abbrev pub TellsNumberOf : ℕ → Replica → Result ℕ Code → Type 0
 TellsNumberOf session seen (Ok who) = Contains (pairs_of seen.seen) (session, who)
 TellsNumberOf session seen (Err code) = (code ≡ Nothing) × All (λ (x : Entry). session_of x.token ≢ session) seen.seen
-
--- the lowest stage from a number on whose claim is open and a caller's
-pub record IsFirstClaimed (who from : ℕ) (seen : Replica) (i : ℕ) : Type 0 where
-  pub held : claim_at (state_of seen) i ≡ Some who
-  pub there : i < length (state_of seen).plan.stages
-  pub above : from ≤ i
-  pub first : NoneClaimed who from i (state_of seen)
-
-abbrev pub TellsClaimed : ℕ → ℕ → Replica → Result ℕ Code → Type 0
-TellsClaimed who from seen (Ok i) = IsFirstClaimed who from seen i
-TellsClaimed who from seen (Err code) = (code ≡ Nothing) × NoneClaimedFrom who from (state_of seen)
 
 -- the lowest stage from a number on whose claim is open, and the session to which it was granted
 abbrev pub as_claim : Claim → CfRowClaim

@@ -1,7 +1,7 @@
 //! One session's view of a row in a store: what it plans, is told and is asked.
 ghost use Rattle.std.specs.Prelude.{◌≡◌, ◌<◌, ◌≤◌, [], length};
 ghost use Rattle.std.specs.Bool.{OnFalse, OnTrue};
-ghost use Rattle.cf_c_handles.specs.Rows.{GivesUpIn, IsSession, MeetsIn, OfRow, PlansIn, RoomsIn, RowOf, SeesIn, SeesOrNot, TellsAbandon, TellsClaimed, TellsFinish, TellsHeld, TellsNextClaim, TellsNumber, TellsNumberOf, TellsOpenClaim, put_code};
+ghost use Rattle.cf_c_handles.specs.Rows.{GivesUpIn, IsSession, MeetsIn, OfRow, PlansIn, RoomsIn, RowOf, SeesIn, SeesOrNot, TellsAbandon, TellsFinish, TellsHeld, TellsNextClaim, TellsNumber, TellsNumberOf, TellsOpenClaim, put_code};
 ghost use Rattle.cf_c_handles.specs.declared.handle.object.Object.TheVariants.{Row as HeldRow};
 
 use crate::code::Code;
@@ -187,16 +187,6 @@ pub fn number_of(held: &mut Object, session: u64) -> Result<u8, Code>
         return Err(Code::WrongKind);
     };
     row.replica().number_of(session).ok_or(Code::Nothing)
-}
-
-/// The lowest stage from a number on whose claim is open and this caller's.
-pub fn claimed(held: &mut Object, who: u8, from: u16) -> Result<u16, Code>
-    ensures { OfRow (TellsClaimed who from) held.old result held.new }
-{
-    let Object::Row(row) = held else {
-        return Err(Code::WrongKind);
-    };
-    row.replica().claimed(who, from).ok_or(Code::Nothing)
 }
 
 /// The lowest stage from a number on whose claim is open, with the session to which it was granted.

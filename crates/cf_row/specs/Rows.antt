@@ -137,9 +137,3 @@ abbrev pub IsMisfit : Replica → List Entry → Replica → ℕ → LedgerFault
 IsMisfit old entries new place NoMemory = (place ≡ 0) × (old.free < length entries)
 IsMisfit old entries new place fault = (x : Entry) × (slice_get entries place ≡ Some x) × LedgerRefuses (state_of new) x.word fault
 
--- no stage from a number up to another has an open claim of this caller
-abbrev pub NoneClaimed : ℕ → ℕ → ℕ → State → Type 0
-NoneClaimed who from to s = (k : ℕ) → from ≤ k → k < to → claim_at s k ≢ Some who
-
-abbrev pub NoneClaimedFrom : ℕ → ℕ → State → Type 0
-NoneClaimedFrom who from s = NoneClaimed who from (length s.plan.stages) s

@@ -11,7 +11,6 @@
 //! proof alone, and the laws say of all sessions together what follows.
 #![tactic(auto)]
 
-mod claims;
 mod entry;
 mod faults;
 mod grants;

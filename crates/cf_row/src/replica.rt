@@ -9,9 +9,8 @@ ghost use Rattle.cf_row.specs.Numbers.{FollowsRule};
 ghost use Rattle.cf_row.specs.Puts.{IsPutOrNone, pairs_of};
 ghost use Rattle.cf_row.specs.Abandoning.{Abandons};
 ghost use Rattle.cf_row.specs.Next.{CanClaim, Finishes, HasNoClaim, NoneToClaim};
-ghost use Rattle.cf_row.specs.Rows.{FitsEachRow, IsMisfit, NoneClaimed, NoneClaimedFrom, Replays, Takes, history_of, ledger_of, session_of, state_of, with_memory, with_more, with_outcome, words_in};
+ghost use Rattle.cf_row.specs.Rows.{FitsEachRow, IsMisfit, Replays, Takes, history_of, ledger_of, session_of, state_of, with_memory, with_more, with_outcome, words_in};
 
-use crate::claims::claimed_in;
 use crate::entry::Entry;
 use crate::grants::{Claim, has, held_in, note_claim, open_in, whose};
 use crate::next::next_in;
@@ -145,18 +144,6 @@ impl Replica {
         ensures none { IfNone result (All (λ x. session_of x.token ≢ session) self.now.seen) }
     {
         number_of(&self.seen, session)
-    }
-
-    /// The lowest stage from a number on whose claim is open and is this caller's. It costs a look at each stage
-    /// between.
-    pub fn claimed(&self, who: u8, from: u16) -> Option<u16>
-        ensures held { IfSome result (λ i. claim_at (state_of self.now) i ≡ Some who) }
-        ensures there { IfSome result (λ i. i < length (state_of self.now).plan.stages) }
-        ensures above { IfSome result (λ i. from ≤ i) }
-        ensures first { IfSome result (λ i. NoneClaimed who from i (state_of self.now)) }
-        ensures none { IfNone result (NoneClaimedFrom who from (state_of self.now)) }
-    {
-        claimed_in(self.ledger(), who, from)
     }
 
     /// The lowest stage from a number on whose claim is open, with the session to which it was granted. It costs a look

@@ -532,7 +532,6 @@ extern "C" {
     pub fn cf_row_grow(view: *mut cf_handle, more: u16) -> u32;
     pub fn cf_row_number(view: *mut cf_handle, who: *mut u8) -> u32;
     pub fn cf_row_number_of(view: *mut cf_handle, session: u64, who: *mut u8) -> u32;
-    pub fn cf_row_claimed(view: *mut cf_handle, who: u8, from: u16, stage: *mut u16) -> u32;
     pub fn cf_row_open_claim(view: *mut cf_handle, from: u16, claim: *mut cf_row_claim) -> u32;
     pub fn cf_row_held(view: *mut cf_handle, session: u64, from: u16, stage: *mut u16) -> u32;
     pub fn cf_row_abandon(view: *mut cf_handle, session: u64, from: u16, code: u32, word: *mut u64) -> u32;
