@@ -136,4 +136,3 @@ IsNoEntry r word fault = LedgerRefuses (state_of r) word fault
 abbrev pub IsMisfit : Replica → List Entry → Replica → ℕ → LedgerFault → Type 0
 IsMisfit old entries new place NoMemory = (place ≡ 0) × (old.free < length entries)
 IsMisfit old entries new place fault = (x : Entry) × (slice_get entries place ≡ Some x) × LedgerRefuses (state_of new) x.word fault
-

@@ -384,6 +384,26 @@ class Properties(unittest.TestCase):
                 self.assertEqual((report.whole, list(map(str, report.failed))), (True, []))
 
 
+    def test_a_further_try_is_called_with_the_same(self):
+        """Also behind sources of which one had failed, and was settled first."""
+        def test(world):
+            functions, called = Functions(), []
+            load = functions.function("load")(lambda number: called.append(number))
+            store = world.store(killed=1)
+            request = store.process("shop", functions, workers=0).request("order")
+            one, two = request.promise(), request.promise()
+            two.fail(ValueError("no"))
+            one.complete(7)
+            one.either(two, load).again()
+            store.worker("one", functions), store.worker("two", functions)
+            world.check(lambda: set(called) <= {7}, "it is called with 7")
+            world.at_end(lambda: most.append(len(called)) is None, "counted")
+
+        most = []
+        report = orders(test, **ENOUGH)
+        self.assertEqual((report.whole, list(map(str, report.failed)), max(most)), (True, [], 2))
+
+
 class Chance(unittest.TestCase):
     def test_each_way_of_an_arrival_is_tried(self):
         def test(world):
