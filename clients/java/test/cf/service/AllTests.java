@@ -140,6 +140,7 @@ public final class AllTests {
         test("puts that come late", StoredOrdersTest::late);
         test("moves between an answer and the next line", StoredOrdersTest::between);
         test("killed processes in every order", StoredOrdersTest::killed);
+        test("further tries in every order", StoredOrdersTest::triesAgain);
         test("processes taken for gone in every order", StoredOrdersTest::slow);
         test("clocks of processes", StoredOrdersTest::clocks);
         test("waits for stages of a store in every order", StoredOrdersTest::waits);

@@ -7,6 +7,7 @@ import static cf.service.testing.Planted.SECONDS_ENOUGH;
 import static java.util.concurrent.TimeUnit.SECONDS;
 
 import cf.service.Functions;
+import cf.service.RemoteException;
 import cf.service.RequestHistory;
 import cf.service.StoreException;
 import cf.service.StoredRequest;
@@ -230,6 +231,23 @@ public final class StoredOrdersTest {
             return new Object[] {log, store};
         }, made -> made[0] + " " + ((WorldStore) made[1]).outcomes().get(0).substring(0, 19)), set("[begun, ended] order: slow ends: n",
                 "[] order: slow ends: A", "[] order: slow is open", "[begun] order: slow ends: A", "[begun, ended] order: slow ends: A"));
+    }
+
+    /** A further try is called with the same, also behind sources of which one had failed, and was settled first. */
+    public static void triesAgain() {
+        is(ends(world -> {
+            List<Object> called = new ArrayList<>();
+            Functions functions = new Functions().with("load", 1, number -> called.add(number));
+            WorldStore store = world.store().killed(1);
+            StoredRequest request = store.process("shop", functions).workers(0).request("order");
+            StoredStage one = request.promise("one"), two = request.promise("two");
+            two.fail(new RemoteException("Declined", "no"));
+            one.complete(7);
+            one.either(two, "load").again(1);
+            store.worker("one", functions);
+            store.worker("two", functions);
+            return new Object[] {called};
+        }, made -> made[0].toString()), set("[7, 7]", "[7]"));
     }
 
     /** A process that is there may be taken for gone. */
