@@ -33,7 +33,8 @@ class Kept:
     """One run of a program."""
 
     def __init__(self, program, world):
-        self.program, self.shared, self.log, self.stages = program, [0] * SHARED, [], []
+        self.program, self.shared, self.stages = program, [0] * SHARED, []
+        self.log, self.marked = [], []  # what clients were told; what functions did that touch nothing else
         self.functions = Functions()
         self.made = [self.functions.function(f"f{k}")(self.function(act)) for k, act in enumerate(program.acts)]
         self.written = self.functions.function("write", transactional=True)(lambda effects, *_: effects.append("x"))
@@ -58,7 +59,7 @@ class Kept:
         if mark == "pure":
             return pure(lambda *given: len(given))
         if mark == "touches":
-            return touches("log")(lambda *given: self.log.append(len(given)))
+            return touches("marked")(lambda *given: self.marked.append(len(given)))
 
         def fn(*given):
             if kind == "set":
@@ -112,7 +113,7 @@ class Kept:
             and max(Counter(it[1:] for it in self.store.granted).values(), default=1) == 1
 
     def end(self):
-        return (*self.store.outcomes(), *map(str, self.shared), *map(str, self.log), *map(str, self.store.rows.effects))
+        return (*self.store.outcomes(), *map(str, self.shared), *map(str, self.log + self.marked + self.store.rows.effects))
 
 
 def compare(seed, most, told):
