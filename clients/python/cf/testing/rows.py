@@ -212,7 +212,7 @@ class WorldTransaction(Transaction):
 
     def append(self, put: Put) -> bool:
         text = f"commits, and {self._rows.text_of(put)}"
-        return self._world.ask(self._process, OF_WRITES, text, lambda: self._commits(put))
+        return self._world.ask(self._process, OF_PUTS, text, lambda: self._commits(put), put)
 
     def commit(self) -> None:
         """It stands since it was put."""

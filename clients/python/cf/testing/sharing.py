@@ -56,7 +56,7 @@ class WorldStore:
         self.rows: Rows = Rows(self.touch)
         self.granted: List[Tuple[str, str, int]] = []
         self.answered: List[Tuple[str, str, int, int]] = []
-        self._flying: List[Put] = []  # puts that are on their way, also those that have come
+        self._flying: List[Tuple[Put, Callable[[], object]]] = []  # puts that are or were on their way, with acts
         self._landed: List[int] = []
         self._dead: List[Flight] = []
 
@@ -167,7 +167,7 @@ class WorldStore:
                 with contextlib.suppress(Exception):  # which nobody is told
                     act()
             if chosen.is_late and put is not None:
-                self._flying.append(put)
+                self._flying.append((put, act))
             if chosen.is_silent:
                 process.host.clock += PATIENCE + 1
             raise Unknown("no answer")
@@ -188,7 +188,7 @@ class WorldStore:
         for process in living:
             keys += self._of(process)
         keys += self._noticed(free)
-        keys += [("land", number) for number, put in enumerate(self._flying) if self._may_land(number, put)]
+        keys += [("land", number) for number, (put, _) in enumerate(self._flying) if self._may_land(number, put)]
         slow: List[Move] = [move for other in living if self._flights(other) for move in self._gone(other, free)]
         slow = slow if self.bounds.slow > 0 else []
         kills: List[Move] = [("kill", it.key) for it in living if self.bounds.killed > 0 and self._flights(it)]
@@ -370,7 +370,7 @@ class WorldStore:
     def _do_land(self, number: int) -> None:
         self._landed.append(number)
         self.touch(("land", number), CHANGES)
-        self.rows.append(self._flying[number])
+        self._flying[number][1]()
 
     def _do_spare(self) -> None:
         self.touch(KILLS, CHANGES)
@@ -380,8 +380,7 @@ class WorldStore:
         """What a move is called."""
         word = key[0]
         if word == "land":
-            put = self._flying[key[1]]
-            return f"the put that was on its way comes: {self.rows.text_of(put)}"
+            return f"the put that was on its way comes: {self.rows.text_of(self._flying[key[1]][0])}"
         if word == "spare":
             return "nobody is killed any more"
         process = self.processes[int(key[1][1:])]

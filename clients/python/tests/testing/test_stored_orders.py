@@ -358,6 +358,10 @@ def small(plan, workers=2, **faults):
             return len({token for _, token in entries}) == len(entries) and all(
                 rows.memory.read(name)[place - 1][0] == word for _, name, place, word in store.answered)
 
+        def is_paid():
+            return len(store.effects) == int(store.is_settled("order", "write") and store.outcome("order", "write") is None)
+
+        world.at_end(is_paid, "an effect stands exactly if its finish does")
         world.at_end(granted_once, "no claim is granted twice")
         world.at_end(stands_once, "a put stands once or never, and where its process was told")
         world.at_end(lambda: one.is_dead and workers == 1 or rows.views["order"].is_done(lambda _: True),

@@ -219,7 +219,7 @@ impl Store for ProcessStore {
     }
 
     fn append(&self, put: Put<'_>) -> Result<Option<Vec<Entry>>, StoreError> {
-        self.shop.ask(self.number, OF_PUTS, self.shop.rows.text_of(put), Some(put), || self.shop.append(put))
+        self.shop.ask(self.number, OF_PUTS, self.shop.rows.text_of(put), Some((put, &[])), || self.shop.append(put))
     }
 
     fn read(&self, name: &str, number: i64, at: usize) -> Result<Vec<Entry>, StoreError> {

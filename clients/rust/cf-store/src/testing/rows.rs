@@ -23,13 +23,16 @@ pub(super) struct Flying {
     pub(super) at: usize,
     entries: Vec<Entry>,
     payloads: BTreeMap<usize, Vec<u8>>,
+    /// Of the transaction that it commits.
+    pub(super) effects: Vec<Json>,
     pub(super) has_landed: bool,
 }
 
 impl Flying {
-    pub(super) fn of(put: Put<'_>) -> Flying {
+    pub(super) fn of(put: Put<'_>, effects: &[Json]) -> Flying {
         let Put { request, number, at, entries, payloads } = put;
-        Flying { request: request.into(), number, at, entries: entries.to_vec(), payloads: payloads.clone(), has_landed: false }
+        let (entries, payloads, effects) = (entries.to_vec(), payloads.clone(), effects.to_vec());
+        Flying { request: request.into(), number, at, entries, payloads, effects, has_landed: false }
     }
 
     pub(super) fn put(&self) -> Put<'_> {

@@ -241,13 +241,14 @@ impl Shop {
         ways[usize::from(self.seam.wait(text, Waits::Asks(time, Box::new(possible))))]
     }
 
-    /// Asks the store for something, which is a move of its own, and is answered as the search says.
+    /// Asks the store for something, which is a move of its own, and is answered as the search says. A put may be late, with the effects of the
+    /// transaction that it commits.
     pub(super) fn ask<T>(
         self: &Arc<Shop>,
         process: u16,
         ways: &'static [Answer],
         text: String,
-        put: Option<Put<'_>>,
+        put: Option<(Put<'_>, &[Value])>,
         act: impl FnOnce() -> Result<T, StoreError>,
     ) -> Result<T, StoreError> {
         if self.work(process, |work| work.is_dead) {
@@ -267,8 +268,8 @@ impl Shop {
             locked(&self.bounds).take(chosen);
         }
         let told = if chosen.stands() { Some(act()) } else { None };
-        if let (true, Some(put)) = (chosen.is_late(), put) {
-            locked(&self.flying).push(Flying::of(put));
+        if let (true, Some((put, effects))) = (chosen.is_late(), put) {
+            locked(&self.flying).push(Flying::of(put, effects));
         }
         if chosen.is_silent() {
             self.work(process, |work| work.clock += PATIENCE + Duration::from_secs(1));
@@ -291,11 +292,11 @@ impl Shop {
     }
 
     /// Puts what a transaction puts, with its effects: whether the place was free.
-    pub(super) fn commit(&self, put: Put<'_>, effects: Vec<Value>) -> Result<bool, StoreError> {
+    pub(super) fn commit(&self, put: Put<'_>, effects: &[Value]) -> Result<bool, StoreError> {
         let is_free = self.append(put)?.is_none();
-        if is_free {
+        if is_free && !effects.is_empty() {
             self.seam.touch(EFFECTS, 0, true);
-            locked(&self.effects).extend(effects);
+            locked(&self.effects).extend_from_slice(effects);
         }
         Ok(is_free)
     }
@@ -529,7 +530,7 @@ impl Shop {
             flying[number as usize].has_landed = true;
             flying[number as usize].clone()
         };
-        if let Err(error) = self.append(put.put()) {
+        if let Err(error) = self.commit(put.put(), &put.effects) {
             self.seam.fail(format!("a put can't come: {error}"));
         }
         Then::Nothing

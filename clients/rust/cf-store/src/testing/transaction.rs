@@ -1,5 +1,5 @@
 //! A transaction of a world's store: what a function does to its connection stands exactly where the finish of its stage does.
-use super::bounds::OF_WRITES;
+use super::bounds::OF_PUTS;
 use super::sharing::Shop;
 use crate::error::StoreError;
 use crate::store::{Put, Transaction};
@@ -30,7 +30,7 @@ impl Transaction for WorldTransaction<'_> {
     fn append(&mut self, put: Put<'_>) -> Result<bool, StoreError> {
         let text = format!("commits, and {}", self.shop.rows.text_of(put));
         let effects = std::mem::take(&mut self.effects);
-        self.shop.ask(self.process, OF_WRITES, text, None, || self.shop.commit(put, effects))
+        self.shop.ask(self.process, OF_PUTS, text, Some((put, &effects)), || self.shop.commit(put, &effects))
     }
 
     fn commit(&mut self) -> Result<(), StoreError> {
