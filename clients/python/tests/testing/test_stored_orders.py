@@ -389,23 +389,26 @@ class Properties(unittest.TestCase):
 
 
     def test_a_further_try_is_called_with_the_same(self):
-        """Also behind sources of which one had failed, and was settled first."""
+        """Of two sources it is the one that the first try had: the first that was settled, or that was named if both were
+        settled before."""
         def test(world):
             functions, called = Functions(), []
             load = functions.function("load")(lambda number: called.append(number))
             store = world.store(killed=1)
             request = store.process("shop", functions, workers=0).request("order")
             one, two = request.promise(), request.promise()
-            two.fail(ValueError("no"))
+            stage = one.either(two, load) if is_before else None
+            two.complete(8) if is_before else two.fail(ValueError("no"))
             one.complete(7)
-            one.either(two, load).again()
+            (stage or one.either(two, load)).again()
             store.worker("one", functions), store.worker("two", functions)
-            world.check(lambda: set(called) <= {7}, "it is called with 7")
+            world.check(lambda: set(called) <= {8 if is_before else 7}, "it is called with the same")
             world.at_end(lambda: most.append(len(called)) is None, "counted")
 
-        most = []
-        report = orders(test, **ENOUGH)
-        self.assertEqual((report.whole, list(map(str, report.failed)), max(most)), (True, [], 2))
+        for is_before in (False, True):
+            most = []
+            report = orders(test, **ENOUGH)
+            self.assertEqual((report.whole, list(map(str, report.failed)), max(most)), (True, [], 2))
 
 
 class Chance(unittest.TestCase):

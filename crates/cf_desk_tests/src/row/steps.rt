@@ -50,8 +50,6 @@ pub(crate) enum Step {
     Number(u8),
     /// The number of this session.
     NumberOf(u64, Option<u8>),
-    /// The lowest stage that is claimed by a caller.
-    Claimed(u8, Option<u16>),
     /// The lowest stage from a number on whose claim is open, and whose it is.
     OpenClaim(u16, Option<Claim>),
     /// The lowest stage from a number on that a session has.
@@ -177,7 +175,6 @@ fn is_known(row: &Row, step: Step) -> bool {
         Step::Records(answer) => replica.records().len() == answer,
         Step::Number(answer) => replica.number() == answer,
         Step::NumberOf(session, answer) => replica.number_of(session) == answer,
-        Step::Claimed(who, answer) => replica.claimed(who, 0) == answer,
         Step::OpenClaim(from, answer) => replica.open_claim(from) == answer,
         Step::Held(session, from, answer) => replica.held(session, from) == answer,
         _ => goes_on(row, step),

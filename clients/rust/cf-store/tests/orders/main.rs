@@ -634,22 +634,28 @@ fn no_claim_is_granted_twice_and_no_put_stands_twice() {
 
 // What is left out.
 
-/// Also behind sources of which one had failed, and was settled first.
+/// Of two sources it is the one that the first try had: the first that was settled, or that was named if both were settled before.
 #[test]
 fn a_further_try_is_called_with_the_same() {
-    let report = orders(|world| {
-        let (store, called) = (world.store(Bounds::new().killed(1)), Shared::<Vec<u32>>::default());
-        let calls = called.clone();
-        let functions = Functions::new().with("load", 1, move |number: u32| Done::Ok(calls.get().push(number)));
-        let request = store.process_with("shop", &functions, ProcessOptions::new().workers(0)).request("order").unwrap();
-        let [one, two] = ["one", "two"].map(|name| request.promise(name).unwrap());
-        two.fail(&Failed::new("Declined", "no")).unwrap();
-        one.complete(&7).unwrap();
-        one.either(&two, "load").unwrap().again(1).unwrap();
-        ["one", "two"].iter().for_each(|name| drop(store.worker(name, &functions)));
-        world.end_is(move || format!("{:?}", called.get()));
-    });
-    assert_eq!(ends(&report), ["[7, 7]", "[7]"]);
+    for (is_before, wanted) in [(false, ["[7, 7]", "[7]"]), (true, ["[8, 8]", "[8]"])] {
+        let report = orders(move |world| {
+            let (store, called) = (world.store(Bounds::new().killed(1)), Shared::<Vec<u32>>::default());
+            let calls = called.clone();
+            let functions = Functions::new().with("load", 1, move |number: u32| Done::Ok(calls.get().push(number)));
+            let request = store.process_with("shop", &functions, ProcessOptions::new().workers(0)).request("order").unwrap();
+            let [one, two] = ["one", "two"].map(|name| request.promise(name).unwrap());
+            let before = is_before.then(|| one.either(&two, "load").unwrap());
+            match is_before {
+                true => two.complete(&8).unwrap(),
+                false => two.fail(&Failed::new("Declined", "no")).unwrap(),
+            };
+            one.complete(&7).unwrap();
+            before.unwrap_or_else(|| one.either(&two, "load").unwrap()).again(1).unwrap();
+            ["one", "two"].iter().for_each(|name| drop(store.worker(name, &functions)));
+            world.end_is(move || format!("{:?}", called.get()));
+        });
+        assert_eq!(ends(&report), wanted);
+    }
 }
 
 #[test]
