@@ -157,7 +157,7 @@ const FINDS: [(u8, Step); 9] = [
 
 /// The second session claims the apply, and is gone. The first finds its claim, and fails the stage. The claim is open
 /// until the second session finishes it, which is too late.
-const GONE: [(u8, Step); 15] = [
+const GONE: [(u8, Step); 12] = [
     (0, Step::Number(0)),
     (0, Step::Lands(Engine::Sound, &[COMPLETE_BY_0])),
     (1, Step::Saw(SETTLED)),
@@ -174,7 +174,7 @@ const GONE: [(u8, Step); 15] = [
 
 /// A group attaches a stage and claims it. Then there is no room for another one before it is made. The second session
 /// has two tokens.
-const GROUPS: [(u8, Step); 12] = [
+const GROUPS: [(u8, Step); 11] = [
     (
         0,
         Step::Lands(Engine::Sound, &[COMPLETE_BY_0, ATTACH_BY_0, CLAIM_2_BY_0]),
@@ -199,7 +199,7 @@ const GROUPS: [(u8, Step); 12] = [
 
 /// Others have all numbers. The first session shares 7, and the second 9, each its own. Each entry is recorded by whose
 /// it is, and not by its number: of the two claims by caller 7 the first session's own isn't granted.
-const CROWDED: [(u8, Step); 14] = [
+const CROWDED: [(u8, Step); 12] = [
     (0, Step::Crowd),
     (0, Step::Sees),
     (0, Step::Number(7)),
