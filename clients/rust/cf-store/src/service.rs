@@ -355,7 +355,10 @@ impl Shared {
             self.warn(name, error);
             self.host.breaks(error);
             let mut requests = locked(&self.requests);
+            // (the next one of its name may be there already)
+            let is_next = matches!((inner, requests.get(name)), (Some(inner), Some(Kept::Open(known))) if !Arc::ptr_eq(known, inner));
             match error {
+                _ if is_next => {}
                 StoreError::Broken { .. } => drop(requests.insert(name.into(), Kept::Broken)),
                 _ => drop(requests.remove(name)), // (another of its name may be opened)
             }
