@@ -222,9 +222,10 @@ static uint32_t apply(Request *self, uint64_t word, cf_reply *reply, News *news)
 static uint32_t next(Request *self, int who, cf_task *task, News *news) {
   cf_request_step step = {(uint8_t)who, 0, 0};
   uint32_t held = task->held;
-  uint32_t code = cf_request_next(self->machine, &step, task, self->state->told, MOST);
+  /* (a claim alone settles nothing, and what a limit has settled is left for the clock's thread to tell) */
+  uint32_t code = cf_request_next(self->machine, &step, task, self->state->told, held ? MOST : 0);
   if (code && code != CF_NOTHING) return code;
-  if (held || task->held) note(self, held + task->held, step.told, news);
+  if (held || task->held) note(self, held + task->held, held ? step.told : 0, news);
   if (task->held) self->rows[task->stage].running = true;
   return CF_OK;
 }

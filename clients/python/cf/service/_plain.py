@@ -533,7 +533,8 @@ class RequestCore(Calls):
             self._turns -= self._turns > 0
             if stage is None:
                 machine.numbers[_STEP], machine.numbers[_TASK] = who, 0
-                code = _next(machine.at, machine.at + 4 * _STEP, machine.at + 4 * _TASK, machine.told, ROWS)
+                # (it settles nothing, and what a limit has settled is left for the clock's thread to tell)
+                code = _next(machine.at, machine.at + 4 * _STEP, machine.at + 4 * _TASK, machine.told, 0)
                 if code == Code.NOTHING:
                     return None
                 check(code)
