@@ -143,7 +143,7 @@ class SQLite(TableStore):
         if mark is None or at[0] < mark[0]:
             return self.ends(), at
         opened = self._ask("select name from cf_request where id > ? and closed is null", mark[1])
-        # (By the sign, it doesn't go through all words in the order of requests.)
+        # (`+` keeps SQLite from going through all words by the index of requests)
         longer = self._ask("select name, max(at) + 1 from cf_word join cf_request on id = request "
                            "where n > ? and closed is null group by +request", mark[0])
         return {**{str(name): 0 for name, in opened}, **{str(name): int(many) for name, many in longer}}, at

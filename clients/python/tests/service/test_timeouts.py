@@ -51,6 +51,17 @@ class Limits(Case):
                     limited.complete_on_timeout(1, seconds)
         self.assertEqual(timed.promise().complete_on_timeout(7, 0.01).result(20), 7)
 
+    def test_a_worker_that_asks_between_the_steps_of_a_limit(self):
+        """It finds nothing to run, and leaves what the limit has settled to the clock's thread, which shows it."""
+        kind, real = type(self.request), type(self.request)._take_told
+
+        def take_told(request):
+            request._begin(CLIENT)
+            real(request)
+        with unittest.mock.patch.object(kind, "_take_told", take_told):
+            late = self.request.promise().or_timeout(0.01)
+            self.assertIsInstance(late.exception(5), TimeoutError)
+
     def test_an_earlier_limit_wakes_the_clock(self):
         late = [self.request.promise().or_timeout(1000 + k) for k in range(3)]
         time.sleep(0.05)  # (the clock waits for the first of these)

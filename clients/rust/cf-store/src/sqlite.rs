@@ -244,7 +244,7 @@ impl Store for SQLite {
             _ => return Ok((self.ask(ENDS, &[], read)?.into_iter().collect(), mark)),
         };
         let opened = "select name, 0 from cf_request where id > ? and closed is null";
-        // (By the sign, it doesn't go through all words in the order of requests.)
+        // (`+` keeps SQLite from going through all words by the index of requests)
         let longer = "select name, max(at) + 1 from cf_word join cf_request on id = request where n > ? and closed is null group by +request";
         let mut told = self.ask(opened, &[&since.1], read)?;
         told.extend(self.ask(longer, &[&since.0], read)?);

@@ -26,7 +26,7 @@ final class SqliteStore extends JdbcStore {
         "create table if not exists cf_glance (request integer primary key, words integer not null, said text not null)",
         "create table if not exists cf_name (request integer, session integer, name text not null, primary key (request, session)) without rowid",
     };
-    /** Up to where words and requests are, and what came behind that. (By the sign, SQLite doesn't go through all words in the order of requests.) */
+    /** Up to where words and requests are, and what came behind that. ({@code +} keeps SQLite from going through all words by the index of requests.) */
     private static final String NEWS = "select null, (select coalesce(max(n), 0) from cf_word), (select coalesce(max(id), 0) from cf_request) "
             + "union all select name, 0, null from cf_request where id > ? and closed is null "
             + "union all select name, max(at) + 1, null from cf_word join cf_request on id = request where n > ? and closed is null "
