@@ -253,6 +253,36 @@ fn limits(spawn: &Arc<dyn Spawn>) {
     }
 }
 
+/// What a handler does that asks eight others: parts that each have a limit and a function behind it, and that are gathered.
+fn parts(spawn: &Arc<dyn Spawn>) {
+    for _ in 0..STAGES / LIMITED {
+        let request = request(spawn, 3 * LIMITED as u16);
+        let asked: Vec<Stage<i32>> = (0..LIMITED).map(|_| request.promise().or_timeout(Duration::from_secs(5))).collect();
+        let parts: Vec<Stage<i32>> = asked.iter().map(|part| part.clone().then(|value| one_more(*value))).collect();
+        let all = request.gather(&parts);
+        asked.iter().for_each(|part| part.complete(1).expect("it is pending"));
+        assert_eq!(black_box(all.wait()).expect("values"), [2; LIMITED]);
+    }
+}
+
+/// The same by tasks of tokio on one thread.
+fn parts_by_tokio(runtime: &tokio::runtime::Runtime) {
+    let part = |came: tokio::sync::oneshot::Receiver<i32>| async move {
+        let told = tokio::time::timeout(Duration::from_secs(5), came).await;
+        one_more(told.expect("it is in time").expect("it is sent"))
+    };
+    for _ in 0..STAGES / LIMITED {
+        runtime.block_on(async {
+            let (asked, came): (Vec<_>, Vec<_>) = (0..LIMITED).map(|_| tokio::sync::oneshot::channel()).unzip();
+            let parts: Vec<_> = came.into_iter().map(|came| tokio::spawn(part(came))).collect();
+            tokio::task::yield_now().await;
+            asked.into_iter().for_each(|asked| asked.send(1).expect("it is received"));
+            let told = futures::future::join_all(parts).await;
+            assert!(black_box(told).into_iter().all(|told| told.expect("it doesn't panic") == 2));
+        });
+    }
+}
+
 /// The library's part of the same chain: its ledger and its words.
 fn chain_of_words(plan: &mut cf_graph::Plan) -> Duration {
     let since = Instant::now();
@@ -346,11 +376,14 @@ fn bytes_of_ledger(plan: &mut cf_graph::Plan) {
 /// Does one way so often. Each round is of 512 stages.
 fn count(name: &str, rounds: usize) {
     let inline: Arc<dyn Spawn> = Arc::new(Inline);
+    let runtime = tokio::runtime::Builder::new_current_thread().enable_time().build().expect("there is a thread");
     let once: Box<dyn Fn()> = match name {
         "chain" => Box::new(|| _ = chain_of_stages(&inline, 17)),
         "chain, run when attached" => Box::new(|| _ = chain_of_settled_stages(&inline, 17)),
         "fan-out" => Box::new(|| fan_out_alone(&inline)),
         "promises with a limit" => Box::new(|| limits(&inline)),
+        "parts with a limit, gathered" => Box::new(|| parts(&inline)),
+        "tokio tasks with a limit" => Box::new(|| parts_by_tokio(&runtime)),
         "boxed futures" => Box::new(|| _ = chain_of_boxes()),
         "boxed().shared()" => Box::new(chain_of_shared_boxes),
         _ => panic!("no way has this name: {name}"),

@@ -87,7 +87,7 @@ pub use graph::Graph;
 pub use ledger::{Changes, Ledger, Misfit, News, Stage, State};
 pub use plan::{Form, Limit, Plan, PlanBuilder, Sizes};
 pub use refused::Refused;
-pub use request::{Calls, Deadline, Request, RequestSizes, Told};
+pub use request::{Calls, Deadline, Request, RequestSizes, Task, Told};
 pub use row::{Entry, Row, RowOpening};
 pub use step::{Step, Taken};
 pub use sweep::Sweep;

@@ -59,10 +59,7 @@ pub struct Deadline {
 /// The stages that a call told, with their outcomes. Each is told once, when it is settled, in the order of the events that settled them; those
 /// of one event rise. It keeps its room, so one serves the calls of many requests.
 #[derive(Debug, Default)]
-pub struct Told {
-    rows: Vec<sys::cf_told>,
-    count: usize,
-}
+pub struct Told(Vec<sys::cf_told>);
 
 /// For how many stages there is room at first. What a call couldn't tell is asked for at once, and then there is room.
 const ROOM: usize = 16;
@@ -71,13 +68,13 @@ impl Told {
     /// How many they are.
     #[inline]
     pub fn len(&self) -> usize {
-        self.count
+        self.0.len()
     }
 
     /// Whether none was told.
     #[inline]
     pub fn is_empty(&self) -> bool {
-        self.count == 0
+        self.0.is_empty()
     }
 
     /// One of them, by its place among them.
@@ -87,13 +84,13 @@ impl Told {
     /// Where there are no more than `at`.
     #[inline]
     pub fn at(&self, at: usize) -> (u16, Outcome) {
-        told_out(&self.rows[..self.count][at])
+        told_out(&self.0[at])
     }
 
     /// All of them.
     #[inline]
     pub fn iter(&self) -> impl ExactSizeIterator<Item = (u16, Outcome)> + '_ {
-        self.rows[..self.count].iter().map(told_out)
+        self.0.iter().map(told_out)
     }
 
     /// Makes a call that tells: where to, for how many there is room, and where it writes how many there were to tell. What there was no room
@@ -104,33 +101,75 @@ impl Told {
         handle: &mut Handle,
         call: impl FnOnce(*mut sys::cf_handle, *mut sys::cf_told, usize, *mut usize) -> u32,
     ) -> Result<(), Refused> {
-        if self.rows.is_empty() {
+        if self.0.capacity() == 0 {
             self.make_room();
         }
-        self.count = 0;
+        self.0.clear();
         let mut count = 0;
-        let (told, room) = (self.rows.as_mut_ptr(), self.rows.len());
+        let (told, room) = (self.0.as_mut_ptr(), self.0.capacity());
         let answer = handle.call(|h| call(h, told, room, &mut count));
-        self.count = count;
+        // SAFETY: pointers: the call has written as many of the elements for which there is room.
+        unsafe { self.0.set_len(count.min(room)) };
         if count > room {
-            self.take_rest(handle, room)?;
+            self.take_rest(handle, count)?;
         }
         answer
     }
 
     #[cold]
     fn make_room(&mut self) {
-        self.rows = vec![sys::cf_told::default(); ROOM];
+        self.0.reserve(ROOM);
     }
 
-    /// Takes what there was no room for behind so many.
+    /// Takes what there was no room for, so that there are so many.
     #[cold]
-    fn take_rest(&mut self, handle: &mut Handle, taken: usize) -> Result<(), Refused> {
-        self.rows.resize(self.count.next_power_of_two(), sys::cf_told::default());
-        let rest = &mut self.rows[taken..];
-        let (told, room) = (rest.as_mut_ptr(), rest.len());
+    fn take_rest(&mut self, handle: &mut Handle, count: usize) -> Result<(), Refused> {
+        let more = count - self.len();
+        self.0.reserve(more);
+        let rest = self.0.spare_capacity_mut();
+        let (told, room) = (rest.as_mut_ptr().cast(), rest.len());
         // SAFETY: alone, pointers: `h` and what is told to are this call's, and `told` points to as many elements as said.
-        handle.tell(|h, n| unsafe { sys::cf_request_told(h, told, room, n) }).map(|_: usize| ())
+        let rest: usize = handle.tell(|h, n| unsafe { sys::cf_request_told(h, told, room, n) })?;
+        // SAFETY: pointers: the call has written as many behind the others.
+        unsafe { self.0.set_len(self.len() + rest.min(room)) };
+        Ok(())
+    }
+}
+
+/// What a caller of a lane has in its hands: the stage that it has claimed, what that one's function is to be called with, and then what it
+/// answered. One serves all steps of a caller: it holds nothing before the first, and what the step before has claimed then.
+#[derive(Debug, Default)]
+pub struct Task(sys::cf_task);
+
+impl Task {
+    /// The stage that is held, if one is.
+    #[inline]
+    pub fn stage(&self) -> Option<u16> {
+        (self.0.held != 0).then_some(self.0.stage)
+    }
+
+    /// What the function of the stage that is held is to be called with.
+    #[inline]
+    pub fn args(&self) -> Args {
+        args_out(&self.0.args)
+    }
+
+    /// Says what the function of the stage that is held answered. The next step finishes the stage with that.
+    #[inline]
+    pub fn answer(&mut self, answer: Answer) {
+        self.0.answer = answer_in(answer);
+    }
+
+    /// How the finish of the stage went that was held before the last step.
+    #[inline]
+    pub fn finished(&self) -> Finished {
+        finished_of(self.0.finished)
+    }
+
+    /// Holds nothing any more: the stage is finished by another call.
+    #[inline]
+    pub fn clear(&mut self) {
+        self.0.held = 0;
     }
 }
 
@@ -198,11 +237,33 @@ impl Request {
     /// One step of a caller of a lane: finishes the stage that it holds with this answer, settles the stages that follow one that is settled now,
     /// and claims the lowest ready stage of the lane. `NO_LANE`, `NO_WORD` where `who` is above 63, `NO_STAGE`, `NOT_HELD`, `NO_MEMORY`: nothing is
     /// changed then.
-    #[inline(always)]
     pub fn next(&mut self, who: u8, lane: u8, held: Option<(u16, Answer)>, told: &mut Told) -> Result<Step, Refused> {
+        let mut task = Task(task_in(held));
+        self.step(who, lane, &mut task, told)?;
+        Ok(step_out(held, &task.0))
+    }
+
+    /// The same, with what the caller has in its hands, and then has.
+    ///
+    /// ```
+    /// use cf_graph::{Answer, Call, Event, Finished, Form, Of, PlanBuilder, Request, RequestSizes, Task, Told, Value};
+    /// # fn main() -> Result<(), cf_graph::Refused> {
+    /// let sizes = RequestSizes { room: 1, lanes: 1, own: 63 };
+    /// let (mut request, mut told) = (Request::new(&mut PlanBuilder::new()?.build()?, sizes, &[])?, Told::default());
+    /// request.apply(Event { who: 0, call: Call::Attach(Form::Supply, Of::None, Some(0)) }.word()?, 0, &mut told)?;
+    /// let mut task = Task::default();
+    /// request.step(3, 0, &mut task, &mut told)?;
+    /// assert_eq!(task.stage(), Some(0));
+    /// task.answer(Answer::Give(Value::Int(7)));
+    /// request.step(3, 0, &mut task, &mut told)?;
+    /// assert_eq!((task.finished(), task.stage(), told.at(0).0), (Finished::Won, None, 0));
+    /// # Ok(())
+    /// # }
+    /// ```
+    #[inline(always)]
+    pub fn step(&mut self, who: u8, lane: u8, task: &mut Task, told: &mut Told) -> Result<(), Refused> {
         let mut step = sys::cf_request_step { who, lane, told: 0 };
-        let mut task = task_in(held);
-        let to = (&mut step, &mut task);
+        let to = (&mut step, &mut task.0);
         let answer = told.tell(&mut self.0, |h, rows, room, n| {
             // SAFETY: alone, pointers: `h` and what is told to are this call's, and `rows` points to as many elements as said.
             let code = unsafe { sys::cf_request_next(h, to.0, to.1, rows, room) };
@@ -211,8 +272,8 @@ impl Request {
             code
         });
         match answer {
-            Ok(()) | Err(Refused::NOTHING) => Ok(step_out(held, &task)),
-            Err(refused) => Err(refused),
+            Err(Refused::NOTHING) => Ok(()),
+            answer => answer,
         }
     }
 

@@ -34,7 +34,7 @@ pub(crate) fn task_in(held: Option<(u16, Answer)>) -> sys::cf_task {
 
 #[inline]
 pub(crate) fn taken_out(task: &sys::cf_task) -> Option<Taken> {
-    (task.held != 0).then(|| Taken { stage: task.stage, function: task.function, args: args_out(task.args) })
+    (task.held != 0).then(|| Taken { stage: task.stage, function: task.function, args: args_out(&task.args) })
 }
 
 /// What a step did that began with this in the caller's hands.

@@ -171,7 +171,7 @@ fn fault_out(outcome: &sys::cf_outcome) -> Outcome {
 }
 
 #[inline]
-pub(crate) fn args_out(args: sys::cf_args) -> Args {
+pub(crate) fn args_out(args: &sys::cf_args) -> Args {
     match args.kind {
         0 => Args::None,
         1 => Args::One(value_out(args.first)),
@@ -194,7 +194,7 @@ pub(crate) fn now_out(now: sys::cf_now) -> Now {
 #[inline]
 pub(crate) fn claimed_out(reply: sys::cf_reply) -> Claimed {
     match reply.answer {
-        0 => Claimed::Granted(args_out(reply.args)),
+        0 => Claimed::Granted(args_out(&reply.args)),
         1 => Claimed::Settled,
         2 => Claimed::Taken,
         _ => Claimed::NotReady,

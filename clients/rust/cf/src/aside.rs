@@ -1,8 +1,8 @@
 //! What is told aside of all else, one thing after another: on a thread that is there while something is left to tell.
+use crate::spawn::quietly;
 use std::collections::VecDeque;
 use std::fmt;
-use std::mem::{forget, replace};
-use std::panic::{catch_unwind, AssertUnwindSafe};
+use std::mem::replace;
 use std::sync::{Arc, Condvar, Mutex, MutexGuard, PoisonError};
 use std::thread;
 use std::time::Duration;
@@ -91,10 +91,7 @@ impl<T> Shared<T> {
                 None => return self.rests.notify_all(),
             };
             // A value's drop may panic, too, and so may that of a payload.
-            let told = || (self.tells)(next);
-            if let Err(payload) = catch_unwind(AssertUnwindSafe(told)) {
-                forget(payload);
-            }
+            quietly(|| (self.tells)(next));
         }
     }
 }

@@ -1,7 +1,8 @@
 //! What time it is, and who rings when it is later.
 use crate::core::Core;
 use crate::spawn::{guarded, quietly};
-use std::collections::BTreeMap;
+use std::cmp::{self, Reverse};
+use std::collections::BinaryHeap;
 use std::fmt;
 use std::panic::{catch_unwind, resume_unwind, AssertUnwindSafe};
 use std::sync::atomic::{AtomicBool, Ordering};
@@ -232,36 +233,65 @@ impl Ringers {
     }
 }
 
-/// Alarms by the moments at which they ring.
+/// Alarms, of which the first that rings is at hand.
 struct Due {
-    alarms: BTreeMap<(Duration, u64), Alarm>,
+    alarms: BinaryHeap<Reverse<Rings>>,
     number: u64,
     /// Above how many alarms those are left out whose stages need none any more.
     sweep: usize,
 }
 
+/// An alarm, and the moment at which it rings. Of one moment, the one rings first that came first.
+struct Rings {
+    at: Duration,
+    number: u64,
+    alarm: Alarm,
+}
+
+impl Ord for Rings {
+    fn cmp(&self, other: &Rings) -> cmp::Ordering {
+        (self.at, self.number).cmp(&(other.at, other.number))
+    }
+}
+
+impl PartialOrd for Rings {
+    fn partial_cmp(&self, other: &Rings) -> Option<cmp::Ordering> {
+        Some(self.cmp(other))
+    }
+}
+
+impl PartialEq for Rings {
+    fn eq(&self, other: &Rings) -> bool {
+        self.cmp(other).is_eq()
+    }
+}
+
+impl Eq for Rings {}
+
 impl Due {
     fn new() -> Due {
-        Due { alarms: BTreeMap::new(), number: 0, sweep: 64 }
+        Due { alarms: BinaryHeap::new(), number: 0, sweep: 64 }
+    }
+
+    /// The moment of the first.
+    fn first(&self) -> Option<Duration> {
+        self.alarms.peek().map(|Reverse(first)| first.at)
     }
 
     /// Whether the alarm is the first that rings now.
     fn add(&mut self, at: Duration, alarm: Alarm) -> bool {
-        let is_first = self.alarms.keys().next().map_or(true, |first| at < first.0);
+        let is_first = self.first().map_or(true, |first| at < first);
         self.number += 1;
-        self.alarms.insert((at, self.number), alarm);
+        self.alarms.push(Reverse(Rings { at, number: self.number, alarm }));
         is_first
     }
 
+    /// The first, if its moment has come, or how long that takes.
     fn take(&mut self, now: Duration) -> Result<Alarm, Option<Duration>> {
-        let first = match self.alarms.keys().next() {
-            None => return Err(None),
-            Some(first) => *first,
-        };
-        if first.0 > now {
-            return Err(Some(first.0 - now));
+        match self.first() {
+            Some(first) if first <= now => self.alarms.pop().map(|Reverse(first)| first.alarm).ok_or(None),
+            first => Err(first.map(|first| first - now)),
         }
-        self.alarms.remove(&first).ok_or(None)
     }
 }
 
@@ -274,15 +304,15 @@ fn lock<T>(held: &Mutex<T>) -> MutexGuard<'_, T> {
 fn sweep() {
     let alarms = std::mem::take(&mut ALARMS.lock().due().alarms);
     let is_wanted = |alarm: &Alarm| catch_unwind(AssertUnwindSafe(|| alarm.is_wanted())).unwrap_or(false);
-    let (mut wanted, unwanted): (BTreeMap<_, _>, BTreeMap<_, _>) = alarms.into_iter().partition(|(_, alarm)| is_wanted(alarm));
+    let (wanted, unwanted): (Vec<_>, Vec<_>) = alarms.into_iter().partition(|Reverse(rings)| is_wanted(&rings.alarm));
     let mut held = ALARMS.lock();
     let due = held.due();
-    due.alarms.append(&mut wanted);
+    due.alarms.extend(wanted);
     due.sweep = 64 + 2 * due.alarms.len();
     drop(held);
     ALARMS.came.notify_one();
-    for (_, alarm) in unwanted {
-        quietly(|| drop(alarm));
+    for rings in unwanted {
+        quietly(|| drop(rings));
     }
 }
 
@@ -386,8 +416,7 @@ impl HandClock {
         loop {
             let mut held = self.lock();
             let (now, due) = &mut *held;
-            let first = due.alarms.keys().next().map(|first| first.0);
-            *now = first.map_or(end, |first| first.min(end)).max(*now);
+            *now = due.first().map_or(end, |first| first.min(end)).max(*now);
             let next = due.take(*now);
             drop(held);
             match next {

@@ -5,17 +5,16 @@ use crate::clock::{try_again, Alarm, Clock};
 use crate::context::carried;
 use crate::error::{Error, Panic, Refusal};
 use crate::history::History;
-use crate::inner::{kept_of, After, Feed, Inner, Kept, News, With};
+use crate::inner::{kept_of, After, Feed, Hands, Inner, Kept, News};
 use crate::ledger::Ledger;
 use crate::name::Made;
 use crate::slot::Held;
-use crate::spawn::{as_worker, guarded, in_turn, quietly, running, Job, Payload, Row, Spawn, Turn, CLOCK, RELAY};
+use crate::spawn::{as_worker, guarded, in_turn, inline, is_inline_free, quietly, running, worker, Job, Payload, Row, Spawn, Turn, CLOCK, RELAY};
 use crate::task::{Polling, Task};
 use crate::value::{Call, Gave, Given, Val};
 use crate::word::Form;
 use cf_graph::nanos;
 use std::borrow::Cow;
-use std::cell::RefCell;
 use std::mem::take;
 use std::panic::{catch_unwind, resume_unwind, AssertUnwindSafe};
 use std::sync::atomic::{AtomicBool, AtomicUsize, Ordering};
@@ -30,6 +29,8 @@ pub(crate) struct Core {
     pub(crate) place: usize,
     /// How many jobs there may be at a time.
     most: usize,
+    /// Whether a job is done on the thread that asks for it.
+    is_inline: bool,
     clock: Arc<dyn Clock>,
     begun: Duration,
     /// The same in nanoseconds where the clock is the computer's.
@@ -37,6 +38,8 @@ pub(crate) struct Core {
     inner: Mutex<Inner>,
     /// Jobs that rest in a function that waits.
     resting: AtomicUsize,
+    /// How many workers have a stage in their hands. It changes under the lock.
+    busy: AtomicUsize,
     /// Whether a worker that waits may be to be woken by a future that is to be polled.
     has_helpers: AtomicBool,
     /// Who is told what is done to it.
@@ -48,24 +51,31 @@ pub(crate) struct Core {
 /// nanoseconds: who pauses longer lets the one that has it take several, with all that it needs at hand.
 const LOOKS: usize = 12;
 const PAUSES: usize = 64;
+/// How often a worker that has nothing in its hands looks, and how long it sleeps between two looks, once it has looked twice.
+const LEISURELY_LOOKS: usize = 16;
+const SLEEP: Duration = Duration::from_micros(50);
+/// Below how many nanoseconds a function takes less than what goes with it from one core to another, the machine and the slots.
+const SHORT: u64 = 1_000;
 
 impl Core {
     /// How many functions a job runs before it goes to the end of the line.
     pub(crate) const TURN: usize = 64;
 
     pub(crate) fn new(name: Box<str>, spawn: Arc<dyn Spawn>, clock: Arc<dyn Clock>, room: u16) -> Result<Arc<Core>, Refusal> {
-        let (place, most, ledger) = (spawn.id(), spawn.parallelism().max(1), Ledger::new(room)?);
+        let (place, most, is_inline, ledger) = (spawn.id(), spawn.parallelism().max(1), spawn.is_inline(), Ledger::new(room)?);
         let (begun, begun_at) = if clock.is_system() { (Duration::ZERO, Some(nanos())) } else { (clock.now(), None) };
         let core = Arc::new(Core {
             name,
             spawn,
             place,
             most,
+            is_inline,
             clock,
             begun,
             begun_at,
             inner: Mutex::new(Inner::over(ledger, room)),
             resting: AtomicUsize::new(0),
+            busy: AtomicUsize::new(0),
             has_helpers: AtomicBool::new(false),
             #[cfg(feature = "testing")]
             watch: crate::testing::Watch::of(place),
@@ -78,11 +88,17 @@ impl Core {
     /// No code of a user runs under the lock, so what a panic leaves behind it is whole.
     #[inline(always)]
     pub(crate) fn lock(&self) -> MutexGuard<'_, Inner> {
+        self.lock_seeing().0
+    }
+
+    /// The lock, and whether another thread had it just now.
+    #[inline(always)]
+    fn lock_seeing(&self) -> (MutexGuard<'_, Inner>, bool) {
         #[cfg(test)]
         crate::search::turn();
         match self.inner.try_lock() {
-            Ok(inner) => inner,
-            Err(_) => self.lock_taken(),
+            Ok(inner) => (inner, false),
+            Err(_) => (self.lock_taken(), true),
         }
     }
 
@@ -99,6 +115,43 @@ impl Core {
             }
         }
         self.inner.lock().unwrap_or_else(PoisonError::into_inner)
+    }
+
+    /// The lock for a worker that comes back from a function, the moment, and whether it gives way: where functions are short, one worker does them
+    /// sooner than several that take the lock from one another.
+    #[inline(always)]
+    fn lock_behind(&self, since: u64) -> (MutexGuard<'_, Inner>, u64, bool) {
+        let now = self.now();
+        let (inner, was_taken) = self.lock_seeing();
+        let gives_way = was_taken && now.saturating_sub(since) < SHORT && self.busy.load(Ordering::Relaxed) > 1;
+        (inner, now, gives_way)
+    }
+
+    /// The lock for a worker that has nothing in its hands, and the moment; it doesn't give way again. Those that have a stage in theirs come first,
+    /// and may do what is ready sooner than this one would.
+    #[inline(never)]
+    fn lock_at_leisure(&self) -> (MutexGuard<'_, Inner>, u64, bool) {
+        #[cfg(test)]
+        crate::search::turn();
+        for look in 0..LEISURELY_LOOKS {
+            let now = self.now();
+            match self.inner.try_lock() {
+                Ok(inner) => return (inner, now, false),
+                Err(TryLockError::Poisoned(inner)) => return (inner.into_inner(), now, false),
+                Err(TryLockError::WouldBlock) if self.busy.load(Ordering::Relaxed) == 0 => break,
+                Err(TryLockError::WouldBlock) if look == 0 => std::hint::spin_loop(),
+                Err(TryLockError::WouldBlock) => std::thread::sleep(SLEEP),
+            }
+        }
+        let now = self.now();
+        (self.lock_taken(), now, false)
+    }
+
+    /// A worker has a stage in its hands now, or none any more. It has the lock.
+    #[inline(never)]
+    fn counts(&self, is_busy: bool) {
+        let busy = self.busy.load(Ordering::Relaxed);
+        self.busy.store(if is_busy { busy + 1 } else { busy - 1 }, Ordering::Relaxed);
     }
 
     /// Lets who watches it be told something.
@@ -118,15 +171,38 @@ impl Core {
         inner.ledger.record.go_on(now);
         let done = act(&mut inner, &mut after);
         inner.cancel_relays(&mut after);
-        inner.hire(self.most(), false, &mut after);
-        drop(inner);
-        let (jobs, news) = after.into_parts();
-        if jobs > 0 || news.is_some() {
-            self.tell_now(jobs, news);
+        inner.hire(self, false, &mut after);
+        if after.jobs > 0 && self.is_inline && is_inline_free() {
+            self.begin_here(inner, after);
+        } else {
+            drop(inner);
+            let (jobs, news) = after.into_parts();
+            if jobs > 0 || news.is_some() {
+                self.tell_now(jobs, news);
+            }
         }
         #[cfg(feature = "testing")]
         self.watched(|watch| watch.changed());
         done
+    }
+
+    /// Begins the job that a change asks for under the same hold of the lock, where [`Inline`](crate::Inline) would begin it at once. Then what came
+    /// of the change is told.
+    #[inline(never)]
+    fn begin_here(self: &Arc<Core>, mut inner: MutexGuard<'_, Inner>, mut after: After) {
+        let mut hands = Hands::empty();
+        let first = inner.step(worker(), &mut hands, &mut after).expect("a stage is ready for which a job is asked");
+        inner.coming -= 1;
+        drop(inner);
+        let (mut panicked, (_, mut news)) = (None, after.into_parts());
+        self.ask_for_alarm(&mut news, &mut panicked);
+        inline(|| as_worker(|who| self.work_on(who, Core::TURN, &mut hands, Some(first))), &mut panicked);
+        if let Some(news) = news {
+            self.tell_news(news, &mut panicked);
+        }
+        if let Some(payload) = panicked {
+            resume_unwind(payload);
+        }
     }
 
     /// Nanoseconds since the request began. A clock may be a user's, so it isn't asked under the lock, and one that panics tells nothing: the
@@ -342,63 +418,87 @@ impl Core {
         self.lock().told(stage)
     }
 
+    /// The values of these stages, or the error of the first that has one.
+    pub(crate) fn values(&self, stages: &[u16]) -> Result<Vec<Val>, Error> {
+        #[cfg(feature = "testing")]
+        stages.iter().for_each(|stage| self.watched(|watch| watch.read(*stage)));
+        let (mut values, inner) = (Vec::with_capacity(stages.len()), self.lock());
+        for stage in stages {
+            values.push(inner.told(*stage).unwrap_or(Err(Error::BadAnswer))?);
+        }
+        Ok(values)
+    }
+
     // Working.
 
     /// Runs ready functions, at most so many, until none is left.
     pub(crate) fn work(self: &Arc<Core>, who: u8, most: usize) {
+        self.work_on(who, most, &mut Hands::empty(), None);
+    }
+
+    /// The same, where a job has begun that has this in its hands, and its function.
+    fn work_on(self: &Arc<Core>, who: u8, most: usize, hands: &mut Hands, mut next: Option<Call>) {
         let _running = running(self, true);
-        let (mut ended, mut left, mut begins, mut panicked) = ((None, Held::Nothing), most, true, None);
-        let mut with = With::nothing();
+        let (mut left, mut begins, mut is_busy, mut since, mut panicked) = (most, next.is_none(), false, 0, None);
         loop {
-            let (mut after, now) = (After::default(), self.now());
-            let mut inner = self.lock();
+            let mut after = After::default();
+            let (mut inner, now, gives_way) = match next {
+                Some(call) => {
+                    left -= 1;
+                    match catch_unwind(AssertUnwindSafe(|| call(&hands.given))) {
+                        Ok(Gave::Value(value)) => hands.keep(value),
+                        gave => self.gave(who, hands, gave, &mut panicked),
+                    }
+                    self.lock_behind(since)
+                }
+                None => self.lock_at_leisure(),
+            };
+            since = now;
             inner.ledger.record.go_on(now);
-            let (held, keeps) = ended;
-            let next = if left > 0 {
-                inner.step(who, held, keeps, &mut with, &mut after)
+            next = if left > 0 && !gives_way {
+                inner.step(who, hands, &mut after)
             } else {
-                inner.last(who, held, keeps, &mut after);
+                inner.last(who, hands, &mut after);
                 None
             };
             inner.cancel_relays(&mut after);
-            if begins || next.is_none() {
+            let ends = next.is_none() && (left == 0 || !gives_way);
+            if begins || ends {
                 inner.coming -= usize::from(begins);
-                inner.jobs -= usize::from(next.is_none());
+                inner.jobs -= usize::from(ends);
+            }
+            if is_busy != next.is_some() {
+                is_busy = next.is_some();
+                self.counts(is_busy);
             }
             // Where a step finds nothing, nothing is ready.
-            inner.hire(self.most(), begins && next.is_some() || left == 0, &mut after);
+            inner.hire(self, begins && next.is_some() || left == 0, &mut after);
             drop(inner);
             begins = false;
             let (jobs, news) = after.into_parts();
             if jobs > 0 || news.is_some() {
                 self.tell(jobs, news, &mut panicked);
             }
-            let (stage, call) = match next {
-                Some(next) => next,
-                None => break,
-            };
-            left -= 1;
-            ended = match catch_unwind(AssertUnwindSafe(|| call(&with.given))) {
-                Ok(Gave::Value(Val::Nil)) => (Some(stage), Held::Nothing),
-                Ok(Gave::Value(value)) => (Some(stage), Held::Value(value)),
-                gave => self.gave(who, stage, gave, &mut panicked),
-            };
+            if ends {
+                break;
+            }
         }
         if let Some(payload) = panicked {
             resume_unwind(payload);
         }
     }
 
-    /// What is held, and kept of what a function gave, which is no value: a link or a future is seen to at once.
+    /// Keeps what a function gave, which is no value: a link or a future is seen to at once, and its stage is in the hands no more.
     #[inline(never)]
-    fn gave(self: &Arc<Core>, who: u8, stage: u16, gave: Result<Gave, Payload>, panicked: &mut Option<Payload>) -> (Option<u16>, Held) {
+    fn gave(self: &Arc<Core>, who: u8, hands: &mut Hands, gave: Result<Gave, Payload>, panicked: &mut Option<Payload>) {
+        let stage = hands.task.stage().expect("its function was called");
         match self.begun(who, stage, gave, panicked) {
-            None => (None, Held::Nothing),
+            None => hands.task.clear(),
             Some(gave @ Gave::Stage(..)) => {
                 guarded(panicked, || self.end(who, stage, gave));
-                (None, Held::Nothing)
+                hands.task.clear();
             }
-            Some(gave) => (Some(stage), kept_of(gave)),
+            Some(gave) => hands.keeps = kept_of(gave),
         }
     }
 
@@ -473,7 +573,7 @@ impl Core {
     /// A job of this request rests in a function that waits, so another may come in its place.
     pub(crate) fn rests(self: &Arc<Core>) {
         self.resting.fetch_add(1, Ordering::SeqCst);
-        quietly(|| self.change(|inner, after| inner.hire(self.most(), true, after)));
+        quietly(|| self.change(|inner, after| inner.hire(self, true, after)));
     }
 
     pub(crate) fn goes_on(&self) {
@@ -482,7 +582,7 @@ impl Core {
 
     /// How many jobs there may be at present.
     #[inline]
-    fn most(&self) -> usize {
+    pub(crate) fn most(&self) -> usize {
         self.most + self.resting.load(Ordering::SeqCst)
     }
 
@@ -515,14 +615,18 @@ impl Core {
     /// Tells what came of changes. The lock is free. A waker or a `Drop` that panics doesn't keep the others from being
     /// told, and what the first panicked with is kept.
     fn tell(self: &Arc<Core>, jobs: usize, mut news: Option<Box<News>>, panicked: &mut Option<Payload>) {
-        if let Some((number, wait)) = news.as_mut().and_then(|news| news.alarm.take()) {
-            guarded(panicked, || self.clock.after(wait, Alarm { core: Arc::downgrade(self), number, wait }));
-        }
+        self.ask_for_alarm(&mut news, panicked);
         for _ in 0..jobs {
             guarded(panicked, || self.spawn(Job::new(Turn::Work(Arc::clone(self)))));
         }
         if let Some(news) = news {
             self.tell_news(news, panicked);
+        }
+    }
+
+    fn ask_for_alarm(self: &Arc<Core>, news: &mut Option<Box<News>>, panicked: &mut Option<Payload>) {
+        if let Some((number, wait)) = news.as_mut().and_then(|news| news.alarm.take()) {
+            guarded(panicked, || self.clock.after(wait, Alarm { core: Arc::downgrade(self), number, wait }));
         }
     }
 
@@ -569,7 +673,7 @@ impl Core {
 }
 
 thread_local! {
-    static DROPPED: Row<Kept> = const { RefCell::new(None) };
+    static DROPPED: Row<Kept> = const { Row::new() };
 }
 
 impl Drop for Core {
@@ -617,4 +721,58 @@ pub(crate) enum First {
 enum Begun {
     Function(u16, Call, Given),
     Future(Arc<Task>),
+}
+
+#[cfg(test)]
+mod tests {
+    use super::*;
+    use crate::{HandClock, Request};
+    use std::sync::mpsc::channel;
+    use std::thread;
+
+    const LONG: Duration = Duration::from_secs(20);
+
+    /// A thread for each job, two at a time.
+    struct Two;
+
+    impl Spawn for Two {
+        fn spawn(&self, job: Job) -> Result<(), Job> {
+            thread::spawn(move || job.run());
+            Ok(())
+        }
+
+        fn parallelism(&self) -> usize {
+            2
+        }
+    }
+
+    fn comes_to(request: &Request, busy: usize) {
+        let until = std::time::Instant::now() + LONG;
+        while request.0.busy.load(Ordering::SeqCst) != busy {
+            assert!(std::time::Instant::now() < until, "{busy} workers have a stage in their hands");
+            thread::yield_now();
+        }
+    }
+
+    /// One worker's function takes long. The other one finds the lock taken as it comes back from a short one. It finishes that, and then goes on
+    /// with what is ready.
+    #[test]
+    fn who_gives_way_goes_on() {
+        // The clock stands, so each function is short.
+        let request = Request::with_clock("gives way", Arc::new(Two), Arc::new(HandClock::new()));
+        let ((opens, open), (goes, go)) = (channel::<()>(), channel::<()>());
+        let long = request.supply(move || open.recv().unwrap());
+        let next = request.supply(move || go.recv().unwrap()).then(|()| 2).then(|n| n + 1);
+        comes_to(&request, 2);
+        let held = request.0.lock();
+        goes.send(()).unwrap();
+        thread::sleep(Duration::from_millis(20));
+        drop(held);
+        assert_eq!(next.wait_timeout(LONG).expect("it goes on").unwrap(), 3);
+        comes_to(&request, 1);
+        opens.send(()).unwrap();
+        long.wait_timeout(LONG).expect("it ends").unwrap();
+        comes_to(&request, 0);
+        assert!(request.history().comes_again());
+    }
 }

@@ -15,7 +15,7 @@ use crate::task::Task;
 use crate::value::{Call, Gave, Given, Val};
 use crate::wakers::Wakers;
 use crate::word::{self, Form, BAD_ANSWER, CANCEL, CLAIM, COMPLETE, FAIL, FAIL_AS, FINISH, LINKS, SOME, THROWS, TIMED_OUT};
-use cf_graph::{Answer, Args, Cause, Claimed, Finished, Outcome, Reply, Value};
+use cf_graph::{Answer, Args, Cause, Claimed, Finished, Outcome, Reply, Task as Claim, Value};
 #[cfg(feature = "tokio")]
 use std::any::Any;
 use std::borrow::Cow;
@@ -119,13 +119,43 @@ pub(crate) struct Extra {
     lets_go: Vec<u16>,
 }
 
-/// What a request holds that may have other requests.
-pub(crate) struct Kept(#[allow(dead_code)] Vec<Slot>, #[allow(dead_code)] BTreeMap<u16, Extra>, #[allow(dead_code)] Vec<Limit>);
+/// What a request holds that may have other requests, and the names of its stages, whose room goes with that of its slots.
+pub(crate) struct Kept {
+    slots: Vec<Slot>,
+    made: Vec<Made>,
+    #[allow(dead_code)]
+    extras: BTreeMap<u16, Extra>,
+    #[allow(dead_code)]
+    limits: Vec<Limit>,
+}
 
 impl Kept {
     pub(crate) fn is_empty(&self) -> bool {
-        self.0.is_empty()
+        self.slots.is_empty()
     }
+}
+
+/// How many small rows of slots a thread keeps, to be used again.
+const MOST_KEPT: usize = 8;
+
+impl Drop for Kept {
+    fn drop(&mut self) {
+        self.slots.drain(..).for_each(Slot::let_go);
+        let is_small = self.slots.capacity() <= usize::from(SLOTS);
+        let _ = ROWS.try_with(|rows| {
+            let mut rows = rows.borrow_mut();
+            if is_small && rows.len() < MOST_KEPT {
+                self.made.clear();
+                rows.push((take(&mut self.slots), take(&mut self.made)));
+            }
+        });
+    }
+}
+
+/// Rows for the slots and the names of so many stages.
+fn rows(room: u16) -> (Vec<Slot>, Vec<Made>) {
+    let kept = ROWS.try_with(|rows| rows.borrow_mut().pop()).ok().flatten();
+    kept.unwrap_or_else(|| (Vec::with_capacity(usize::from(room.min(SLOTS))), Vec::new()))
 }
 
 /// What is to be told once the lock is free, after what a hold of it changed: mostly nothing, or that jobs are to be asked for.
@@ -157,6 +187,8 @@ pub(crate) type Feed = (Arc<Core>, u16, Result<Val, Error>);
 pub(crate) type Todo = (u16, Call, Args);
 
 thread_local! {
+    /// The rows of requests that ended on this thread, which are empty and have room.
+    static ROWS: RefCell<Vec<(Vec<Slot>, Vec<Made>)>> = const { RefCell::new(Vec::new()) };
     /// What this thread has told all of, to be used again: it has room.
     #[allow(clippy::vec_box)]
     static TOLD: RefCell<Vec<Box<News>>> = const { RefCell::new(Vec::new()) };
@@ -186,10 +218,11 @@ impl News {
 impl Inner {
     #[inline]
     pub(crate) fn over(ledger: Ledger, room: u16) -> Inner {
+        let (slots, made) = rows(room);
         Inner {
             ledger,
-            slots: Vec::with_capacity(usize::from(room.min(SLOTS))),
-            made: Vec::new(),
+            slots,
+            made,
             names: BTreeMap::new(),
             describe: crate::describe::Describe::All,
             ending: None,
@@ -310,8 +343,8 @@ impl Inner {
         for stage in first..=root {
             self.slots.push(Slot::new(made, None));
             self.ledger.gathered(stage);
-            if shown < self.ledger.settled() && self.ledger.settled_at(shown).0 == stage {
-                let outcome = self.ledger.settled_at(shown).1;
+            if shown < self.ledger.told.len() && self.ledger.told.at(shown).0 == stage {
+                let outcome = self.ledger.told.at(shown).1;
                 self.show_one(stage, outcome, &mut hangs, after);
                 shown += 1;
             }
@@ -368,7 +401,7 @@ impl Inner {
     /// Shows which stages the last call settled.
     #[inline]
     fn show(&mut self, after: &mut After) {
-        if self.ledger.settled() > 0 {
+        if !self.ledger.told.is_empty() {
             self.show_some(after);
         }
     }
@@ -380,11 +413,16 @@ impl Inner {
 
     #[inline(always)]
     fn show_each(&mut self, after: &mut After) {
-        for at in 0..self.ledger.settled() {
-            match self.ledger.settled_at(at) {
-                (stage, Outcome::Value(value)) if !self.slots[usize::from(stage)].follows => self.settled(stage, Outcome::Value(value), stage, after),
-                _ => return self.show_by(at, after, |_, _, _, _| false),
+        for at in 0..self.ledger.told.len() {
+            let (stage, told) = self.ledger.told.at(at);
+            let slot = &mut self.slots[usize::from(stage)];
+            // Most have a value, and nobody waits for them.
+            if !matches!(told, Outcome::Value(_)) || slot.has_more() || self.waiting.has(stage) {
+                return self.show_by(at, after, |_, _, _, _| false);
             }
+            self.is_more = true;
+            slot.settle(told, stage);
+            self.ledger.shown(stage, told);
         }
     }
 
@@ -393,8 +431,8 @@ impl Inner {
     #[cold]
     fn show_by(&mut self, first: usize, after: &mut After, has_event: impl Fn(&mut Inner, u16, Outcome, &mut After) -> bool) {
         let mut hangs = Hangs::new();
-        for at in first..self.ledger.settled() {
-            let (stage, outcome) = self.ledger.settled_at(at);
+        for at in first..self.ledger.told.len() {
+            let (stage, outcome) = self.ledger.told.at(at);
             if self.slots[usize::from(stage)].follows || has_event(self, stage, outcome, after) {
                 self.ledger.settled_beside();
             }
@@ -416,9 +454,9 @@ impl Inner {
         self.is_more = true;
         let slot = &mut self.slots[usize::from(stage)];
         slot.settle(outcome, from);
-        self.ledger.told(stage, outcome);
+        self.ledger.shown(stage, outcome);
         if let Held::Call(_) = slot.held {
-            after.news().dropped.push(replace(&mut slot.held, Held::Nothing));
+            after.news().dropped.push(take(&mut slot.held));
         }
         if slot.has_extra {
             self.settled_extra(stage, after);
@@ -591,60 +629,53 @@ impl Inner {
 
     // Working.
 
-    /// A step of a worker: the stage that it has to do next, if one is ready, its function, and what that is called with. Before that it finishes
-    /// the stage that it holds, of which this is kept.
-    #[inline]
-    pub(crate) fn step(&mut self, who: u8, held: Option<u16>, keeps: Held, with: &mut With, after: &mut After) -> Option<(u16, Call)> {
-        let taken = match (held, &keeps) {
-            // Most give a value. Where that is known, what the machine is handed is known but for the stage.
-            (Some(stage), Held::Value(_)) => self.go_on(who, stage, Answer::Give(Value::Int(i32::from(stage))), keeps, after),
-            (Some(stage), _) => self.go_on_without(who, stage, keeps, after),
-            (None, _) => self.ledger.begin(who),
-        };
-        let (stage, args) = match taken {
-            Some(taken) => taken,
+    /// A step of a worker: finishes the stage that it has in its hands, if it has one, and gives the function of the one that it has then, if one was
+    /// ready. The function is called with what is given there.
+    #[inline(always)]
+    pub(crate) fn step(&mut self, who: u8, hands: &mut Hands, after: &mut After) -> Option<Call> {
+        let held = hands.task.stage();
+        if let Some(stage) = held {
+            hands.task.answer(answer_of(stage, &hands.keeps));
+        }
+        self.ledger.step(who, &mut hands.task);
+        if let Some(stage) = held {
+            let finished = hands.task.finished();
+            self.ledger.finished(finished);
+            self.ended(stage, finished, take(&mut hands.keeps), after);
+        }
+        let stage = match hands.task.stage() {
+            Some(stage) => stage,
             None => {
                 // All that was ready by now was looked at.
                 self.is_more = false;
                 return None;
             }
         };
-        match args {
+        match hands.task.args() {
             Args::One(value) => {
                 self.ledger.claimed(Args::One(value));
-                if with.of != Some(value) {
-                    with.becomes(Given::One(self.value(value)), Some(value));
+                if hands.of != Some(value) {
+                    hands.get(Given::One(self.value(value)), Some(value));
                 }
             }
-            args => self.give_more(stage, args, with),
+            args => self.give_more(stage, args, hands),
         }
-        Some((stage, self.call(stage)))
-    }
-
-    /// Finishes a stage, of which this is kept, and claims the next.
-    #[inline(always)]
-    fn go_on(&mut self, who: u8, stage: u16, answer: Answer, keeps: Held, after: &mut After) -> Option<(u16, Args)> {
-        let (finished, taken) = self.ledger.go_on(who, stage, answer);
-        self.ended(stage, finished, keeps, after);
-        taken
+        Some(self.call(stage))
     }
 
     #[inline(never)]
-    fn go_on_without(&mut self, who: u8, stage: u16, keeps: Held, after: &mut After) -> Option<(u16, Args)> {
-        self.go_on(who, stage, answer_of(stage, &keeps), keeps, after)
-    }
-
-    #[inline(never)]
-    fn give_more(&mut self, stage: u16, args: Args, with: &mut With) {
+    fn give_more(&mut self, stage: u16, args: Args, hands: &mut Hands) {
         self.ledger.claimed(args);
         let args = self.blaming(stage, args);
-        with.becomes(self.given(args), None);
+        hands.get(self.given(args), None);
     }
 
-    /// The last step of a worker, which finishes the stage that it holds.
-    pub(crate) fn last(&mut self, who: u8, held: Option<u16>, keeps: Held, after: &mut After) {
-        if let Some(stage) = held {
+    /// The last step of a worker, which finishes the stage that it has in its hands.
+    pub(crate) fn last(&mut self, who: u8, hands: &mut Hands, after: &mut After) {
+        if let Some(stage) = hands.task.stage() {
+            let keeps = take(&mut hands.keeps);
             self.answer(who, stage, answer_of(stage, &keeps), keeps, after);
+            hands.task.clear();
         }
     }
 
@@ -791,11 +822,13 @@ impl Inner {
     /// Asks for one more job where more stages are ready than jobs come for, and wakes workers that only wait. A job that begins asks for the
     /// next one, so nobody wakes many.
     #[inline]
-    pub(crate) fn hire(&mut self, most: usize, begins: bool, after: &mut After) {
+    pub(crate) fn hire(&mut self, core: &Core, begins: bool, after: &mut After) {
         let is_more = take(&mut self.is_more);
-        let may_hire = self.jobs < most;
-        if (is_more || begins) && (may_hire || !self.helpers.is_empty()) {
-            self.hire_one(is_more, may_hire, after);
+        if is_more || begins {
+            let may_hire = self.jobs < core.most();
+            if may_hire || !self.helpers.is_empty() {
+                self.hire_one(is_more, may_hire, after);
+            }
         }
     }
 
@@ -813,7 +846,7 @@ impl Inner {
 
     /// All that may have other requests.
     pub(crate) fn kept(&mut self) -> Kept {
-        Kept(take(&mut self.slots), take(&mut self.extras), take(&mut self.limits))
+        Kept { slots: take(&mut self.slots), made: take(&mut self.made), extras: take(&mut self.extras), limits: take(&mut self.limits) }
     }
 
     /// Forgets for which stage a relay stands, since that has let go of it.
@@ -860,20 +893,34 @@ fn answer_of(stage: u16, keeps: &Held) -> Answer {
     }
 }
 
-/// What a worker's function is called with, and of which value that is, if it is one: the next may be called with the same, as where many take one
-/// value. Slots keep their values, so none is dropped here for the last time.
-pub(crate) struct With {
+/// What a worker has in its hands: a stage that it has claimed, what that one's function is called with, and what is kept of what it gave.
+pub(crate) struct Hands {
+    pub(crate) task: Claim,
     pub(crate) given: Given,
+    /// Of which value that is, if it is one: the next may be called with the same, as where many take one value. Slots keep their values, so none is
+    /// dropped here for the last time.
     of: Option<Value>,
+    pub(crate) keeps: Held,
 }
 
-impl With {
-    pub(crate) fn nothing() -> With {
-        With { given: Given::Nothing, of: None }
+impl Hands {
+    /// Keeps a value that the function gave.
+    #[inline]
+    pub(crate) fn keep(&mut self, value: Val) {
+        let keeps = match value {
+            Val::Nil => Held::Nothing,
+            value => Held::Value(value),
+        };
+        // What was kept before was taken.
+        forget(replace(&mut self.keeps, keeps));
+    }
+
+    pub(crate) fn empty() -> Hands {
+        Hands { task: Claim::default(), given: Given::Nothing, of: None, keeps: Held::Nothing }
     }
 
     #[inline]
-    fn becomes(&mut self, given: Given, of: Option<Value>) {
+    fn get(&mut self, given: Given, of: Option<Value>) {
         self.of = of;
         if let Given::Nothing | Given::One(Val::Nil | Val::Small(_)) = self.given {
             // Nothing in it is to be dropped, which would take a call.
@@ -881,5 +928,27 @@ impl With {
         } else {
             self.given = given;
         }
+    }
+}
+
+#[cfg(test)]
+mod tests {
+    use super::*;
+    use crate::{Inline, Request};
+
+    /// A few small ones, which are empty.
+    #[test]
+    fn few_rows_are_kept() {
+        let count = || ROWS.with(|rows| rows.borrow().len());
+        let requests: Vec<Request> = (0..2 * MOST_KEPT).map(|_| Request::new("small", Inline)).collect();
+        requests.iter().for_each(|request| drop(request.supply(String::new)));
+        drop(requests);
+        assert_eq!(count(), MOST_KEPT);
+        assert!(ROWS.with(|rows| rows.borrow().iter().all(|(slots, made)| slots.is_empty() && made.is_empty())));
+        let large = Request::new("large", Inline);
+        assert_eq!(count(), MOST_KEPT - 1);
+        (0..=SLOTS).for_each(|_| drop(large.promise::<i32>()));
+        drop(large);
+        assert_eq!(count(), MOST_KEPT - 1);
     }
 }

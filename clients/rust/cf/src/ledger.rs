@@ -5,7 +5,7 @@ use crate::record::Record;
 use crate::spawn::CLOCK;
 use crate::word::{self, Form};
 use cf_graph::{
-    Answer, Args, Finished, Ledger as Words, Limit, Outcome, Plan, PlanBuilder, Refused, Reply, Request, RequestSizes, State, Step, Tale, Told, Value,
+    Args, Finished, Ledger as Words, Limit, Outcome, Plan, PlanBuilder, Refused, Reply, Request, RequestSizes, State, Tale, Task, Told, Value,
 };
 use std::cell::RefCell;
 use std::mem::take;
@@ -19,7 +19,9 @@ const LANE: u8 = 0;
 
 pub(crate) struct Ledger {
     /// There until this is dropped.
-    machine: Option<Box<Machine>>,
+    machine: Option<Request>,
+    /// What its last call settled.
+    pub(crate) told: Told,
     /// For how many stages there was room at first.
     room: u16,
     pub(crate) stages: u16,
@@ -30,11 +32,12 @@ pub(crate) struct Ledger {
     passed: u64,
 }
 
-/// The machine, what its last call settled, and room for moments, while no request has it.
-struct Machine {
-    request: Request,
+/// A machine that no request has, for how many stages it has room, and what else of the last request has room.
+struct Spare {
+    machine: Request,
+    room: u16,
     told: Told,
-    moments: Vec<u64>,
+    moments: Vec<u32>,
 }
 
 /// A word, what it was answered, and what it settled.
@@ -94,56 +97,37 @@ pub(crate) fn comes_again(words: &[u64], record: &Record, stages: u16) -> Result
 impl Ledger {
     pub(crate) fn new(room: u16) -> Result<Ledger, Refusal> {
         let room = room.clamp(1, MOST_STAGES);
-        let (room, mut machine) = kept(room).map_or_else(|| opened(room).map(|machine| (room, machine)), Ok).map_err(|_| Refusal::NoLedger)?;
-        let record = Record::over(take(&mut machine.moments));
-        Ok(Ledger { machine: Some(machine), room, stages: 0, relays: Vec::new(), record, passed: 0 })
+        let Spare { machine, room, told, moments } = kept(room).map_or_else(|| opened(room), Ok).map_err(|_| Refusal::NoLedger)?;
+        Ok(Ledger { machine: Some(machine), told, room, stages: 0, relays: Vec::new(), record: Record::over(moments), passed: 0 })
     }
 
+    /// The machine, and where it tells what it settles.
     #[inline]
-    fn machine(&mut self) -> &mut Machine {
-        self.machine.as_mut().expect("it is there until this is dropped")
-    }
-
-    /// How many stages the last call settled.
-    #[inline]
-    pub(crate) fn settled(&self) -> usize {
-        self.machine.as_ref().map_or(0, |machine| machine.told.len())
-    }
-
-    /// A stage that the last call settled, by its place among these.
-    #[inline]
-    pub(crate) fn settled_at(&mut self, at: usize) -> (u16, Outcome) {
-        self.machine().told.at(at)
+    fn machine(&mut self) -> (&mut Request, &mut Told) {
+        (self.machine.as_mut().expect("it is there until this is dropped"), &mut self.told)
     }
 
     /// Does the event of a word, and writes down what it was answered.
     #[inline]
     pub(crate) fn act(&mut self, word: u64) -> Reply {
-        let Machine { request, told, .. } = self.machine();
-        let reply = request.apply(word, LANE, told).expect("memory for a word");
+        let (machine, told) = self.machine();
+        let reply = machine.apply(word, LANE, told).expect("memory for a word");
         self.record.reply(reply);
         reply
     }
 
-    /// Claims the lowest ready stage, if there is one. What was claimed is to be written down by [`claimed`](Ledger::claimed).
-    pub(crate) fn begin(&mut self, who: u8) -> Option<(u16, Args)> {
-        self.step(who, None).taken.map(|taken| (taken.stage, taken.args))
+    /// A worker's step: finishes the stage that it has in its hands, if it has one, and claims the lowest ready stage, if there is one. What the
+    /// finish was answered is to be written down then, and what was claimed behind what the finish settled.
+    #[inline(always)]
+    pub(crate) fn step(&mut self, who: u8, task: &mut Task) {
+        let (machine, told) = self.machine();
+        machine.step(who, LANE, task, told).expect("memory for two words, and an open claim of what is held");
     }
 
-    /// Finishes the stage that a caller holds, writes down what that was answered, and claims the lowest ready stage, if there is one. What was
-    /// claimed is to be written down behind what the finish settled, by [`claimed`](Ledger::claimed).
-    #[inline(always)]
-    pub(crate) fn go_on(&mut self, who: u8, stage: u16, answer: Answer) -> (Finished, Option<(u16, Args)>) {
-        let step = self.step(who, Some((stage, answer)));
-        let finished = step.finished.expect("a stage is held");
+    /// Writes down what a finish was answered.
+    #[inline]
+    pub(crate) fn finished(&mut self, finished: Finished) {
         self.record.finished(finished);
-        (finished, step.taken.map(|taken| (taken.stage, taken.args)))
-    }
-
-    #[inline(always)]
-    fn step(&mut self, who: u8, held: Option<(u16, Answer)>) -> Step {
-        let Machine { request, told, .. } = self.machine();
-        request.next(who, LANE, held, told).expect("memory for two words, and an open claim of what is held")
     }
 
     /// Writes down what a claim was granted with.
@@ -154,8 +138,8 @@ impl Ledger {
 
     /// Lets a stage end as another one does.
     pub(crate) fn follow(&mut self, relay: u16, stage: u16) {
-        let Machine { request, told, .. } = self.machine();
-        request.follow(relay, stage, told).expect("memory for a relay");
+        let (machine, told) = self.machine();
+        machine.follow(relay, stage, told).expect("memory for a relay");
         self.relays.push((relay, stage));
     }
 
@@ -168,20 +152,20 @@ impl Ledger {
     /// Sets a deadline of a stage, at which that gets the value of its own number, or times out.
     pub(crate) fn deadline(&mut self, stage: u16, moment: u64, gives: bool) {
         let limit = if gives { Limit::Give(Value::Int(i32::from(stage))) } else { Limit::Timeout };
-        self.machine().request.deadline(stage, moment, limit).expect("memory for a deadline");
+        self.machine().0.deadline(stage, moment, limit).expect("memory for a deadline");
     }
 
     /// Lets time pass up to a moment. A clock may have told of a later one by now.
     pub(crate) fn pass(&mut self, moment: u64) {
         let passed = self.passed.max(moment);
         self.passed = passed;
-        let Machine { request, told, .. } = self.machine();
-        request.pass(passed, told).expect("memory for what is due");
+        let (machine, told) = self.machine();
+        machine.pass(passed, told).expect("memory for what is due");
     }
 
     /// The moment of the deadline that comes next.
     pub(crate) fn next_deadline(&mut self) -> Option<u64> {
-        self.machine().request.next_deadline().expect("the machine is there").map(|next| next.moment)
+        self.machine().0.next_deadline().expect("the machine is there").map(|next| next.moment)
     }
 
     /// Writes down an event by which a call settled a stage, beside the one that it was asked for.
@@ -192,21 +176,21 @@ impl Ledger {
     /// How many stages are ready.
     #[inline]
     pub(crate) fn ready(&mut self) -> usize {
-        usize::from(self.machine().request.ready(LANE).expect("the lane is there"))
+        usize::from(self.machine().0.ready(LANE).expect("the lane is there"))
     }
 
     /// The lowest stage from a number on that is ready.
     pub(crate) fn lowest_ready(&mut self, from: u16) -> Option<u16> {
-        self.machine().request.lowest_ready(from).expect("the machine is there")
+        self.machine().0.lowest_ready(from).expect("the machine is there")
     }
 
     pub(crate) fn is_ready(&mut self, stage: u16) -> bool {
-        self.machine().request.stage(stage).expect("the stage is there").state == State::Ready
+        self.machine().0.stage(stage).expect("the stage is there").state == State::Ready
     }
 
     /// Writes down that a stage was settled by the last event.
     #[inline]
-    pub(crate) fn told(&mut self, stage: u16, outcome: Outcome) {
+    pub(crate) fn shown(&mut self, stage: u16, outcome: Outcome) {
         self.record.told(stage, outcome);
     }
 
@@ -218,11 +202,11 @@ impl Ledger {
             return Err(Refusal::Full);
         }
         let word = word::attach(who, form, of, if has_function { number } else { 0 });
-        let Machine { request, told, .. } = self.machine();
-        let mut applied = request.apply(word, LANE, told);
+        let (machine, told) = self.machine();
+        let mut applied = machine.apply(word, LANE, told);
         if applied == Err(Refused::NO_ROOM) {
-            request.grow().map_err(|_| Refusal::NoLedger)?;
-            applied = request.apply(word, LANE, told);
+            machine.grow().map_err(|_| Refusal::NoLedger)?;
+            applied = machine.apply(word, LANE, told);
         }
         applied.expect("memory for a word");
         self.record.attached(number);
@@ -235,10 +219,10 @@ impl Ledger {
         if of.len() > usize::from(self.left()) + 1 || self.left() == 0 {
             return Err(Refusal::Full);
         }
-        let Machine { request, told, .. } = self.machine();
+        let (machine, told) = self.machine();
         let root = loop {
-            match request.gather(who, form, of, told) {
-                Err(Refused::NO_ROOM) => request.grow().map_err(|_| Refusal::NoLedger)?,
+            match machine.gather(who, form, of, told) {
+                Err(Refused::NO_ROOM) => machine.grow().map_err(|_| Refusal::NoLedger)?,
                 gathered => break gathered.expect("memory for words"),
             }
         };
@@ -272,7 +256,7 @@ impl Ledger {
     }
 
     pub(crate) fn words(&mut self) -> Vec<u64> {
-        self.machine().request.words().expect("the words are there")
+        self.machine().0.words().expect("the words are there")
     }
 }
 
@@ -284,9 +268,8 @@ impl Drop for Ledger {
         let _ = KEPT.try_with(|kept| {
             let mut kept = kept.borrow_mut();
             if let Some(mut machine) = machine.filter(|_| kept.len() < MOST_KEPT) {
-                if machine.request.restart().is_ok() {
-                    machine.moments = self.record.room();
-                    kept.push((room, machine));
+                if machine.restart().is_ok() {
+                    kept.push(Spare { machine, room, told: take(&mut self.told), moments: self.record.room() });
                 }
             }
         });
@@ -297,27 +280,27 @@ impl Drop for Ledger {
 const MOST_KEPT: usize = 8;
 
 thread_local! {
-    /// The machines of requests that ended on this thread, and their rooms.
-    static KEPT: RefCell<Vec<(u16, Box<Machine>)>> = const { RefCell::new(Vec::new()) };
+    /// The machines of requests that ended on this thread.
+    static KEPT: RefCell<Vec<Spare>> = const { RefCell::new(Vec::new()) };
 }
 
 /// A machine that was kept, with room for so many stages or more.
-fn kept(room: u16) -> Option<(u16, Box<Machine>)> {
-    let taken = |kept: &RefCell<Vec<(u16, Box<Machine>)>>| {
+fn kept(room: u16) -> Option<Spare> {
+    let taken = |kept: &RefCell<Vec<Spare>>| {
         let mut kept = kept.borrow_mut();
-        let at = kept.iter().rposition(|it| it.0 >= room)?;
+        let at = kept.iter().rposition(|it| it.room >= room)?;
         Some(kept.swap_remove(at))
     };
     KEPT.try_with(taken).ok().flatten()
 }
 
 /// A machine of no stages, which settles what it settles by itself as the clock.
-fn opened(room: u16) -> Result<Box<Machine>, Refused> {
-    let request = match nothing()?.as_mut() {
+fn opened(room: u16) -> Result<Spare, Refused> {
+    let machine = match nothing()?.as_mut() {
         Some(plan) => Request::new(plan, RequestSizes { room, lanes: LANE + 1, own: CLOCK }, &[])?,
         None => return Err(Refused::NO_MEMORY),
     };
-    Ok(Box::new(Machine { request, told: Told::default(), moments: Vec::new() }))
+    Ok(Spare { machine, room, told: Told::default(), moments: Vec::new() })
 }
 
 #[cfg(test)]
@@ -369,9 +352,9 @@ mod tests {
         }
         for word in [word::of(COMPLETE, 0, 0, SOME), word::of(COMPLETE, 0, 0, SOME | 1), word::of(CANCEL, 0, 1, 0)] {
             ledger.act(word);
-            for at in 0..ledger.settled() {
-                let (stage, outcome) = ledger.settled_at(at);
-                ledger.told(stage, outcome);
+            for at in 0..ledger.told.len() {
+                let (stage, outcome) = ledger.told.at(at);
+                ledger.shown(stage, outcome);
             }
         }
         let (words, replies) = (ledger.words(), done_again(&ledger.words(), 2).unwrap());

@@ -5,9 +5,9 @@ use std::mem::take;
 
 #[derive(Clone, Debug, Default)]
 pub(crate) struct Record {
-    /// Of each moment at which there were events, but for the last one, how much later it was than the one before, and in the lowest bits how many
-    /// events there were, or 0 where there follows more of it.
-    moments: Vec<u64>,
+    /// Of each moment at which there were events, but for the last one, how many nanoseconds later it was than the one before, and in the lowest
+    /// bits how many events there were. Where these are 0, a part of the while before the next moment, in units of 134 ms.
+    moments: Vec<u32>,
     /// The last one of these moments.
     before: u64,
     /// The moment of what is done at present, in nanoseconds since the request began, and how many events there were at it.
@@ -16,19 +16,19 @@ pub(crate) struct Record {
     told: Digest,
 }
 
-/// How many bits say how many events there were, the most that they say, and the longest while that the others do.
-const BITS: u32 = 16;
+/// How many bits say how many events there were, the most that they say, and the longest while that the others do, 134 ms.
+const BITS: u32 = 5;
 const MOST: u64 = (1 << BITS) - 1;
-const LONGEST: u64 = u64::MAX >> BITS;
+const LONGEST: u64 = (u32::MAX >> BITS) as u64;
 
 impl Record {
     /// Of no events, with this room.
-    pub(crate) fn over(moments: Vec<u64>) -> Record {
+    pub(crate) fn over(moments: Vec<u32>) -> Record {
         Record { moments, ..Record::default() }
     }
 
     /// The room that it had.
-    pub(crate) fn room(&mut self) -> Vec<u64> {
+    pub(crate) fn room(&mut self) -> Vec<u32> {
         self.moments.clear();
         take(&mut self.moments)
     }
@@ -109,31 +109,32 @@ impl Record {
         if self.now - self.before > LONGEST || self.lately > MOST {
             self.write_parts();
         }
-        self.write((self.now - self.before) << BITS | self.lately);
+        self.write(self.now - self.before, self.lately);
         self.before = self.now;
         self.lately = 0;
     }
 
-    /// Writes down what one row can't hold, so that one is enough for what is left.
+    /// Writes down what one number can't hold, so that one is enough for what is left.
     #[cold]
     fn write_parts(&mut self) {
         while self.now - self.before > LONGEST {
-            self.write(LONGEST << BITS);
-            self.before += LONGEST;
+            let units = LONGEST.min((self.now - self.before) / (LONGEST + 1));
+            self.write(units, 0);
+            self.before += units * (LONGEST + 1);
         }
         while self.lately > MOST {
-            self.write((self.now - self.before) << BITS | MOST);
+            self.write(self.now - self.before, MOST);
             self.before = self.now;
             self.lately -= MOST;
         }
     }
 
     #[inline]
-    fn write(&mut self, moment: u64) {
+    fn write(&mut self, later: u64, events: u64) {
         if self.moments.len() == self.moments.capacity() {
             self.make_room();
         }
-        self.moments.push(moment);
+        self.moments.push((later << BITS | events) as u32);
     }
 
     /// The row grows by a quarter, since there are many that grow no more.
@@ -146,26 +147,32 @@ impl Record {
     pub(crate) fn times(&self) -> impl Iterator<Item = u64> + '_ {
         let mut at = 0;
         let written = self.moments.iter().map(move |moment| {
-            at += moment >> BITS;
-            (at, moment & MOST)
+            let (later, events) = parts(*moment);
+            at += if events > 0 { later } else { later * (LONGEST + 1) };
+            (at, events)
         });
         written.chain([(self.now, self.lately)]).flat_map(|(at, count)| (0..count).map(move |_| at))
     }
 
     /// How many events there were.
     pub(crate) fn events(&self) -> usize {
-        (self.moments.iter().map(|moment| moment & MOST).sum::<u64>() + self.lately) as usize
+        (self.moments.iter().map(|moment| parts(*moment).1).sum::<u64>() + self.lately) as usize
     }
 }
 
-/// Numbers in their order as one, by a multiplication for each.
+/// How much later a moment was, and how many events there were.
+fn parts(moment: u32) -> (u64, u64) {
+    (u64::from(moment >> BITS), u64::from(moment) & MOST)
+}
+
+/// Numbers in their order as one, by a multiplication for each. None of the numbers is 0.
 #[derive(Clone, Debug, Default)]
 struct Digest(u64);
 
 impl Digest {
     #[inline]
     fn add(&mut self, number: u64) {
-        self.0 = (self.0.rotate_left(23) ^ number).wrapping_add(1).wrapping_mul(0x9e37_79b9_7f4a_7c15);
+        self.0 = self.0.wrapping_add(number).wrapping_mul(0x9e37_79b9_7f4a_7c15);
     }
 
     /// A number of some kind, of a stage or of none.

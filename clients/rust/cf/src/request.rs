@@ -9,7 +9,7 @@ use crate::history::History;
 use crate::name::Made;
 use crate::spawn::{here, Spawn};
 use crate::stage::{sealed::Adopted, sealed::Sealed, AnyStage, Stage};
-use crate::value::{Call, Gave};
+use crate::value::{self, Call, Gave};
 use crate::word::Form;
 use std::fmt;
 use std::future::Future;
@@ -237,20 +237,17 @@ impl Request {
     /// assert_eq!(basket.gather(&quotes).wait().unwrap(), [52, 49]);
     /// ```
     pub fn gather<'a, T: Clone + Send + Sync + 'static>(&self, stages: impl IntoIterator<Item = &'a Stage<T>>) -> Stage<Vec<T>> {
-        let stages: Vec<&Stage<T>> = stages.into_iter().collect();
-        let here: Vec<Stage<T>> = stages.iter().map(|stage| self.adopt(stage)).collect();
-        let relays = here.iter().zip(&stages).filter(|(_, stage)| !Arc::ptr_eq(&self.0, &stage.core)).filter_map(|(relay, _)| relay.at.ok());
-        let relays = relays.collect();
-        let all = self.all_of(here.iter().map(|stage| stage as &dyn AnyStage));
+        let row: Vec<Adopted> = stages.into_iter().map(|stage| stage.adopted(self)).collect();
+        let (numbers, root) = self.root(cf_graph::Form::AllOf, &row, Made::as_a(|| "all of"));
         // The request would keep itself alive by handles that its own function holds.
-        let numbers: Vec<_> = here.iter().map(|stage| stage.at).collect();
         let core = Arc::downgrade(&self.0);
-        let values = move |_: &()| -> Result<Vec<T>, Error> {
-            let core = core.upgrade().ok_or(Error::BadAnswer)?;
-            numbers.into_iter().map(|at| Stage::<T>::new(&core, at).peek().unwrap_or(Err(Error::BadAnswer))).collect()
+        let values = move || -> Result<Vec<T>, Error> {
+            let values = core.upgrade().ok_or(Error::BadAnswer)?.values(&numbers)?;
+            Ok(values.iter().map(|value| value::of::<T>(value).clone()).collect())
         };
-        let all = all.and_then(values).named("gather");
-        self.0.let_go(all.at, relays);
+        let call: Call = Box::new(move |_| Gave::result(values()));
+        let all = Stage::<()>::new(&self.0, root).behind(Form::Apply, call, Made::as_a(|| "gather"));
+        self.0.let_go(all.at, relays_of(&row));
         all
     }
 
@@ -302,11 +299,22 @@ impl Request {
 
     /// A stage of this form behind all of these.
     fn gathered<T: Send + Sync + 'static>(&self, form: cf_graph::Form, row: Vec<Adopted>, made: Made) -> Stage<T> {
-        let relays = row.iter().filter(|it| it.is_relay).filter_map(|it| it.at.ok()).collect();
-        let of = row.into_iter().map(|it| it.at).collect::<Result<Vec<u16>, Refusal>>();
-        let root = of.and_then(|of| self.0.gather(here(), form, &of, made));
-        self.0.let_go(root, relays);
+        let (_, root) = self.root(form, &row, made);
+        self.0.let_go(root, relays_of(&row));
         Stage::new(&self.0, root)
+    }
+
+    /// The numbers of all of these, and that of a stage of this form behind them, unless one of them was refused.
+    fn root(&self, form: cf_graph::Form, row: &[Adopted], made: Made) -> (Vec<u16>, Result<u16, Refusal>) {
+        let mut numbers = Vec::with_capacity(row.len());
+        for it in row {
+            match it.at {
+                Ok(number) => numbers.push(number),
+                Err(why) => return (numbers, Err(why)),
+            }
+        }
+        let root = self.0.gather(here(), form, &numbers, made);
+        (numbers, root)
     }
 
     fn attach<U>(&self, form: Form, of: &[u16], call: Option<Call>, made: Made) -> Stage<U> {
@@ -335,6 +343,11 @@ impl Drop for Scope {
     fn drop(&mut self) {
         self.0.cancel_all();
     }
+}
+
+/// Those that were made to stand for stages of other requests.
+fn relays_of(row: &[Adopted]) -> Vec<u16> {
+    row.iter().filter(|it| it.is_relay).filter_map(|it| it.at.ok()).collect()
 }
 
 /// For how many stages a request has room at first.

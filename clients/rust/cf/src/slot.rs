@@ -3,6 +3,7 @@ use crate::core::Core;
 use crate::error::Error;
 use crate::value::{Call, Val};
 use cf_graph::{Cause, Outcome, Value};
+use std::mem::forget;
 use std::sync::Arc;
 
 pub(crate) struct Slot {
@@ -31,6 +32,13 @@ pub(crate) enum Held {
     Timer(#[allow(dead_code)] Box<dyn std::any::Any + Send>),
 }
 
+impl Default for Held {
+    #[inline]
+    fn default() -> Held {
+        Held::Nothing
+    }
+}
+
 #[derive(Clone, Copy, PartialEq, Eq)]
 enum Told {
     Waits,
@@ -49,8 +57,29 @@ enum Fault {
 }
 
 impl Slot {
+    #[inline]
     pub(crate) fn new(made: u16, call: Option<Call>) -> Slot {
-        Slot { held: call.map_or(Held::Nothing, Held::Call), made, number: 0, told: Told::Waits, has_extra: false, follows: false }
+        let held = match call {
+            Some(call) => Held::Call(call),
+            None => Held::Nothing,
+        };
+        Slot { held, made, number: 0, told: Told::Waits, has_extra: false, follows: false }
+    }
+
+    /// Drops what it holds.
+    #[inline]
+    pub(crate) fn let_go(self) {
+        match self.held {
+            // To drop it would take a call.
+            Held::Nothing | Held::Value(Val::Nil | Val::Small(_)) => forget(self.held),
+            held => drop(held),
+        }
+    }
+
+    /// Whether there is more to be done where it is settled than to keep with what: it has its function yet, or what few stages have.
+    #[inline]
+    pub(crate) fn has_more(&self) -> bool {
+        self.has_extra || self.follows || matches!(self.held, Held::Call(_))
     }
 
     #[inline]

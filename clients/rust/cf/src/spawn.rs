@@ -151,6 +151,12 @@ pub trait Spawn: Send + Sync + 'static {
     fn id(&self) -> usize {
         self as *const Self as *const () as usize
     }
+
+    /// Whether it is [`Inline`], whose jobs a request begins by itself.
+    #[doc(hidden)]
+    fn is_inline(&self) -> bool {
+        false
+    }
 }
 
 impl<S: Spawn + ?Sized> Spawn for Arc<S> {
@@ -164,6 +170,10 @@ impl<S: Spawn + ?Sized> Spawn for Arc<S> {
 
     fn id(&self) -> usize {
         (**self).id()
+    }
+
+    fn is_inline(&self) -> bool {
+        (**self).is_inline()
     }
 }
 
@@ -273,7 +283,7 @@ impl Drop for Resting {
 }
 
 /// The number of this thread as a worker: the next of all when it runs its first job, round and round.
-fn worker() -> u8 {
+pub(crate) fn worker() -> u8 {
     static NEXT: AtomicUsize = AtomicUsize::new(0);
     WORKER.with(|worker| {
         if worker.get() == CALLER {
@@ -328,37 +338,75 @@ pub(crate) fn run_here() -> Vec<Arc<Core>> {
 }
 
 /// What comes while the like of it is done waits here for its end, so that the stack stays flat.
-pub(crate) type Row<T> = RefCell<Option<VecDeque<T>>>;
+pub(crate) struct Row<T>(RefCell<Waiting<T>>);
+
+struct Waiting<T> {
+    /// Whether one is done at present.
+    is_taken: bool,
+    next: Option<VecDeque<T>>,
+}
+
+impl<T> Row<T> {
+    pub(crate) const fn new() -> Row<T> {
+        Row(RefCell::new(Waiting { is_taken: false, next: None }))
+    }
+
+    /// The next that has come; or none, and then none is done.
+    #[inline]
+    fn pop(&self) -> Option<T> {
+        let mut waiting = self.0.borrow_mut();
+        if let Some(next) = &mut waiting.next {
+            if let Some(next) = next.pop_front() {
+                return Some(next);
+            }
+            waiting.next = None;
+        }
+        waiting.is_taken = false;
+        None
+    }
+}
 
 thread_local! {
-    static INLINE: Row<Job> = const { RefCell::new(None) };
-    static REFUSED: Row<Arc<Core>> = const { RefCell::new(None) };
+    static INLINE: Row<Job> = const { Row::new() };
+    static REFUSED: Row<Arc<Core>> = const { Row::new() };
 }
 
 /// Does it, and what comes meanwhile, one after another. One that panics doesn't keep the others from being done.
 pub(crate) fn in_turn<T>(row: &'static LocalKey<Row<T>>, first: T, act: impl Fn(T)) {
-    let mut next = Some(first);
+    let mut first = Some(first);
     // A thread that ends has no row any more, and does what comes at once.
-    let _ = row.try_with(|row| match &mut *row.borrow_mut() {
-        Some(row) => row.extend(next.take()),
-        none => *none = Some(VecDeque::new()),
+    let _ = row.try_with(|row| {
+        let mut waiting = row.0.borrow_mut();
+        if waiting.is_taken {
+            waiting.next.get_or_insert_with(VecDeque::new).extend(first.take());
+        }
     });
     let mut panicked = None;
-    while let Some(it) = next {
-        guarded(&mut panicked, || act(it));
-        let pop = |row: &Row<T>| {
-            let mut row = row.borrow_mut();
-            let next = row.as_mut().and_then(VecDeque::pop_front);
-            if next.is_none() {
-                *row = None;
-            }
-            next
-        };
-        next = row.try_with(pop).ok().flatten();
+    if let Some(first) = first {
+        take_turn(row, || act(first), &act, &mut panicked);
     }
     if let Some(payload) = panicked {
         resume_unwind(payload);
     }
+}
+
+/// The same, where nothing of the row is done at present.
+fn take_turn<T>(row: &'static LocalKey<Row<T>>, first: impl FnOnce(), act: impl Fn(T), panicked: &mut Option<Payload>) {
+    let _ = row.try_with(|row| row.0.borrow_mut().is_taken = true);
+    guarded(panicked, first);
+    while let Some(next) = row.try_with(Row::pop).ok().flatten() {
+        guarded(panicked, || act(next));
+    }
+}
+
+/// Whether [`Inline`] would run a job at once that came now, and not behind another one.
+pub(crate) fn is_inline_free() -> bool {
+    INLINE.try_with(|row| !row.0.borrow().is_taken).unwrap_or(false)
+}
+
+/// Runs this as a job of [`Inline`], which is free, and then the jobs that came meanwhile.
+pub(crate) fn inline(job: impl FnOnce(), panicked: &mut Option<Payload>) {
+    take_turn(&INLINE, job, Job::run, panicked);
 }
 
 /// Runs each function at once, on the thread by which its stage became ready, and polls a future on the thread that wakes it: one whose waker
@@ -380,6 +428,10 @@ impl Spawn for Inline {
 
     fn id(&self) -> usize {
         1
+    }
+
+    fn is_inline(&self) -> bool {
+        true
     }
 }
 

@@ -25,7 +25,12 @@
 //! looks a few times before it sleeps. No thread holds the mutexes of two requests, and no code of a user runs under one:
 //! what is to be dropped, woken or called goes into `After`. A future that a stage's function gave has a mutex of its own
 //! (task.rs), which is held while it is polled. The request's mutex may be taken under that one, never the other way round.
-//! Executors and clocks have locks of theirs, and are called without the request's.
+//! Executors and clocks have locks of theirs, and are called without the request's. Where several workers run short functions,
+//! a hold that moves from one core to another takes several times as long as one that stays, since all that it needs moves
+//! along. So a worker that comes back from a function of less than a microsecond and finds the mutex taken gives way, if
+//! another worker has a stage in its hands: it finishes its own, and comes again at leisure (`Core::lock_at_leisure`), as a
+//! job does that begins. At leisure means that it looks twice and then sleeps between two looks. Nothing hangs on how
+//! long: whoever is busy goes on, and where nobody is, it takes the mutex as any other thread does.
 //!
 //! **A change** (`Core::change`: `attach`, `settle`, an alarm, the end of a future) goes like this:
 //!
@@ -35,16 +40,18 @@
 //!    Polls read slots under the same lock, so whoever is told an outcome can also see the outcomes of all earlier words.
 //! 3. `Inner::cancel_relays` cancels relays that nobody needs any more, each by a word, which may settle more.
 //! 4. `Inner::hire` asks for one job, if the machine has more ready stages than jobs are coming, and fewer jobs run than may.
-//! 5. The lock is given back. `Core::tell` tells what came of it, in this order: the clock is asked for an alarm, jobs go to the
+//! 5. Where `Inline` would begin the job at once, it is begun under the same hold (`Core::begin_here`): the thread claims the
+//!    stage, and runs the job in the place where the executor would.
+//! 6. The lock is given back. `Core::tell` tells what came of it, in this order: the clock is asked for an alarm, jobs go to the
 //!    executor, wakers are called, futures of settled stages are dropped, relays of other requests are settled, relays are hung
 //!    on other requests' stages or taken off, and at last values and functions are dropped. A relay of another request is a
 //!    change there; what it has yet to tell of further requests is added to this list, so a row of requests takes no stack.
-//! 6. A panic of any of these keeps no other from being told. The first goes on to the caller at the end.
+//! 7. A panic of any of these keeps no other from being told. The first goes on to the caller at the end.
 //!
 //! **A function from ready to finished.** A stage is told to be ready, and a `Job` is asked for. The executor runs the job on
-//! a thread, which is `Core::work`. Under the lock it claims the lowest ready stage, and takes its function and its arguments;
-//! without the lock it calls the function, and catches a panic. Under the lock again, one step of the machine finishes that
-//! stage and claims the next one, until none is ready or the job has run 64 functions. A job that begins asks for the next
+//! a thread, which is `Core::work`. Under the lock it claims the lowest ready stage, and has it in its `Hands`, with what the
+//! function is called with; without the lock it calls the function, and catches a panic. Under the lock again, one step of the
+//! machine finishes that stage and claims the next one, until none is ready or the job has run 64 functions. A job that begins asks for the next
 //! one, so nobody has to start many. An executor that gives a job back, or drops it, lets the ready stages fail with
 //! `Refusal::Closed`, if no other job of the request is there that doesn't rest. A function that answers too late changes nothing; its value is
 //! dropped.
@@ -331,7 +338,7 @@ impl<T> Stage<T> {
 
     // Attaching.
 
-    fn behind<U>(self, form: Form, call: Call, made: Made) -> Stage<U> {
+    pub(crate) fn behind<U>(self, form: Form, call: Call, made: Made) -> Stage<U> {
         let Stage { core, at, waits, .. } = self;
         let at = behind(&core, at, form, call, made);
         drop(waits);
@@ -809,7 +816,8 @@ pub trait AnyStage: sealed::Sealed {}
 
 impl<T: Send + Sync + 'static> sealed::Sealed for Stage<T> {
     fn adopted(&self, by: &Request) -> sealed::Adopted {
-        sealed::Adopted { at: by.adopt(self).at, is_relay: !Arc::ptr_eq(&self.core, &by.0) }
+        let is_relay = !Arc::ptr_eq(&self.core, &by.0);
+        sealed::Adopted { at: if is_relay { by.adopt(self).at } else { self.at }, is_relay }
     }
 }
 

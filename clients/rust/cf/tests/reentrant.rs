@@ -164,3 +164,36 @@ fn a_function_settles_its_own_stage() {
         });
     }
 }
+
+/// A waker completes a stage. That is the caller's word, though the caller's thread has run a function of the stage behind before.
+#[test]
+fn a_waker_calls_in_the_name_of_who_settled_its_stage() {
+    struct Completes(Stage<i32>);
+    impl Wake for Completes {
+        fn wake(self: Arc<Completes>) {
+            self.0.complete(5).unwrap();
+        }
+    }
+    let (completed, mut awaited) = (Request::new("completed", Inline).promise(), Request::new("awaited", Inline).promise::<i32>());
+    assert!(!poll(&mut awaited, &Waker::from(Arc::new(Completes(completed.clone())))));
+    let ran = awaited.clone().then(|n| n + 1);
+    awaited.complete(3).unwrap();
+    assert_eq!((ran.wait().unwrap(), completed.wait().unwrap()), (4, 5));
+    let history = completed.request().history().to_string();
+    assert!(history.contains("caller completes") && !history.contains("worker"), "{history}");
+}
+
+/// A function attaches one in another request, which `Inline` calls behind it, so that a row of them takes no stack.
+#[test]
+fn a_function_that_another_attaches_is_called_behind_it() {
+    let (called, other) = (Arc::new(Mutex::new(Vec::new())), Request::new("other", Inline));
+    let (calls, by) = (Arc::clone(&called), other.clone());
+    let attached = Request::new("one", Inline).supply(move || {
+        let behind = Arc::clone(&calls);
+        let attached = by.supply(move || behind.lock().unwrap().push("attached"));
+        calls.lock().unwrap().push("ends");
+        attached
+    });
+    assert!(attached.wait_arc().unwrap().is_settled());
+    assert_eq!(*called.lock().unwrap(), ["ends", "attached"]);
+}
