@@ -21,13 +21,14 @@
 #include <pthread.h>
 #include <stddef.h>
 #include <stdlib.h>
+#include <string.h>
 #include <time.h>
 #ifdef __x86_64__
 #include <cpuid.h>
 #include <x86intrin.h>
 #endif
 
-enum { WORDS = 64, MOST = 4096, TOLD = 128, CLAIMED = 32, READY = 64 };
+enum { WORDS = 64, MOST = 4096, TOLD = 128, CLAIMED = 32, READY = 64, FEW = 12 };
 
 /* Lanes: a stage's function is called by the thread that made the stage ready, or by an executor. */
 enum { HERE = 0, BY_EXECUTOR = 1, LANES = 2 };
@@ -149,7 +150,7 @@ METHOD(jdouble, nanosPerTick)(JNIEnv *env, jclass class) {
 }
 
 /* All events that have no time yet were done by then. Times never go back. Where there is no memory they get the time of those after them. */
-static void time_events(struct core *core, uint64_t at) {
+static inline void time_events(struct core *core, uint64_t at) {
   if (!core->timed) return;
   for (size_t left = (size_t)core->block.events - core->timed_events, some; left > 0; left -= some, core->timed_events += some) {
     size_t n = (size_t)core->block.moments;
@@ -200,18 +201,16 @@ static void take(struct crossing *it, size_t told) {
 }
 
 /* One word, with room for its stage. */
-static uint32_t do_word(struct crossing *it, uint64_t word, uint8_t lane, cf_reply *reply) {
+static inline uint32_t do_word(struct crossing *it, uint64_t word, uint8_t lane, cf_applied *applied) {
   struct core *core = it->core;
-  cf_applied applied;
-  uint32_t code = cf_request_apply(&core->request, word, lane, &applied, it->told + it->n, TOLD - it->n);
+  uint32_t code = cf_request_apply(&core->request, word, lane, applied, it->told + it->n, TOLD - it->n);
   if (code == CF_NO_ROOM) {
     code = cf_request_grow(&core->request);
-    if (code == CF_OK) code = cf_request_apply(&core->request, word, lane, &applied, it->told + it->n, TOLD - it->n);
+    if (code == CF_OK) code = cf_request_apply(&core->request, word, lane, applied, it->told + it->n, TOLD - it->n);
   }
   if (code != CF_OK) return code;
-  take(it, applied.told);
+  take(it, applied->told);
   core->block.events++;
-  *reply = applied.reply;
   core->has_executors |= lane == BY_EXECUTOR;
   return CF_OK;
 }
@@ -221,11 +220,11 @@ static uint32_t do_waiting(struct crossing *it, jint waiting) {
   struct block *block = &it->core->block;
   bool heard = it->core->heard == (size_t)block->events;
   uint32_t code = CF_OK;
-  cf_reply reply;
+  cf_applied did;
   block->done = 0;
   if (waiting < 0 || waiting > WORDS) return CF_NO_WORD;
   while (code == CF_OK && block->done < waiting) {
-    code = do_word(it, block->words[block->done], block->lanes[block->done], &reply);
+    code = do_word(it, block->words[block->done], block->lanes[block->done], &did);
     if (code == CF_OK) block->done++;
   }
   if (waiting > 0) time_events(it->core, it->core->since);
@@ -234,7 +233,7 @@ static uint32_t do_waiting(struct crossing *it, jint waiting) {
 }
 
 /* A function to be called, with the numbers of its values, or -1 for none; or the kind of its outcome, with a value or a code. */
-static void write_claim(struct crossing *it, uint32_t stage, const cf_args *args) {
+static inline void write_claim(struct crossing *it, uint32_t stage, const cf_args *args) {
   struct block *block = &it->core->block;
   uint32_t kind = args->kind;
   int32_t first = args->first.kind == CF_NIL ? -1 : args->first.number, second = args->second.kind == CF_NIL ? -1 : args->second.number;
@@ -249,7 +248,7 @@ static void write_claim(struct crossing *it, uint32_t stage, const cf_args *args
 }
 
 /* One step of a caller: finishes what the task holds, if it does, and claims the lowest stage whose function the caller calls itself. */
-static uint32_t step(struct crossing *it, uint8_t who, cf_task *task) {
+static inline uint32_t step(struct crossing *it, uint8_t who, cf_task *task) {
   cf_request_step step = {who, HERE, 0};
   uint32_t held = task->held, code = cf_request_next(&it->core->request, &step, task, it->told + it->n, TOLD - it->n);
   if (code != CF_OK && code != CF_NOTHING) return code;
@@ -260,7 +259,7 @@ static uint32_t step(struct crossing *it, uint8_t who, cf_task *task) {
 }
 
 /* Claims all other stages whose functions the caller calls itself. What has no place or fails here is done by whoever asks for more. */
-static uint32_t claim_all(struct crossing *it, jint who) {
+static inline uint32_t claim_all(struct crossing *it, jint who) {
   uint16_t left = 0;
   uint32_t code = CF_OK;
   if (who >= 0) cf_request_ready(&it->core->request, HERE, &left);
@@ -278,7 +277,8 @@ static void hear(struct crossing *it) {
   struct core *core = it->core;
   struct block *block = &core->block;
   uint16_t ready = 0, here = 0, stages[MOST];
-  if (core->has_executors) cf_request_ready(&core->request, BY_EXECUTOR, &ready), cf_request_ready(&core->request, HERE, &here);
+  cf_request_ready(&core->request, BY_EXECUTOR, &ready);
+  if (ready > 0) cf_request_ready(&core->request, HERE, &here);
   if (here > 0) return;
   for (; ready > 0 && core->heard < (size_t)block->events; core->heard++, core->within = 0) {
     size_t n = 0;
@@ -304,13 +304,14 @@ static void write_told(struct block *block, size_t k, uint32_t stage, const cf_o
 }
 
 /* The end of a crossing, in one number: 8 bits of the code; then from 8 on the answer, 12 how many are told, 20 claimed, 26 ready, and 33 whether
- * there are more of them. */
-static jlong end(struct crossing *it, uint32_t code, uint32_t answer) {
+ * there are more of them. `finish` has one bit more. */
+static inline jlong end(struct crossing *it, uint32_t code, uint32_t answer) {
   struct core *core = it->core;
   size_t left;
   if (core->settles && cf_ledger_words(&core->request, (size_t)core->block.events, NULL, 0, &left) == CF_OK)
     core->block.events += (int32_t)left;
-  hear(it);
+  if (core->has_executors) hear(it);
+  else core->heard = (size_t)core->block.events;
   time_events(core, ticks());
   for (size_t k = 0; k < it->n; k++) write_told(&core->block, k, it->told[k].stage, &it->told[k].outcome);
   return (jlong)((uint64_t)code | (uint64_t)answer << 8 | (uint64_t)it->n << 12 | (uint64_t)it->claimed << 20 | (uint64_t)it->ready << 26 |
@@ -332,61 +333,80 @@ static void write_args(int32_t *to, const cf_args *args) {
 
 /* Does the words that wait, and then this one, if it isn't 0. Where `who` isn't negative, it claims for that caller: the stage that the word
  * claims, or else all that are ready for whoever made them ready. */
-CALL(jlong, apply)(JNIEnv *env, jclass class, jlong at, jint waiting, jlong word, jint lane, jint who) {
-  (void)env, (void)class;
+static jlong apply(jlong at, jint waiting, jlong word, jint lane, jint who) {
   struct crossing it;
-  cf_reply reply = {0};
+  cf_applied did = {0};
   begin(&it, at);
   uint32_t code = do_waiting(&it, waiting);
-  if (code == CF_OK && word != 0) code = do_word(&it, (uint64_t)word, (uint8_t)lane, &reply);
+  if (code == CF_OK && word != 0) code = do_word(&it, (uint64_t)word, (uint8_t)lane, &did);
   if (code == CF_OK && word != 0) {
-    it.core->block.number = (int32_t)reply.number;
-    if (who < 0) write_args(it.core->block.args, &reply.args);
+    it.core->block.number = (int32_t)did.reply.number;
+    if (who < 0) write_args(it.core->block.args, &did.reply.args);
     else if ((uint64_t)word >> 56 != 4) claim_all(&it, who);
-    else if (reply.answer == CF_GRANTED) write_claim(&it, (uint32_t)(word >> 36 & 0xfff), &reply.args);
+    else if (did.reply.answer == CF_GRANTED) write_claim(&it, (uint32_t)(word >> 36 & 0xfff), &did.reply.args);
   }
-  return end(&it, code, reply.answer);
+  return end(&it, code, did.reply.answer);
 }
 
-/* Finishes a stage that the caller has claimed, by a value's number, -1 for null, or by an exception's code. Then it claims as `apply` does. */
-CALL(jlong, finish)(JNIEnv *env, jclass class, jlong at, jint waiting, jint stage, jboolean throws, jint number, jint who) {
+CALL(jlong, apply)(JNIEnv *env, jclass class, jlong at, jint waiting, jlong word, jint lane, jint who) {
+  (void)env, (void)class;
+  return apply(at, waiting, word, lane, who);
+}
+
+/* The words, and behind them their moments, where words wait, if they are so few that Java reads them faster than it asks for them. */
+static bool write_words(struct core *core) {
+  struct block *block = &core->block;
+  size_t events = (size_t)block->events, moments = (size_t)block->moments, left = 0;
+  if (events + moments > FEW || cf_ledger_words(&core->request, 0, block->words, events, &left) != CF_OK || left != events) return false;
+  memcpy(block->words + events, core->moments, moments * sizeof *core->moments);
+  return true;
+}
+
+/* The finish of a stage that somebody else has settled: its word says so. */
+static uint32_t finish_late(struct crossing *it, uint8_t who, cf_task *task) {
+  const cf_answer *answer = &task->answer;
+  uint64_t tag = answer->kind == CF_THROW ? 2 : answer->value.kind == CF_INT ? 1 : 0;
+  uint32_t given = tag == 2 ? answer->code : (uint32_t)answer->value.number;
+  cf_applied did = {0};
+  uint32_t code = do_word(it, (uint64_t)5 << 56 | (uint64_t)(who & 63) << 48 | (uint64_t)(task->stage & 0xfff) << 36 | tag << 32 | given, HERE, &did);
+  task->finished = did.reply.answer;
+  return code;
+}
+
+/* Finishes a stage that the caller has claimed, by a value's number, -1 for null, or by an exception's code. Then it claims as `apply` does.
+ * Where this is the last finish, it also brings the words, if they are few: bit 34 of the reply says so. */
+CALL(jlong, finish)(JNIEnv *env, jclass class, jlong at, jint waiting, jint stage, jboolean throws, jint number, jint who, jboolean last) {
   (void)env, (void)class;
   struct crossing it;
   begin(&it, at);
   cf_task task = {.held = 1, .stage = (uint16_t)stage};
   task.answer.kind = throws ? CF_THROW : CF_GIVE, task.answer.code = (uint32_t)number;
   task.answer.value.kind = number < 0 ? CF_NIL : CF_INT, task.answer.value.number = number < 0 ? 0 : number;
-  uint32_t code = do_waiting(&it, waiting), answer = CF_WON;
-  if (code != CF_OK) return end(&it, code, 0);
-  code = step(&it, (uint8_t)who, &task);
-  if (code == CF_OK) claim_all(&it, who);
-  if (code != CF_NOT_HELD) return end(&it, code, task.finished);
-  /* Somebody has settled it: its word says so. */
-  cf_reply reply = {0};
-  uint64_t tag = throws ? 2 : number < 0 ? 0 : 1;
-  code = do_word(&it, (uint64_t)5 << 56 | (uint64_t)(who & 63) << 48 | (uint64_t)(stage & 0xfff) << 36 | tag << 32 |
-                          (tag ? (uint32_t)number : 0), HERE, &reply);
-  if (code == CF_OK) answer = reply.answer, claim_all(&it, who);
-  return end(&it, code, answer);
+  uint32_t code = do_waiting(&it, waiting);
+  if (code == CF_OK) code = step(&it, (uint8_t)who, &task);
+  if (code == CF_NOT_HELD) code = finish_late(&it, (uint8_t)who, &task);
+  if (code == CF_OK && task.held) claim_all(&it, who);
+  jlong reply = end(&it, code, task.finished);
+  return last && code == CF_OK && write_words(it.core) ? reply | (jlong)1 << 34 : reply;
 }
 
 /* Finishes a stage by this word, which links it to a relay, unless it is 0. If that was in time, the relay follows a stage from now on. */
 CALL(jlong, link)(JNIEnv *env, jclass class, jlong at, jint waiting, jlong word, jint relay, jint stage, jint who) {
   (void)env, (void)class;
   struct crossing it;
-  cf_reply reply = {0};
+  cf_applied did = {0};
   size_t told = 0;
   begin(&it, at);
   uint32_t code = do_waiting(&it, waiting);
-  if (code == CF_OK && word != 0) code = do_word(&it, (uint64_t)word, HERE, &reply);
+  if (code == CF_OK && word != 0) code = do_word(&it, (uint64_t)word, HERE, &did);
   if (code != CF_OK) return end(&it, code, 0);
-  if (reply.answer == CF_WON && relay >= 0) {
+  if (did.reply.answer == CF_WON && relay >= 0) {
     it.core->settles = true;
     code = cf_request_follow(&it.core->request, (uint16_t)relay, (uint16_t)stage, it.told + it.n, TOLD - it.n, &told);
     take(&it, told);
   }
   claim_all(&it, who);
-  return end(&it, code, reply.answer);
+  return end(&it, code, did.reply.answer);
 }
 
 /* Does the words that wait, and attaches stages of this form that wait for all of these stages, or for one of them: no function is ready then. */
@@ -514,6 +534,9 @@ CALL(void, since)(JNIEnv *env, jclass class, jlong at, jlong since) {
 
 /* Of a plan, as at its start. */
 static uint32_t open_anew(struct core *core, struct plan *plan, jint room) {
+  core->block.moments = core->block.events = 0, core->timed_events = 0;
+  core->heard = core->within = 0, core->settles = false;
+  core->has_executors = plan->has_executors;
   if (core->request.full && core->plan == plan) return cf_request_restart(&core->request);
   cf_request_sizes sizes = {(uint16_t)room, LANES, OWN};
   cf_free(&core->request);
@@ -528,11 +551,11 @@ static uint32_t open_anew(struct core *core, struct plan *plan, jint room) {
 static uint32_t do_again(struct core *core, const jlong *words, jint n, const jlong *executors, jsize length) {
   struct crossing it = {.core = core};
   uint32_t code = CF_OK;
-  cf_reply reply;
+  cf_applied did;
   for (jint k = 0, stage = (jint)core->plan->stages; k < n && code == CF_OK; k++) {
     bool attaches = (uint64_t)words[k] >> 56 == 7;
     uint8_t lane = attaches && stage / 64 < length && (uint64_t)executors[stage / 64] >> stage % 64 & 1 ? BY_EXECUTOR : HERE;
-    code = do_word(&it, (uint64_t)words[k], lane, &reply);
+    code = do_word(&it, (uint64_t)words[k], lane, &did);
     stage += attaches, it.n = 0;
   }
   for (size_t told = TOLD; told >= TOLD && code == CF_OK;) code = cf_request_told(&core->request, it.told, TOLD, &told);
@@ -544,11 +567,8 @@ CALL(jint, open)(JNIEnv *env, jclass class, jlong at, jlong plan, jint room, jlo
   (void)class;
   struct core *core = CORE(at);
   if (room < 0 || room > MOST) return CF_ROOM;
-  jsize length = n ? (*env)->GetArrayLength(env, kept) : 0, bits = executors ? (*env)->GetArrayLength(env, executors) : 0;
+  jsize length = n ? (*env)->GetArrayLength(env, kept) : 0, bits = n && executors ? (*env)->GetArrayLength(env, executors) : 0;
   if (n < 0 || n > length) return CF_NO_WORD;
-  core->block.moments = core->block.events = 0, core->timed_events = 0;
-  core->heard = core->within = 0, core->settles = false;
-  core->has_executors = PLAN(plan)->has_executors;
   uint32_t code = open_anew(core, PLAN(plan), room);
   if (!n || code != CF_OK) return (jint)code;
   jlong *done = (*env)->GetLongArrayElements(env, kept, NULL), *own = bits ? (*env)->GetLongArrayElements(env, executors, NULL) : NULL;
@@ -565,6 +585,17 @@ CALL(jint, open)(JNIEnv *env, jclass class, jlong at, jlong plan, jint room, jlo
   if (own) (*env)->ReleaseLongArrayElements(env, executors, own, JNI_ABORT);
   core->block.events = n, core->heard = (size_t)n;
   return (jint)code;
+}
+
+/* Opens a request of no plan for two words: one that attaches a stage whose function an executor calls, which came at that moment, and then one
+ * as `apply` does it. Where it is refused, the core is of no use. */
+CALL(jlong, first)(JNIEnv *env, jclass class, jlong at, jlong attach, jlong since, jlong word, jint who) {
+  (void)env, (void)class;
+  struct core *core = CORE(at);
+  uint32_t code = open_anew(core, &empty, 1);
+  if (code != CF_OK) return (jlong)code;
+  core->block.words[0] = (uint64_t)attach, core->block.lanes[0] = BY_EXECUTOR, core->since = (uint64_t)since;
+  return apply(at, 1, word, HERE, who);
 }
 
 /* The n words from a place on, and behind them the moments for which there is place. */

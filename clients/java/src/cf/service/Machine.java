@@ -56,7 +56,8 @@ final class Machine {
 
     private final Plan plan;
     private Core core;
-    private int stages;
+    /** How many stages there are, and how many of them it has told. */
+    private int stages, settled;
     private int waiting;
     /** The reply to the last call, as native/cf_java.c packs it; before it is opened, the word that waits then, and since when. */
     private long reply, since;
@@ -65,6 +66,10 @@ final class Machine {
     private int keptWords;
     /** What sets again what isn't in the words. */
     private Runnable again;
+    /** Of the thread that opened it, in the pool. */
+    private int place;
+    /** Whether words came once the core was given back. */
+    private boolean cameBack;
     /** What was told: of a stage its number and outcome, of a claim its stage and arguments. */
     private final List<int[]> witness = WITNESSED ? new ArrayList<>() : null;
 
@@ -166,23 +171,41 @@ final class Machine {
         return LIVE.get();
     }
 
-    /** Cores of closed requests of one plan, whose requests start again. A thread looks first where it has put one last. */
+    /** Cores of closed requests of one plan, whose requests start again. A thread looks first for one of those that it had opened. */
     static final class Pool {
         private static final int MOST = Math.max(1, Integer.getInteger("cf.kept", 64));
         private final AtomicReferenceArray<Core> free;
+        /** Requests whose stages are all settled: of each thread that opens requests the last one. */
+        private final AtomicReferenceArray<Machine> over;
         private final WeakReference<Pool> self = new WeakReference<>(this);
 
         Pool(int stages) {
             free = new AtomicReferenceArray<>(stages <= MOST_KEPT ? MOST : Math.min(MOST, 4));
+            over = new AtomicReferenceArray<>(free.length());
         }
 
+        /** Of this thread. */
         private int place() {
-            return (int) Math.floorMod(Thread.currentThread().getId(), (long) free.length());
+            return ((int) Thread.currentThread().getId() & Integer.MAX_VALUE) % free.length();
         }
 
-        /** One, or null. */
-        Core take() {
-            for (int k = 0, at = place(); k < free.length(); k++) {
+        /**
+         * All stages of this request are settled. Most likely nobody needs it any more, and perhaps nobody closes it: so the next one of its
+         * thread that is over has its core given back. Where two come at once, one may be forgotten here, which the collector finds.
+         */
+        private void over(Machine machine) {
+            Machine before = over.get(machine.place);
+            if (before != machine) {
+                over.lazySet(machine.place, machine);
+                if (before != null) {
+                    before.restsUnasked();
+                }
+            }
+        }
+
+        /** One, or null; that of this place if there is one. */
+        Core take(int place) {
+            for (int k = 0, at = place; k < free.length(); k++) {
                 Core core = free.get(at) == null ? null : free.getAndSet(at, null);
                 if (core != null) {
                     return core;
@@ -192,9 +215,9 @@ final class Machine {
             return null;
         }
 
-        /** Whether there was a place for it. */
-        boolean put(Core core) {
-            for (int k = 0, at = place(); k < free.length(); k++) {
+        /** Whether there was a place for it, from this one on. */
+        boolean put(Core core, int place) {
+            for (int k = 0, at = place; k < free.length(); k++) {
                 if (free.get(at) == null && free.compareAndSet(at, null, core)) {
                     return true;
                 }
@@ -254,6 +277,7 @@ final class Machine {
     private Core core() {
         if (core == null) {
             long[] words = kept;
+            cameBack = words != null;
             open(stages - planned());
             if (again != null) {
                 try {
@@ -270,14 +294,19 @@ final class Machine {
         return core;
     }
 
+    private Core taken() {
+        place = pool().place();
+        Core core = pool().take(place);
+        if (core == null) {
+            return Core.found(pool());
+        }
+        Freed.some();
+        return core;
+    }
+
     /** With so much room, of which the machine makes more itself. */
     private void open(int room) {
-        Core core = pool().take();
-        if (core == null) {
-            core = Core.found(pool());
-        } else {
-            Freed.some();
-        }
+        Core core = taken();
         long of = plan == null ? 0 : plan.at;
         int code = open(core.at, of, room, kept, keptWords, executors);
         if (code == Native.NO_MEMORY) {
@@ -289,13 +318,35 @@ final class Machine {
             throw refusal(code);
         }
         this.core = core;
-        if (kept == null && reply != 0) {
+        if (isUnopened()) {
             core.memory.putLong(WORDS, reply);
             core.memory.put(LANES, (byte) BY_EXECUTOR);
             waiting = 1;
             since(core.at, since);
         }
         kept = null;
+        reply = 0; // What that brought was of the core before.
+    }
+
+    private boolean isUnopened() {
+        return kept == null && reply != 0;
+    }
+
+    /** Opens it, and does both the word that waits and this one. Where that fails, the word waits as before. */
+    private void first(long word, int who) {
+        Core core = taken();
+        long told = first(core.at, reply, since, word, who);
+        if (((int) told & 0xff) == Native.NO_MEMORY) {
+            Freed.all();
+            told = first(core.at, reply, since, word, who);
+        }
+        int code = (int) told & 0xff;
+        if (code != Native.OK) {
+            core.freed.now();
+            throw refusal(code);
+        }
+        this.core = core;
+        done(told);
     }
 
     int stages() {
@@ -359,12 +410,16 @@ final class Machine {
     }
 
     private void apply(long word, int lane, int who) {
-        done(apply(core().at, waiting, word, lane, who));
+        if (core == null && isUnopened() && lane == HERE) {
+            first(word, who);
+        } else {
+            done(apply(core().at, waiting, word, lane, who));
+        }
     }
 
     /** Finishes a stage that the caller has claimed, by the number of a value or exception, and claims what is ready then. */
     void finish(int stage, boolean isThrown, int number, int who) {
-        done(finish(core().at, waiting, stage, isThrown, number, who));
+        done(finish(core().at, waiting, stage, isThrown, number, who, settled == stages - 1));
     }
 
     /** Finishes a stage by this word, which links it, to a relay where that isn't -1; from now on the relay follows that stage. */
@@ -403,6 +458,7 @@ final class Machine {
         // No method is called from here on, so that a stack that is at its end can't leave half of it.
         reply = told;
         waiting = 0;
+        settled += told();
         if (WITNESSED) {
             witness();
         }
@@ -412,6 +468,7 @@ final class Machine {
     private void refused(int code) {
         ByteBuffer memory = core.memory;
         int done = memory.getInt(DONE);
+        reply = 0;
         waiting -= done;
         for (int k = 0; k < waiting; k++) {
             memory.putLong(WORDS + 8 * k, memory.getLong(WORDS + 8 * (k + done)));
@@ -543,7 +600,13 @@ final class Machine {
         flush();
         int events = events();
         long[] all = new long[events + core.memory.getInt(MOMENTS)];
-        check(words(core.at, all, 0, events));
+        if ((reply >>> 34 & 1) != 0) {
+            for (int k = 0; k < all.length; k++) {
+                all[k] = core.memory.getLong(WORDS + 8 * k);
+            }
+        } else {
+            check(words(core.at, all, 0, events));
+        }
         return all;
     }
 
@@ -592,8 +655,50 @@ final class Machine {
         kept = all;
         this.again = again;
         this.core = null;
-        if (stages - planned() > MOST_KEPT || keptWords > 16 * MOST_KEPT || !pool().put(core)) {
+        if (!isSmall() || !pool().put(core, place)) {
             core.freed.now();
+        }
+    }
+
+    private boolean isSmall() {
+        return stages - planned() <= MOST_KEPT && events() <= 16 * MOST_KEPT;
+    }
+
+    /** Whether all its stages were told as settled. */
+    boolean isOver() {
+        return settled == stages;
+    }
+
+    /**
+     * Whether it may give its core back unasked. Where words come nevertheless, the core that it has again stays, so that all words are done again
+     * but once.
+     */
+    boolean mayRest() {
+        return isOver() && !cameBack && isSmall();
+    }
+
+    /** Has the core given back by and by. Whoever calls has no lock. */
+    void over() {
+        pool().over(this);
+    }
+
+    /** Gives the core back, unless there is no memory for the words now: then it stays. */
+    void rests() {
+        try {
+            rest(null);
+        } catch (VirtualMachineError none) {
+            // Whoever closes the request may have more.
+        }
+    }
+
+    private void restsUnasked() {
+        if (core == null) { // It was closed. If another thread has just had it opened again, it isn't over.
+            return;
+        }
+        synchronized (this) {
+            if (mayRest()) {
+                rests();
+            }
         }
     }
 
@@ -605,7 +710,8 @@ final class Machine {
      */
     static native long apply(long core, int waiting, long word, int lane, int who);
 
-    static native long finish(long core, int waiting, int stage, boolean isThrown, int number, int who);
+    /** Where it is the last finish, it also brings the words: the reply's bit 34 says whether they stand where words wait, with their moments. */
+    static native long finish(long core, int waiting, int stage, boolean isThrown, int number, int who, boolean last);
 
     static native long gather(long core, int waiting, int form, short[] sources, int who);
 
@@ -633,6 +739,9 @@ final class Machine {
 
     /** A request of a plan, 0 for the one without stages, with room, in which the first n of these words are done, with their moments. */
     static native int open(long core, long plan, int room, long[] kept, int n, long[] executors);
+
+    /** A request of no plan, of which the first word attaches an executor's stage and came at that moment, and then this one is done as above. */
+    static native long first(long core, long attach, long since, long word, int who);
 
     /** The n words from a place on, and behind them the moments for which there is place. */
     static native int words(long core, long[] into, int from, int n);

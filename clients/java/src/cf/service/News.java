@@ -16,6 +16,9 @@ final class News implements Watch.Turn {
     private Link relayed;
     Object told;
 
+    /** A request all of whose stages are settled. */
+    Machine over;
+
     /** What kept a request from telling all. */
     Throwable failure;
 
@@ -89,6 +92,12 @@ final class News implements Watch.Turn {
     void relayed(Link links, Object told) {
         relayed = links;
         this.told = told;
+    }
+
+    Machine pollOver() {
+        Machine machine = over;
+        over = null;
+        return machine;
     }
 
     Link pollRelayed() {

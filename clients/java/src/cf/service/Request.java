@@ -108,8 +108,10 @@ public final class Request implements AutoCloseable {
      * Memory. Where the system refuses memory, an OutOfMemoryError is thrown, and the words that were done by then stand
      * (Machine.refused). `close` keeps the words in the heap and gives the core to the next request; a word that comes later
      * has another core do all words again. Relays and deadlines aren't in the words: the stages that have any (`unwritten`)
-     * know them, and `setAgain` sets them again. Cores of requests that nobody can reach are freed by whoever opens the next
-     * ones (Freed).
+     * know them, and `setAgain` sets them again. Most likely a request whose stages are all settled isn't needed any more,
+     * so the next one of its thread that is so far has its core given back, too (`publish` notes it, Machine.over). Where it
+     * is needed nevertheless, it keeps the core that it has then. Cores of requests that nobody can reach are freed by
+     * whoever opens the next ones (Freed).
      *
      * Contexts and ends. Where the service has contexts, a function that is attached is a Carried, which has what was captured
      * before anything is done; one of a flow becomes one as it is claimed (`granted`). `closed` sees to it that a hook of the
@@ -168,6 +170,8 @@ public final class Request implements AutoCloseable {
     private Alarm alarm;
     /** Whether a core that it has again is given back once all relays and deadlines have ended. */
     private boolean isClosed;
+    /** Whether a stage of its flow was asked for. */
+    private boolean isAsked;
     /** Up to where a recording has the words. */
     private int recorded;
     private boolean goesOn;
@@ -217,7 +221,7 @@ public final class Request implements AutoCloseable {
         Request request = new Request(service);
         Object function = request.within == null ? supplier : new Carried(request.within, supplier);
         Stage<U> stage = new Stage<>(request, 0, Form.SUPPLY, function, service.executor());
-        request.entered(stage);
+        request.stages[0] = stage; // Nobody else has it yet.
         request.handStarted(stage);
         return stage;
     }
@@ -364,13 +368,20 @@ public final class Request implements AutoCloseable {
         if (step.flow() != flow) {
             throw new IllegalArgumentException("the step is of another flow");
         }
+        Stage<U> stage;
+        boolean rests;
         synchronized (lock()) {
-            Stage<U> stage = (Stage<U>) at(step.number());
+            stage = (Stage<U>) at(step.number());
             if (stage.told == null) {
                 shown(stage);
             }
-            return stage;
+            isAsked = true;
+            rests = watch == null && mayRest();
         }
+        if (rests) {
+            machine.over();
+        }
+        return stage;
     }
 
     /** A stage of a flow that is asked for once it is settled. */
@@ -435,15 +446,13 @@ public final class Request implements AutoCloseable {
         }
     }
 
-    private void rests() {
-        boolean rests;
+    /** The stage of a request of one stage is settled: that is its end, unless there are more stages by now. */
+    private void endsAlone() {
+        boolean ends;
         synchronized (lock()) {
-            rests = machine.stages() == 1 && stages[0] == null;
-            if (rests) {
-                machine.rest(null);
-            }
+            ends = machine.stages() == 1;
         }
-        if (rests && service.ends() != null) {
+        if (ends) {
             ended();
         }
     }
@@ -472,7 +481,7 @@ public final class Request implements AutoCloseable {
         if (number < stages.length && stages[number] != null || flow == null || number >= flow.count()) {
             return number < stages.length && stages[number] != null;
         }
-        return !machine.isSettled(number);
+        return !machine.isOver() && !machine.isSettled(number);
     }
 
     /** Has the service's hook told of it, if it wasn't yet. It throws nothing, nor keeps anybody waiting. */
@@ -1170,7 +1179,16 @@ public final class Request implements AutoCloseable {
         }
         if (watch != null) {
             stamp();
+        } else if (single && machine.isOver() && machine.stages() == 1) {
+            machine.rests();
+        } else if (mayRest()) {
+            news.over = machine;
         }
+    }
+
+    /** Whether its core may be given back unasked: not before a flow's was asked for a stage, since the machine has to tell of that. */
+    private boolean mayRest() {
+        return machine.mayRest() && (flow == null || isAsked);
     }
 
     /** The events since the last time have this moment of the watch's. */
@@ -1304,7 +1322,10 @@ public final class Request implements AutoCloseable {
         Stage<?> stage;
         Link link;
         Call call;
-        if ((link = news.pollRelayed()) != null) {
+        Machine over;
+        if ((over = news.pollOver()) != null) {
+            over.over();
+        } else if ((link = news.pollRelayed()) != null) {
             relayed(link, news.told, news);
         } else if ((stage = news.pollSettled()) != null) {
             if (stage.more != null && stage.more.outside != null) {
@@ -1318,8 +1339,8 @@ public final class Request implements AutoCloseable {
             if (stage.isUnwritten()) {
                 stage.request.released();
             }
-            if (stage.request.single) {
-                stage.request.rests();
+            if (stage.request.single && stage.request.service.ends() != null) {
+                stage.request.endsAlone();
             }
         } else if ((stage = news.pollHanded()) != null) {
             stage.request.hand(stage, news);

@@ -95,6 +95,8 @@ public final class AllTests {
         test("what comes of several stages, instead", InsteadTest::ofSeveral);
         test("what begins later, instead", InsteadTest::later);
         test("cores used again", MachineTest::usedAgain);
+        test("words that a last finish brings", MachineTest::wordsBrought);
+        test("a request of one call", MachineTest::oneCall);
         test("requests of one plan each have a core", MachineTest::oneCoreEach);
         test("attaches that fail", MachineTest::failedAttach);
         test("words that are refused", MachineTest::refusedWords);
@@ -111,6 +113,7 @@ public final class AllTests {
         test("hostile code", HostileTest::survived);
         test("virtual threads", FunctionsTest::virtualThreads);
         test("what can't be reached", FreeingTest::unreachable);
+        test("requests that are over", FreeingTest::over);
         test("services with a fault of order", OrdersTest::plantedFaults);
         test("sound services in every order", OrdersTest::soundServices);
         test("what a failing order tells", OrdersTest::stories);

@@ -159,6 +159,54 @@ final class FreeingTest {
         is(after - before < 100, true);
     }
 
+    /** A request whose stages are all settled gives its core to the next one, closed or not. One that goes on has one again, and keeps that. */
+    static void over() throws Exception {
+        for (int k = 0; k < 5; k++) {
+            System.gc();
+            Thread.sleep(20);
+            Freed.all();
+        }
+        int live = Machine.live(), count = 300;
+        List<Request> over = new ArrayList<>();
+        for (int k = 0; k < count; k++) {
+            Request one = INLINE.request("over");
+            is(one.completedFuture(k).thenApply(x -> x + 1).join(), k + 1);
+            over.add(one);
+        }
+        is(Machine.live() <= live + 10, true);
+        for (int k = 0; k < count; k++) {
+            is(over.get(k).history().events(), 5);
+            is(over.get(k).completedFuture(k).thenApply(x -> x + 2).join(), k + 2);
+            is(over.get(k).history().report().endsWith("stage 1 value 1\nstage 2 value 2\nstage 3 value 3\n"), true);
+        }
+        is(Machine.live() > live + count / 2, true);
+        over.forEach(Request::close);
+        is(Machine.live() < live + count / 2, true);
+        // One that is in use again isn't over, and its limits are kept.
+        Request used = INLINE.request("used");
+        is(used.completedFuture(1).join(), 1);
+        Stage<Integer> limited = used.<Integer>promise().completeOnTimeout(2, 20, TimeUnit.MILLISECONDS);
+        INLINE.request("next").completedFuture(1);
+        is(limited.get(20, TimeUnit.SECONDS), 2);
+        // So it is with a flow, once a stage of it was asked for: that asks the machine.
+        Flow flow = new Flow("over");
+        Flow.Step<Object> last = flow.promise().thenApply(x -> x);
+        live = Machine.live();
+        for (int k = 0; k < count; k++) {
+            over.set(k, INLINE.start(flow, k));
+            is(over.get(k).stage(last).join(), k);
+        }
+        is(Machine.live() <= live + 10, true);
+        for (int k = 0; k < count; k++) {
+            over.set(k, INLINE.start(flow, k));
+        }
+        is(Machine.live() > live + count / 2, true);
+        for (int k = 0; k < count; k++) {
+            is(over.get(k).stage(last).join(), k);
+        }
+        is(Machine.live() < live + count / 2, true);
+    }
+
     private static Object dropped() {
         Request unclosed = SERVICE.request();
         Object object = new Object();
@@ -170,8 +218,8 @@ final class FreeingTest {
     private static void requests(int count) {
         for (int k = 0; k < count; k++) {
             Request unclosed = SERVICE.request("dropped");
-            Stage<Integer> first = unclosed.promise();
-            Stage<Integer> last = first.thenApply(x -> x + 1);
+            Stage<Integer> first = unclosed.promise(), last = first.thenApply(x -> x + 1);
+            unclosed.promise(); // So it is never over.
             if (k % 3 != 0) {
                 first.complete(k);
                 is(last.join(), k + 1);
@@ -226,7 +274,9 @@ final class FreeingTest {
     static void unclosed() {
         int most = 0;
         for (int k = 0; k < 60_000; k++) {
-            INLINE.request("unclosed").completedFuture(k);
+            Request unclosed = INLINE.request("unclosed");
+            unclosed.promise(); // So it is never over.
+            unclosed.completedFuture(k);
             most = Math.max(most, Machine.live());
         }
         System.out.println("at most " + most + " were alive");

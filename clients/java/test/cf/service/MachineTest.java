@@ -72,6 +72,45 @@ final class MachineTest {
         pool.shutdown();
     }
 
+    /** What a request's last finish has brought isn't taken for the words of the core that it has again. */
+    static void wordsBrought() {
+        Flow flow = new Flow("few");
+        Flow.Step<Integer> first = flow.promise(), second = first.thenApply(x -> x + 1);
+        Request one = SERVICE.start(flow, 1);
+        String report = one.history().report();
+        one.close();
+        try (Request other = SERVICE.start(flow)) {
+            for (int k = 0; k < 5; k++) {
+                other.promise();
+            }
+        }
+        is(one.stage(second).join(), 2);
+        is(one.history().report(), report);
+        is(one.history().events(), 3);
+    }
+
+    /** A request of one call is opened by whoever calls its function, and has the moment at which the call came. */
+    static void oneCall() {
+        List<Runnable> tasks = new ArrayList<>();
+        Stage<Integer> stage = new Service(tasks::add).supplyAsync(() -> 5);
+        long came = Native.ticks();
+        tasks.get(0).run();
+        is(stage.join(), 5);
+        long[] kept = stage.request().machine.kept();
+        is(kept.length, 3 + 3);
+        is(Words.name(kept[0]) + " " + Words.name(kept[1]) + " " + Words.name(kept[2]), "attach claim finish");
+        is(kept[3] >>> 8 <= came && kept[4] >>> 8 >= came && kept[5] >>> 8 >= kept[4] >>> 8, true);
+        is(stage.request().history().report(), "attached 0\ngranted none\nwon\nstage 0 value 0\n");
+        // Where its opening is refused, it is opened by the next call.
+        Machine machine = new Machine(Words.attach(WHO, Form.SUPPLY, 0, 0, 0, 0));
+        thrown(AssertionError.class, () -> machine.apply(-1, WHO));
+        machine.apply(Words.claim(WHO, 0), WHO);
+        is(machine.answer() + " " + machine.claimed() + " " + machine.events(), History.GRANTED + " 1 2");
+        machine.finish(0, false, 3, WHO);
+        is(machine.answer() + " " + machine.told() + " " + machine.isOver(), History.WON + " 1 true");
+        machine.rest(null);
+    }
+
     /** Two requests never have one core: not where one is closed twice, nor where several threads open and close them. */
     static void oneCoreEach() throws Exception {
         Flow flow = new Flow("each");
@@ -127,7 +166,7 @@ final class MachineTest {
     static void refusedWords() {
         Machine.Plan plan = new Flow("refused").plan();
         Machine.Core core = Machine.Core.found(plan.pool);
-        is(plan.pool.put(core), true);
+        is(plan.pool.put(core, 0), true);
         Machine machine = new Machine(plan, 8);
         machine.attachLater(source(), Machine.HERE);
         machine.attachLater(Words.attach(WHO, Form.APPLY, 1, 1, 0, 2), Machine.HERE);
@@ -195,7 +234,7 @@ final class MachineTest {
         for (int stage : new int[] {-1, 1, 4096, Integer.MAX_VALUE}) {
             is(Machine.ask(core, stage) != Native.OK, true);
             is((Machine.deadline(core, 0, stage, 5, false, 0) & 0xff) != Native.OK, true);
-            is((Machine.finish(core, 0, stage, false, 0, WHO) & 0xff) != Native.OK, true);
+            is((Machine.finish(core, 0, stage, false, 0, WHO, true) & 0xff) != Native.OK, true);
         }
         for (short[] of : new short[][] {{0, 1, 0}, {0, 0, -1}, {0, 4096, 0}, new short[5000]}) {
             is((Machine.gather(core, 0, Form.ALL_OF.ordinal(), of, WHO) & 0xff) != Native.OK, true);
@@ -212,6 +251,12 @@ final class MachineTest {
         }
         is(Machine.words(core, new long[100], 0, 2), Native.OK);
         is(Machine.words(core, new long[100], 2, 0) + Machine.words(core, new long[1], 1, 1), Native.OK);
+        long supply = Words.attach(WHO, Form.SUPPLY, 0, 0, 0, 0);
+        for (long word : new long[] {-1, Words.claim(WHO, 1), Words.claim(64, 0)}) {
+            is((Machine.first(core, word, 1, Words.claim(WHO, 0), WHO) & 0xff) != Native.OK, true);
+            is((Machine.first(core, supply, 1, word, WHO) & 0xff) != Native.OK, true);
+        }
+        is(Machine.first(core, supply, Long.MIN_VALUE, supply, Integer.MAX_VALUE) & 0xff, (long) Native.OK);
         Machine.destroy(core);
     }
 }
