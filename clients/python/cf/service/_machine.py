@@ -8,12 +8,14 @@ import ctypes as c
 import os
 import threading
 from array import array
-from typing import TYPE_CHECKING, Any, Callable, ContextManager, Dict, List, Optional, Sequence, Tuple, cast
+from concurrent.futures import CancelledError
+from typing import (TYPE_CHECKING, Any, Callable, ClassVar, ContextManager, Dict, List, NoReturn, Optional, Sequence, Tuple,
+                    Type, cast)
 
 from .._library import _HIGHEST, CALLS, CRequestStep, CTask, CTold, CValue, path
 from ..plan import Plan
-from ..values import Code, Form, check
-from .words import ATTACH, CLOCK, COMPOSE_FORMS, MOST_EDGES, MOST_STAGES, RELAY, RequestFull
+from ..values import BadAnswer, Code, Form, check
+from .words import (ATTACH, CANCELLED, CLOCK, COMPOSE_FORMS, MOST_EDGES, MOST_STAGES, RELAY, TIMED_OUT, RequestFull)
 
 if TYPE_CHECKING:
     from .request import Works
@@ -43,10 +45,9 @@ class PlanCore:
     Attributes:
         rows: What it was made of.
         at: The address of its handle.
-        most: How many stages a request of it may have: two edges are set aside for each that is attached.
-        kept: Machines that the C module keeps for the next requests."""
+        most: How many stages a request of it may have: two edges are set aside for each that is attached."""
 
-    __slots__ = ("rows", "at", "most", "kept", "_plan")
+    __slots__ = ("rows", "at", "most", "_plan")
 
     def __init__(self, rows: Sequence[Tuple[int, Tuple[int, ...], Optional[Callable[..., Any]], str]]) -> None:
         self.rows = tuple(rows)
@@ -55,7 +56,6 @@ class PlanCore:
         edges = sum(len(of) for _, of, _, _ in self.rows)
         if edges > MOST_EDGES:
             raise RequestFull("a flow has at most 16,384 mentions of sources")
-        self.kept: object = None
         self._plan = Plan()
         for number, (form, of, call, _) in enumerate(self.rows):
             self._plan.stage(Form(form), *of, function=None if call is None else number)
@@ -113,13 +113,21 @@ class Limits(Dict[int, Limit]):
 
 
 class Calls:
-    """Calls of a request's machine."""
+    """Calls of a request's machine.
+
+    Attributes:
+        _stage_class: The class of its futures.
+        _chooses: Whether it says itself whose turn is next, by its own `_take_turn` and `_hand_on`."""
+
+    _stage_class: "ClassVar[Type[Stage[Any]]]"
+    _chooses: ClassVar[bool] = False
 
     if TYPE_CHECKING:
         _lock: ContextManager[Any]
         _works: Works
         _limits: Limits
         _plan: Optional[PlanCore]
+        _names: List[str]
         _values: List[Any]
         _errors: List[BaseException]
         _times: Any  # of each word, in nanoseconds, as a buffer
@@ -132,11 +140,33 @@ class Calls:
 
         def _code(self, error: BaseException) -> int: ...
         def _keep(self, value: Any) -> int: ...
-        def _name_of(self, number: int) -> str: ...
+        def _attach_all(self, form: int, of: bytes, name: str) -> "Stage[Any]": ...
         def _takes(self, stage: int, other: int, code: int) -> None: ...
+        def _link(self, stage: "Stage[Any]", who: int, to: Any) -> bool: ...
         def _take_told(self) -> None: ...
     else:
         __slots__ = ()
+
+    def _name_of(self, number: int) -> str:
+        return self._names[number]
+
+    def _rename(self, number: int, name: str) -> None:
+        self._names[number] = name
+
+    @staticmethod
+    def _refuse_stage() -> NoReturn:
+        raise RequestFull("a request has at most 4,096 stages")
+
+    def _gather(self, form: int, of: "Sequence[Stage[Any]]", name: str) -> "Stage[Any]":
+        """The last of the stages that wait for all of these, or for one of them."""
+        if any(source.request is not self for source in of):
+            raise TypeError("no stage of this request")
+        return self._attach_all(form, array("H", [source.number for source in of]).tobytes(), name)
+
+    @staticmethod
+    def _made(kind: int) -> BaseException:
+        """The exception of a stage that ended so, where nobody gave one."""
+        return CancelledError() if kind == CANCELLED else TimeoutError() if kind == TIMED_OUT else BadAnswer()
 
     def _open(self) -> None:
         """Hands on what is ready in a plan from the start."""
@@ -263,8 +293,7 @@ class Calls:
             del words[len(times):]
             forms = [row[0] for row in (() if self._plan is None else self._plan.rows)]
             forms += [word >> 24 & 0xFF for word in words if word >> 56 == ATTACH]
-            names = [self._name_of(number) for number in range(len(forms))]
-            facts = words, times[:len(words)], names, self._values[:], self._errors[:]
+            facts = words, times[:len(words)], self._names[:len(forms)], self._values[:], self._errors[:]
         for place, word in enumerate(words):
             above = (word >> 36 & 0xFFF) + 1
             if word >> 48 & 0xFF == CLOCK and above < len(forms) and forms[above] in COMPOSE_FORMS:

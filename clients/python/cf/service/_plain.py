@@ -18,17 +18,17 @@ import os
 import threading
 import weakref
 from array import array
-from concurrent.futures import CancelledError, Future
+from concurrent.futures import Future
 from concurrent.futures._base import CANCELLED_AND_NOTIFIED, FINISHED, RUNNING
 from time import monotonic_ns
-from typing import TYPE_CHECKING, Any, Callable, Dict, List, Optional, Sequence, Tuple, Type
+from typing import TYPE_CHECKING, Any, Callable, Dict, List, Optional, Sequence, Tuple
 
 from .._library import CApplied, CGathering, CHandle, CRequestSizes, CRequestStep, CStage, CTask, CTold
 from ..values import Code, Form, Refused, check
 from ._machine import Calls, PlanCore, bound
 from .words import (ANSWER, ARGS, ATTACH, CANCEL, CANCELLED, CLAIM, CLOCK, COMPLETE, COMPOSE_FORMS, FAIL, FAIL_AS,
-                    FAILURES, FINISH, GIVES, GOT, LINKS, PENDING, THIS_THREAD, THROWN, THROWS, TIMED_OUT, VALUE,
-                    RequestFull, Told, name_of)
+                    FAIL_BADLY, FAILURES, FINISH, GIVES, GOT, LINKS, PENDING, THIS_THREAD, THROWN, THROWS, VALUE,
+                    RequestFull, Told)
 
 if TYPE_CHECKING:
     from .request import Works
@@ -80,14 +80,6 @@ _here = _Here()
 def be(who: int) -> None:
     """Gives this thread the number of a caller."""
     _here.who = who
-
-
-_classes: Dict[str, Any] = {}
-
-
-def use(stage: type, full: type, bad_answer: type, name: Callable[[Any], str]) -> None:
-    """Tells what the module knows of the rest."""
-    _classes.update(stage=stage, bad_answer=bad_answer)
 
 
 class _Parents:
@@ -154,10 +146,10 @@ class _Row:
     is that of its outcome. `error` is the number of the exception of a stage that timed out or has a bad answer, which
     its outcome doesn't tell; None where nobody gave one. `of` are the stages that it may have that from."""
 
-    __slots__ = ("form", "of", "name", "stage", "kind", "error", "running")
+    __slots__ = ("form", "of", "stage", "kind", "error", "running")
 
-    def __init__(self, form: int, of: Sequence[int], name: str, stage: "Optional[Stage[Any]]" = None) -> None:
-        self.form, self.of, self.name, self.stage = form, of, name, stage
+    def __init__(self, form: int, of: Sequence[int], stage: "Optional[Stage[Any]]" = None) -> None:
+        self.form, self.of, self.stage = form, of, stage
         self.kind, self.running = PENDING, False
         self.error: Optional[int] = None
 
@@ -297,6 +289,7 @@ class _Machine:
 
 
 _Begun = Tuple["Stage[Any]", Callable[..., Any], Tuple[Any, ...], Dict[str, Any]]
+_Claimed = Tuple[int, Callable[..., Any], Tuple[Any, ...], Dict[str, Any]]
 
 
 class RequestCore(Calls):
@@ -306,15 +299,15 @@ class RequestCore(Calls):
     function is the lowest ready one then. There are as many turns as ready functions, or more. One for which no
     function is left does nothing."""
 
-    __slots__ = ("_works", "_title", "_keeps", "_plan", "_lock", "_machine", "_rows", "_most", "_values", "_errors",
-                 "_times", "_counts", "_turns", "_stage_class", "__weakref__")
+    __slots__ = ("_works", "_title", "_keeps", "_plan", "_lock", "_machine", "_rows", "_names", "_most", "_values",
+                 "_errors", "_times", "_counts", "_turns", "__weakref__")
 
-    def __init__(self, works: "Works", title: str, room: int, keeps: object = None, plan: Optional[PlanCore] = None,
-                 stage_class: "Optional[Type[Stage[Any]]]" = None) -> None:
+    def __init__(self, works: "Works", title: str, room: int, keeps: object = None,
+                 plan: Optional[PlanCore] = None) -> None:
         self._works, self._title, self._keeps, self._plan = works, title, keeps, plan
-        self._stage_class: "Type[Stage[Any]]" = stage_class or _classes["stage"]
         self._lock: "threading.Lock | _Parents" = threading.Lock()
-        self._rows: List[_Row] = [] if plan is None else [_Row(form, of, name) for form, of, _, name in plan.rows]
+        self._rows: List[_Row] = [] if plan is None else [_Row(form, of) for form, of, _, _ in plan.rows]
+        self._names: List[str] = [] if plan is None else [name for _, _, _, name in plan.rows]
         self._most = (plan or _nothing).most
         self._machine = _Machine(plan, min(max(room, plan is None), self._most - len(self._rows)))
         self._values: List[Any] = []
@@ -352,7 +345,7 @@ class RequestCore(Calls):
                        error if machine.numbers[_REPLY + ANSWER] else None)
         return machine.numbers
 
-    def _add(self, row: _Row, word: int, settled: "List[Stage[Any]]") -> None:
+    def _add(self, row: _Row, name: str, word: int, settled: "List[Stage[Any]]") -> None:
         """Attaches the stage of a row by a word."""
         machine = self._machine
         code = _apply(machine.at, word, 0, machine.applied, machine.told, ROWS)
@@ -361,6 +354,7 @@ class RequestCore(Calls):
             code = _apply(machine.at, word, 0, machine.applied, machine.told, ROWS)
         check(code)
         self._rows.append(row)
+        self._names.append(name)
         self._stamp(1)
         self._note(machine.numbers[_APPLIED_TOLD], settled)
 
@@ -408,12 +402,11 @@ class RequestCore(Calls):
 
     def _attach(self, form: int, first: "Optional[Stage[Any]]", second: "Optional[Stage[Any]]",
                 call: Optional[Callable[..., Any]], args: Optional[Tuple[Any, ...]], kwargs: Optional[Dict[str, Any]],
-                name: Optional[str]) -> "Stage[Any]":
+                name: str) -> "Stage[Any]":
         """A stage more, to at most two sources of this request. Below a composing one stands its relay, a source."""
         of = [source.number for source in (first, second) if source is not None]
         if any(source is not None and source.request is not self for source in (first, second)):
             raise TypeError("no stage of this request")
-        known = name if name is not None else name_of(call)
         stage: "Stage[Any]" = self._stage_class(self, 0)
         settled: "List[Stage[Any]]" = []
         if call is not None:
@@ -421,22 +414,21 @@ class RequestCore(Calls):
         with self._lock:
             composes = form in COMPOSE_FORMS
             if len(self._rows) + 1 + composes > self._most:
-                raise RequestFull("a request has at most 4,096 stages")
+                self._refuse_stage()
             if composes:
-                self._add(_Row(Form.SOURCE, (), "relay"), ATTACH << 56 | _here.who << 48, settled)
+                self._add(_Row(Form.SOURCE, ()), "relay", ATTACH << 56 | _here.who << 48, settled)
             stage.number = number = len(self._rows)
             sources = (*of, 0, 0)
-            self._add(_Row(form, of, known, stage), ATTACH << 56 | _here.who << 48 | sources[0] << 36 |
+            self._add(_Row(form, of, stage), name, ATTACH << 56 | _here.who << 48 | sources[0] << 36 |
                       len(of) << 32 | form << 24 | sources[1] << 12 | (0 if call is None else number), settled)
             is_ready = call is not None and (not of or any(self._rows[source].kind for source in of))
         self._tell(settled, is_ready)
         return stage
 
-    def _gather(self, form: int, of: "Sequence[Stage[Any]]", name: str) -> "Stage[Any]":
-        """The last of the stages that wait for all of these, or for one of them."""
-        if any(source.request is not self for source in of):
-            raise TypeError("no stage of this request")
-        numbers, many = array("H", [source.number for source in of]), max(len(of) - 1, 1)
+    def _attach_all(self, form: int, of: bytes, name: str) -> "Stage[Any]":
+        """The last of the stages that wait for all stages of these numbers, or for one of them."""
+        numbers = array("H", of)
+        many = max(len(numbers) - 1, 1)
         stage: "Stage[Any]" = self._stage_class(self, 0)
         settled: "List[Stage[Any]]" = []
         with self._lock:
@@ -445,15 +437,16 @@ class RequestCore(Calls):
             code = int(Code.NO_ROOM)
             while code == Code.NO_ROOM:
                 if at + many > self._most:
-                    raise RequestFull("a request has at most 4,096 stages")
+                    self._refuse_stage()
                 code = _gather(machine.at, machine.at + 4 * _GATHERING, (numbers or array("H", [0])).buffer_info()[0],
                                len(numbers), machine.told, ROWS)
                 if code == Code.NO_ROOM:
                     machine.grow()
             check(code)
             stage.number = at + many - 1
-            self._rows += [_Row(form, numbers[:2] if not k else (at + k - 1, numbers[k + 1]), name,
+            self._rows += [_Row(form, numbers[:2] if not k else (at + k - 1, numbers[k + 1]),
                                 stage if k == many - 1 else None) for k in range(many)]
+            self._names += [name] * many
             self._stamp(many)
             self._note(machine.numbers[_GATHERED_TOLD], settled)
         self._tell(settled, True)
@@ -461,17 +454,17 @@ class RequestCore(Calls):
 
     def _change(self, kind: int, who: int, stage: "int | Stage[Any]", given: Any) -> bool:
         """Completes, fails or cancels a stage, and says whether that did it. `given` is the value, the exception, or
-        True where a stage whose function runs isn't to be cancelled. By FAIL_AS it has a bad answer where the
-        exception is a `BadAnswer`, and else times out."""
+        True where a stage whose function runs isn't to be cancelled."""
         number = stage if isinstance(stage, int) else stage.number
         settled: "List[Stage[Any]]" = []
         with self._lock:
             row = self._rows[number]
             if kind == CANCEL and given is True and row.running and row.kind == PENDING:
                 return False
-            error = self._code(given) if kind == FAIL_AS else None
+            error = self._code(given) if kind >= FAIL_AS else None
             low = (self._number(given) if kind == COMPLETE else self._code(given) if kind == FAIL else
-                   int(kind == FAIL_AS and isinstance(given, _classes["bad_answer"])) << 32)
+                   int(kind == FAIL_BADLY) << 32)
+            kind = min(kind, FAIL_AS)
             numbers = self._apply(kind << 56 | (_here.who if who == THIS_THREAD else who) << 48 | number << 36 | low,
                                   settled, error)
             did, is_ready = numbers[_REPLY + ANSWER], bool(numbers[_APPLIED_TOLD])
@@ -508,26 +501,31 @@ class RequestCore(Calls):
 
     def _step(self, who: int) -> Optional[bool]:
         """Runs the lowest ready function. Whether another turn is this thread's; None where none is ready."""
-        begun = self._begin(who)
-        if begun is None:
+        claimed = self._claim(who)
+        if claimed is None:
             return None
-        stage, call, args, kwargs = begun
+        number, call, args, kwargs = claimed
         try:
             given = call(*args, **kwargs)
         except BaseException as error:
             error.__traceback__ = error.__traceback__ and error.__traceback__.tb_next
-            goes_on = self._end(stage, who, THROWS, error)
+            goes_on = self._finish(number, who, THROWS, error)
         else:
-            composes = self._rows[stage.number].form in COMPOSE_FORMS
-            goes_on = self._link(stage, who, given) if composes else self._end(stage, who, GIVES, given)
+            composes = self._rows[number].form in COMPOSE_FORMS
+            goes_on = self._link(self._stage(number), who, given) if composes else self._finish(number, who, GIVES, given)
             del given
         # An error's traceback may keep this frame, which is to keep nothing.
-        del stage, begun, call, args, kwargs
+        del claimed, call, args, kwargs
         return goes_on
 
     def _begin(self, who: int, stage: "Optional[Stage[Any]]" = None) -> Optional[_Begun]:
         """Claims this stage, or the lowest that is ready. The stage, and its function with its arguments; None where
         nobody is to call one."""
+        claimed = self._claim(who, stage)
+        return None if claimed is None else (self._stage(claimed[0]), *claimed[1:])
+
+    def _claim(self, who: int, stage: "Optional[Stage[Any]]" = None) -> Optional[_Claimed]:
+        """The same, with the stage's number. So the future of a planned stage is made once somebody asks for it."""
         with self._lock:
             machine = self._machine
             self._turns -= self._turns > 0
@@ -539,39 +537,45 @@ class RequestCore(Calls):
                     return None
                 check(code)
                 self._stamp(1)
-                stage, at = self._known(machine.numbers[_TASK_STAGE] & 0xFFFF), _TASK_ARGS
+                number, at = machine.numbers[_TASK_STAGE] & 0xFFFF, _TASK_ARGS
             elif self._apply(CLAIM << 56 | who << 48 | stage.number << 36, [])[_REPLY + ANSWER]:
                 return None
             else:
-                at = _REPLY_ARGS
-            self._show_running(self._rows[stage.number])
-            if stage._call is None:
-                return None
-            args, kwargs = stage._given
-            return stage, stage._call, args or self._args(stage, at), kwargs
+                number, at = stage.number, _REPLY_ARGS
+            row = self._rows[number]
+            self._show_running(row)
+            call, (args, kwargs) = ((self._plan_call(number), ((), {})) if row.stage is None else
+                                    (row.stage._call, row.stage._given))
+            return None if call is None else (number, call, args or self._args(number, at), kwargs)
+
+    def _plan_call(self, number: int) -> Optional[Callable[..., Any]]:
+        """The function of a planned stage."""
+        return None if self._plan is None or number >= len(self._plan.rows) else self._plan.rows[number][2]
 
     def _end(self, stage: "Stage[Any]", who: int, kind: int, given: Any) -> bool:
         """Finishes a stage with a value, an exception or a lower stage, and says whether a turn is left to the
         caller."""
+        return self._finish(stage.number, who, kind, given)
+
+    def _finish(self, number: int, who: int, kind: int, given: Any) -> bool:
         settled: "List[Stage[Any]]" = []
         with self._lock:
             low = (self._number(given) if kind == GIVES else THROWS << 32 | self._code(given) if kind == THROWS else
                    LINKS << 32 | given.number)
             if kind == LINKS:
-                self._rows[stage.number].of = (given.number,)  # it takes that one's exception
-            numbers = self._apply(FINISH << 56 | who << 48 | stage.number << 36 | low, settled)
+                self._rows[number].of = (given.number,)  # it takes that one's exception
+            numbers = self._apply(FINISH << 56 | who << 48 | number << 36 | low, settled)
             is_ready = bool(numbers[_APPLIED_TOLD])
-        goes_on = is_ready and self._take_turn()
+            left = self._machine.ready() - self._turns if is_ready and not self._chooses else 0
+            self._turns += left > 0
+        goes_on = is_ready and self._take_turn() if self._chooses else left > 0
         try:
-            self._tell(settled, is_ready)
+            self._tell(settled, is_ready if self._chooses else left > 1)
         except BaseException:
             if goes_on:
                 self._works.put(self)  # type: ignore[arg-type]  # nobody else will
             raise
         return goes_on
-
-    def _link(self, stage: "Stage[Any]", who: int, to: Any) -> bool:
-        raise NotImplementedError
 
     def _stage(self, number: int) -> "Stage[Any]":
         """The future of a stage that may have none yet."""
@@ -584,8 +588,7 @@ class RequestCore(Calls):
         if row.stage is not None:
             return row.stage
         stage = self._stage_class(self, number)
-        if self._plan is not None and number < len(self._plan.rows):
-            stage._call = self._plan.rows[number][2]
+        stage._call = self._plan_call(number)
         if row.kind != PENDING:
             stage._publish(self._machine.outcome(number))
         else:
@@ -605,12 +608,6 @@ class RequestCore(Calls):
                 return None
             self._show_running(row)
             return True
-
-    def _name_of(self, number: int) -> str:
-        return self._rows[number].name
-
-    def _rename(self, number: int, name: str) -> None:
-        self._rows[number].name = name
 
     # Turns.
 
@@ -661,11 +658,11 @@ class RequestCore(Calls):
 
     # What the machine's numbers stand for. The lock is held.
 
-    def _args(self, stage: "Stage[Any]", at: int) -> Tuple[Any, ...]:
+    def _args(self, number: int, at: int) -> Tuple[Any, ...]:
         """What a function is called with, as it is told from a place on."""
         kind, first_some, first, second_some, second, *outcome = self._machine.numbers[at:at + 10]
         if kind == GOT:
-            got, row = Told(*outcome), self._rows[stage.number]
+            got, row = Told(*outcome), self._rows[number]
             error = None if got.kind == VALUE else self._error(got, self._error_of(row, got.kind))
             if row.form in _TOLD_FAULT_ALONE:
                 return (error,)
@@ -679,11 +676,7 @@ class RequestCore(Calls):
         """The exception of an outcome that is a fault, with the number that stands beside it. Where there is none,
         it is made."""
         number = told.code if told.kind == THROWN else error
-        if number is not None:
-            return self._errors[number]
-        made: BaseException = (CancelledError if told.kind == CANCELLED else TimeoutError if told.kind == TIMED_OUT
-                               else _classes["bad_answer"])()
-        return made
+        return self._made(told.kind) if number is None else self._errors[number]
 
     def _number(self, value: Any) -> int:
         """The last bits of a word that gives a value."""

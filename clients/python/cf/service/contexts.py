@@ -1,13 +1,12 @@
 """Requests whose functions have the context variables of the place where they were attached."""
 import contextvars
 import functools
-from types import FunctionType
 from typing import Any, Callable, Dict, Optional, Tuple
 
 from ._core import RequestCore
 from .request import Request
 from .stage import Stage
-from .words import COMPOSE_FORMS, GIVES, THROWS, name_of
+from .words import COMPOSE_FORMS, GIVES, THROWS
 
 
 class Within(functools.partial):  # type: ignore[type-arg]
@@ -30,12 +29,9 @@ class ContextRequest(Request):
 
     def _attach(self, form: int, first: "Optional[Stage[Any]]", second: "Optional[Stage[Any]]",
                 call: Optional[Callable[..., Any]], args: Optional[Tuple[Any, ...]], kwargs: Optional[Dict[str, Any]],
-                name: Optional[str]) -> "Stage[Any]":
-        if call is None:
-            return RequestCore._attach(self, form, first, second, None, args, kwargs, name)
-        known = name if name is not None else call.__qualname__ if type(call) is FunctionType else name_of(call)
-        return RequestCore._attach(self, form, first, second, Within(contextvars.copy_context().run, call), args,
-                                   kwargs, known)
+                name: str) -> "Stage[Any]":
+        within = None if call is None else Within(contextvars.copy_context().run, call)
+        return RequestCore._attach(self, form, first, second, within, args, kwargs, name)
 
     def _within(self, call: Callable[..., Any]) -> Within:
         """A flow's function with its context. One that was attached has that already."""

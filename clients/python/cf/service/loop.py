@@ -1,6 +1,7 @@
 """Functions on an event loop, in place of threads: they may be coroutine functions, and the loop's clock is the
 clock."""
 import asyncio
+import functools
 import inspect
 import itertools
 from types import CoroutineType
@@ -15,7 +16,7 @@ from .service import ROOM
 from .stage import Stage
 from .waits import LoopWakes
 from .watch import Watch, WatchedRequest
-from .words import FIRST_WORKER, THROWS
+from .words import COMPOSE_FORMS, FIRST_WORKER, GIVES, THROWS
 
 T = TypeVar("T")
 
@@ -53,10 +54,13 @@ class LoopService:
         if watch is not None and on_end is not None:
             raise ValueError("a watch and on_end aren't given together")
         ends = None if on_end is None else Ends(on_end, "LoopService_ends")
-        self._works = _LoopWorks(loop, describe, ends, watch)
-        self._kind: Type[ContextRequest] = ContextRequest if on_end is None else EndingRequest
+        self._works: _LoopWorks
+        self._kind: Type[ContextRequest]
         if watch is not None:
-            self._kind = _WatchedRequest
+            self._works, self._kind = _WatchedLoopWorks(loop, describe, watch), _WatchedRequest
+        else:
+            self._works = _LoopWorks(loop, describe, ends)
+            self._kind = ContextRequest if on_end is None else EndingRequest
         self._requests = itertools.count()
 
     def request(self, name: str = "", room: int = ROOM, *, describe: Optional[Describe] = None) -> Request:
@@ -67,7 +71,6 @@ class LoopService:
         """As `Service.start`."""
         return flow._start(self._kind, self._works, name or f"{flow.name} {next(self._requests)}", self,
                            given)._describing(describe)
-
 
     def submit(self, fn: Callable[..., T], /, *args: Any, **kwargs: Any) -> "Stage[T]":
         """As `Service.submit`: has the loop call a function, or run a coroutine, in a request of one stage. Any thread
@@ -84,10 +87,9 @@ class _LoopWorks(LoopWakes):
 
     is_parents = False
 
-    def __init__(self, loop: asyncio.AbstractEventLoop, describe: Describe, ends: Optional[Ends],
-                 watch: Optional[Watch]) -> None:
+    def __init__(self, loop: asyncio.AbstractEventLoop, describe: Describe, ends: Optional[Ends]) -> None:
         super().__init__(loop)
-        self.describe, self.ends, self.watch = describe, ends, watch
+        self.describe, self.ends = describe, ends
         self._tasks: "Set[asyncio.Task[None]]" = set()
 
     @property
@@ -97,20 +99,14 @@ class _LoopWorks(LoopWakes):
     def refusal(self) -> RuntimeError:
         return RuntimeError("Event loop is closed")
 
-    def put(self, turn: Request) -> bool:
-        """To a watch, each turn is a call of the loop's."""
-        return super().put(turn) if self.watch is None else self._soon(self.use, turn)
-
     def use(self, turn: Request) -> None:
-        self._run(turn)
-
-    def _run(self, request: Request, goes_on: bool = True) -> None:
+        goes_on = True
         while goes_on:
-            begun = request._begin(FIRST_WORKER)
+            begun = turn._begin(FIRST_WORKER)
             if begun is None:
                 return
             stage, call, args, kwargs = begun
-            within = call if type(call) is Within else cast(ContextRequest, request)._within(call)
+            within = call if type(call) is Within else cast(ContextRequest, turn)._within(call)
             try:
                 given = within(*args, **kwargs)
             except BaseException as error:
@@ -135,7 +131,12 @@ class _LoopWorks(LoopWakes):
         """Lets a coroutine go on, in a copy of this context. The stage keeps its task."""
         running: "List[asyncio.Task[None]]" = []  # until it ends by itself
         running.append(self._loop.create_task(self._awaited(stage, given, running)))
-        stage.add_done_callback(lambda _: self._soon(self._cancel, running[0]) if running else None)
+        stage.add_done_callback(functools.partial(self._settled, running))
+
+    def _settled(self, running: "List[asyncio.Task[None]]", _stage: object) -> None:
+        """The stage of a coroutine is settled."""
+        if running:
+            self._soon(self._cancel, running[0])
 
     def _cancel(self, task: "asyncio.Task[None]") -> None:
         """Cancels a task that the stage keeps no longer."""
@@ -151,5 +152,19 @@ class _LoopWorks(LoopWakes):
             goes_on = self._raised(stage, error)
         else:
             running.clear()
-            goes_on = ended(stage, FIRST_WORKER, value)
-        self._run(stage.request, goes_on)
+            request = stage.request
+            goes_on = (request._link(stage, FIRST_WORKER, value) if stage._form in COMPOSE_FORMS else
+                       request._end(stage, FIRST_WORKER, GIVES, value))
+        if goes_on:
+            self.use(stage.request)
+
+
+class _WatchedLoopWorks(_LoopWorks):
+    """The same to a request that tells a watch: each turn is a call of the loop's."""
+
+    def __init__(self, loop: asyncio.AbstractEventLoop, describe: Describe, watch: Watch) -> None:
+        super().__init__(loop, describe, None)
+        self.watch = watch
+
+    def put(self, turn: Request) -> bool:
+        return self._soon(self.use, turn)

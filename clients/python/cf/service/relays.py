@@ -11,7 +11,7 @@ from collections import deque
 from typing import TYPE_CHECKING, Any, Callable, Deque, Dict, List, Optional, Tuple
 
 from ._machine import Limit
-from .words import CANCEL, COMPLETE, FAIL, FAIL_AS, FAILURES, RELAY
+from .words import BAD_ANSWER, CANCEL, COMPLETE, FAIL, FAIL_AS, FAIL_BADLY, RELAY, TIMED_OUT, VALUE
 
 if TYPE_CHECKING:
     from .stage import Stage
@@ -21,6 +21,7 @@ else:
     _Ref = weakref.ref
 
 Hold = Callable[[object], None]
+CHANGES = {TIMED_OUT: FAIL_AS, BAD_ANSWER: FAIL_BADLY}  # by which a relay ends as a stage did
 
 
 def link(relay: "Stage[Any]", future: "concurrent.futures.Future[Any]") -> Optional[Hold]:
@@ -153,6 +154,6 @@ def _outcome_of(future: "concurrent.futures.Future[Any]") -> Tuple[int, Any]:
         error = future.exception()
         if error is None:
             return COMPLETE, future.result()
-        return FAIL_AS if getattr(future, "_ended", None) in FAILURES else FAIL, error
+        return CHANGES.get(getattr(future, "_ended", VALUE), FAIL), error
     except BaseException as error:
         return FAIL, error

@@ -8,13 +8,13 @@ follows from a settled stage is decided by the machine alone. The code here is i
 Python objects what the machine tells.
 
 What is kept where
-    - `RequestCore` and `StageCore` are written twice, with the same names and answers: in C (`native/_cf.c`) and in
-      Python over ctypes (`_plain.py`). `_core.py` chooses. A core has the machine; for each word its time; for each
-      stage a row with name, form, future, and what was told of it; and the lists of values and exceptions. A word names
-      a value or an exception by its index in these lists. The future of a stage is in its row until the stage is
-      settled, and has the function with its arguments until then.
-    - What isn't hot stands once, for both cores, in `_machine.py`: plans, relays within a request, time limits,
-      refusals, words.
+    - `RequestCore` and `StageCore` are written twice, with the same names and answers: in C (`native/_cf.c`, with
+      `_module.py` for what isn't hot of it) and in Python over ctypes (`_plain.py`). `_core.py` chooses. A core has the
+      machine; for each word its time; for each stage a row with form, future, and what was told of it; and the lists of
+      names, values and exceptions. A word names a value or an exception by its index in these lists. The future of a
+      stage is in its row until the stage is settled, and has the function with its arguments until then.
+    - What isn't hot stands once, for both cores, in `_machine.py`: plans and machines, names, relays within a
+      request, time limits, refusals, words.
     - `Request` and `Stage` are below the cores, and have what isn't hot either: the methods that users call, and relays
       of futures that stand elsewhere.
     - All that waits and wakes stands in waits.py: threads, a clock, who waits for a stage, what wakes a loop. Of it
@@ -80,7 +80,7 @@ Contexts and ends
     `EndingRequest` (ending.py). Other requests know nothing of either.
 
 Which methods call a user's code
-    `_run` and `_LoopWorks._run` (functions), `_let_go` (callbacks), `Works.begin` (the initializer of threads),
+    `_run` and `_LoopWorks.use` (functions), `_let_go` (callbacks), `Works.begin` (the initializer of threads),
     `history` (`describe`), `Ends._call` (the hook, and `describe` before it), and relays, which add a callback to
     somebody's future and ask for its result.
 """
@@ -94,7 +94,7 @@ from ._core import RequestCore
 from .history import Describe, History
 from .relays import Hold, link
 from .stage import Stage
-from .words import FAIL, LINKS, RELAY, THROWS, RequestFull
+from .words import FAIL, LINKS, RELAY, THROWS, name_of
 
 if TYPE_CHECKING:
     from typing import Protocol
@@ -155,6 +155,7 @@ class Request(RequestCore):
         RequestFull: There would be more than 4,096 stages. Nothing is changed.
         RuntimeError: The stage has a function, and the service is shut down. Nothing is changed."""
 
+    _stage_class = Stage
     __slots__ = ("_describe", "_limits")  # (what histories tell of values, where that isn't what the service chose)
     _describe: Describe
 
@@ -175,7 +176,7 @@ class Request(RequestCore):
             A stage that ends with what the function returns or raises."""
         if self._works.closed:
             raise self._works.refusal()
-        return self._attach(Form.SUPPLY, None, None, fn, args or None, kwargs or None, None)
+        return self._attach(Form.SUPPLY, None, None, fn, args or None, kwargs or None, name_of(fn))
 
     def promise(self, name: str = "promise") -> "Stage[Any]":
         """A stage without a function, which somebody settles: by `complete`, `fail`, `cancel` or a time limit.
@@ -299,12 +300,11 @@ class Request(RequestCore):
                 fn: Callable[..., Any]) -> "Stage[Any]":
         if self._works.closed:
             raise self._works.refusal()
-        if second is None:
-            return self._attach(form, first, None, fn, None, None, None)
-        if isinstance(second, Stage) and second.request is self:
-            return self._attach(form, first, second, fn, None, None, None)
+        name = name_of(fn)
+        if second is None or isinstance(second, Stage) and second.request is self:
+            return self._attach(form, first, second, fn, None, None, name)
         (here,), holds = self._relays_of([second], 0)
-        stage = self._attach(form, first, here, fn, None, None, None)
+        stage = self._attach(form, first, here, fn, None, None, name)
         _let_go_with(stage, holds)
         return stage
 
@@ -338,7 +338,7 @@ class Request(RequestCore):
     def _check_room(self, stages: int) -> None:
         """Raises where so many more wouldn't find room, before any is attached."""
         if self._stages + stages > self._most:
-            raise RequestFull("a request has at most 4,096 stages")
+            self._refuse_stage()
 
     def _limited(self, stage: "Stage[T]", seconds: float, gives: Any, is_value: bool) -> "Stage[T]":
         """Gives a stage a time limit, after endless seconds none."""

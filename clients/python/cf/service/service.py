@@ -12,6 +12,7 @@ from .history import Describe, describe_all
 from .request import Request
 from .stage import Stage
 from .watch import Watch, WatchedRequest, WatchedWorks
+from .words import name_of
 from .works import Works
 from ..values import Form
 
@@ -136,7 +137,7 @@ class Service(concurrent.futures.Executor):
         if works.closed:
             raise works.refusal()
         request = self._kind(works, "", 1)
-        stage: Stage[T] = request._attach(Form.SUPPLY, None, None, fn, args or None, kwargs or None, None)
+        stage: Stage[T] = request._attach(Form.SUPPLY, None, None, fn, args or None, kwargs or None, name_of(fn))
         return stage
 
     def shutdown(self, wait: bool = True, *, cancel_futures: bool = False) -> None:

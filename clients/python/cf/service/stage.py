@@ -5,11 +5,11 @@ import logging
 from concurrent.futures import InvalidStateError
 from typing import TYPE_CHECKING, Any, Callable, Dict, Generator, Generic, Optional, Type, TypeVar
 
-from ..values import BadAnswer, Form
-from ._core import StageCore, use
+from ..values import Form
+from ._core import StageCore
 from .history import escaped
 from .waits import Waited
-from .words import CANCEL, COMPLETE, FAIL, THIS_THREAD, RequestFull, name_of
+from .words import CANCEL, COMPLETE, FAIL, THIS_THREAD
 
 if TYPE_CHECKING:
     from .request import Request
@@ -290,5 +290,3 @@ class Stage(_Future[T]):
     def _log(self, error: BaseException) -> None:
         LOGGER.error("exception calling callback for %r", self, exc_info=error)
 
-
-use(Stage, RequestFull, BadAnswer, name_of)

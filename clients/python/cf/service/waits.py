@@ -414,14 +414,20 @@ class Waited:
 
     def _show(self) -> None:
         """Tells those who wait. It is settled. Where this ends by an interrupt, it is called once more, and goes on."""
-        with self._condition:
-            self._condition.notify_all()  # (they look once the condition is free)
-            note = "add_cancelled" if self.cancelled() else "add_result" if self._exception is None else "add_exception"
-            while self._told < len(self._waiters):
+        condition = self._condition
+        with condition:
+            condition.notify_all()  # (they look once the condition is free)
+            waiters = self._waiters
+            while self._told < len(waiters):
                 self._told += 1
-                getattr(self._waiters[self._told - 1], note)(self)
+                waiter = waiters[self._told - 1]
+                if self.cancelled():
+                    waiter.add_cancelled(self)
+                elif self._exception is None:
+                    waiter.add_result(self)
+                else:
+                    waiter.add_exception(self)
             self._shown = True
-
 
     def _wait_on(self, loop: asyncio.AbstractEventLoop) -> Generator[Any, None, None]:
         """Waits on a loop, which runs, until it is settled. If whoever waits is cancelled, `cancel` is called."""
@@ -466,7 +472,7 @@ class LoopWakes:
     def put(self, turn: "Request") -> bool:
         """Has the loop use a turn, and says whether it will. If this raises, it may all the same."""
         self._turns.append(turn)
-        if self._is_woken and not self.closed:
+        if self._is_woken and not self._loop.is_closed():
             return True
         self._is_woken = True
         try:

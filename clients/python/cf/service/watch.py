@@ -173,8 +173,10 @@ class WatchedRequest(Request):
     """A request that tells a watch what is done to it. A watch that runs the functions chooses among the stages that
     are ready, so each of them is told by itself."""
 
+    _chooses = True
+
     def __init__(self, works: Any, title: str, room: int, keeps: object = None, plan: Any = None) -> None:
-        super().__init__(works, title, room, keeps, plan, WatchedStage)
+        super().__init__(works, title, room, keeps, plan)
         self._moments = array("q")
         self._told_ready: Set[int] = set()
         self._own = 0  # of these the one whose turn is the caller's
@@ -244,7 +246,7 @@ class WatchedRequest(Request):
 
     def _attach(self, form: int, first: "Optional[Stage[Any]]", second: "Optional[Stage[Any]]",
                 call: Optional[Callable[..., Any]], args: Optional[Tuple[Any, ...]], kwargs: Optional[Dict[str, Any]],
-                name: Optional[str]) -> "Stage[Any]":
+                name: str) -> "Stage[Any]":
         stage = super()._attach(form, first, second, call, args, kwargs, name)
         self._date()
         if form in COMPOSE_FORMS:
@@ -384,6 +386,9 @@ class WatchedStage(Stage[T]):
     @_condition.setter
     def _condition(self, condition: Any) -> None:
         super(WatchedStage, type(self))._condition.__set__(self, condition)  # type: ignore[attr-defined]
+
+
+WatchedRequest._stage_class = WatchedStage
 
 
 class _Waiters(List[Any]):

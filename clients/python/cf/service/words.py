@@ -1,5 +1,6 @@
 """The numbers in words of events, replies and outcomes, as cf.h and docs/FORMATS.md have them; and who is which
 caller."""
+from types import FunctionType
 from typing import Any, NamedTuple
 
 from .. import _library
@@ -7,6 +8,7 @@ from ..values import Form
 
 # The kinds of words.
 COMPLETE, FAIL, CANCEL, CLAIM, FINISH, TICK, ATTACH, FAIL_AS = range(1, 9)
+FAIL_BADLY = 9  # as a change, a FAIL_AS with a bad answer; by FAIL_AS itself a stage times out
 # What a finish says.
 GIVES, THROWS, LINKS = range(1, 4)
 # The kinds of stages in the news, of outcomes, and of what a function is called with.
@@ -50,6 +52,8 @@ NOT_YET = Told(PENDING, 0, 0, 0, 0)
 
 def name_of(call: Any) -> str:
     """What histories call a function: its qualified name, that of what a partial calls, or that of its class."""
+    if type(call) is FunctionType:
+        return call.__qualname__
     return str(getattr(getattr(call, "func", call), "__qualname__", type(call).__name__))
 
 

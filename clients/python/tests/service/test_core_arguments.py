@@ -7,11 +7,11 @@ stays right.
 import concurrent.futures
 import copy
 import functools
-import gc
 import pickle
 import sys
 import types
 import unittest
+from array import array
 
 from case import Case, CoreCase, program
 from cf import Refused
@@ -22,6 +22,8 @@ from cf.service.words import COMPLETE
 
 @unittest.skipUnless(IS_MODULE, "in Python an odd call raises what Python does")
 class CoreArguments(CoreCase):
+    ODD = (TypeError, ValueError, IndexError, RuntimeError, OverflowError, AttributeError)
+
     def refused(self, *calls, kinds=(TypeError, ValueError, IndexError, RuntimeError, OverflowError)):
         for number, call in enumerate(calls):
             with self.assertRaises(kinds, msg=f"call {number}"):
@@ -35,18 +37,22 @@ class CoreArguments(CoreCase):
                          lambda: made._change(COMPLETE, 0, 0, 1), lambda: made._run(3),
                          lambda: made._work(3), lambda: made._begin(3, core_stage),
                          lambda: made._end(core_stage, 3, 1, 1), lambda: made._stage(0),
-                         lambda: made._set_running(core_stage), lambda: made._name_of(0), lambda: made._rename(0, "x"),
-                         lambda: made._attach(3, core_stage, None, str, None, None, None))
+                         lambda: made._gather(16, [], "x"), lambda: made._gather(16, [core_stage], "x"),
+                         lambda: made._name_of(0), lambda: made._rename(0, "x"), lambda: made._code(OSError()),
+                         lambda: made._keep(1), lambda: made._attach(3, core_stage, None, str, None, None, "x"))
             self.assertIsNone(made._open())
-            self.assertEqual((made._at, made._times, made._values, made._errors), (0, b"", [], []))
+            self.assertEqual((made._at, made._times, made._hand_on()), (0, b"", None))
             self.refused(lambda: made._takes(0, -1, -1), made._facts, made._ready_ones, kinds=(IndexError, Refused))
 
     def test_an_opening_that_fails(self):
-        opened = _core.RequestCore.__new__(_core.RequestCore)
+        opened = Request.__new__(Request)
         plan = _core.PlanCore.__new__(_core.PlanCore)
         self.refused(lambda: opened.__init__(None, "", 1, None, plan), lambda: opened.__init__(None, "", 1, None, 7),
+                     lambda: opened.__init__(None, "", None), lambda: opened.__init__(),
                      lambda: opened._attach(0, None, None, None, None, None, "x"), lambda: opened._work(3),
-                     lambda: opened._open() or opened._stage(0))
+                     lambda: opened._open() or opened._stage(0), kinds=self.ODD)
+        opened.__init__(None, "", 1)
+        self.assertTrue(opened.promise().complete(1))
 
     def test_opened_and_planned_once(self):
         flow = Flow()
@@ -57,32 +63,30 @@ class CoreArguments(CoreCase):
         self.assertEqual((opened._facts()[:2], opened[end].result(0), flow.run(2)[end].result(0)), (facts, "1", "2"))
         self.assertEqual(flow.run()._stage(1).name, "str")
 
-    def test_a_plan_whose_rows_change_as_they_are_read(self):
-        class Number:
-            def __index__(self):
-                rows.clear()
-                gc.collect()
-                return 0
+    def test_plans_that_are_none(self):
         plan = _core.PlanCore([(0, (), None, "x"), (3, (0,), str, "y")])
-        rows = [(0, (), None, "x"), (Number(), (), None, "x")]
-        self.core(plan, tuple(rows))
-        self.assertEqual(rows, [])
-        self.refused(*[lambda rows=rows: self.core(plan, rows) for rows in (
-            ((0, (), None, "x"), 7), ((0, (), None, "x"), ()), ((3, (0,), str, "x"), (3, (0,), str, "y")),
-            ((0, (), None, "x"), (3, (Number(),), str, "y")), ((0, (), None, "x"), (3, (65536,), str, "y")),
-            ((0, (), None, "x"), (3, (-1,), str, "y")),
-            ((0, (), None, "x"), (0, (), None, 7)), [(0, (), None, "x"), (3, (0,), str, "y")], 7)])
+
+        def pool(numbers, most=plan.most, stages=2):
+            return _cf.pool(plan.at, most, stages, array("H", numbers).tobytes())
+
+        def core(*kept):
+            return Request(None, "", 1, None, types.SimpleNamespace(kept=(*kept, plan)))
+        from cf import _cf
+        right = pool([0, 1, 0, 3, 0])  # where sources end, forms, and sources
+        self.assertEqual(core(right, (None, str), ["x", "y"])._stage(1).name, "y")
+        self.refused(*[lambda numbers=numbers: pool(numbers) for numbers in (
+                         [0, 1, 0, 3, 1], [0, 1, 0, 3, 2], [0, 1, 0, 19, 0], [0, 2, 0, 3, 0], [1, 0, 0, 3, 0],
+                         [0, 1, 0, 3], [0, 1, 0], [])],
+                     lambda: pool([0, 1, 0, 3, 0], 4097), lambda: pool([0, 1, 0, 3, 0], 1), lambda: pool([], -1, 0),
+                     lambda: _cf.pool(0, 9, 0, b""), lambda: _cf.pool(plan.at, 9, 0, 7), lambda: _cf.pool(),
+                     lambda: core(), lambda: core(right, (), ["x", "y"]), lambda: core(7, (None, str), ["x", "y"]),
+                     lambda: core(right, [None, str], ["x", "y"]), lambda: core(right, (None, str), ["x"]),
+                     lambda: core(right, (None, str), 7), lambda: core(right, (None, str), ["x", "y"], 1), kinds=self.ODD)
         self.refused(lambda: _core.PlanCore([7]), lambda: _core.PlanCore([()]), lambda: _core.PlanCore(7),
                      lambda: _core.PlanCore([(99, (), None, "x")]))
         for rows in ([(0, (), None, "x")] * 4097, [(16, (0,) * 16385, None, "x")]):
             with self.assertRaises(RequestFull):
                 _core.PlanCore(rows)
-
-    @staticmethod
-    def core(plan, rows):
-        """A request of a plan with other rows."""
-        return _core.RequestCore(None, "", 1, None, types.SimpleNamespace(at=plan.at, most=plan.most,
-                                                                              rows=rows, kept=None))
 
     def test_numbers_out_of_their_range_reach_no_word(self):
         """An event of another kind, caller or form than is meant would let the ledger and what stands beside it
@@ -96,10 +100,10 @@ class CoreArguments(CoreCase):
                          lambda: core._end(core_stage, 3, bad, None), lambda: core._stage(bad),
                          lambda: _core.be(bad) if bad != 7 else 1 / 0,
                          lambda: core._change(COMPLETE, bad if bad not in (-1, 7) else 99, core_stage, 1),
-                         lambda: core._attach(bad if bad != 7 else 19, core_stage, None, str, None, None, None),
-                         lambda: core._name_of(bad), lambda: core._rename(bad, "x"),
+                         lambda: core._attach(bad if bad != 7 else 19, core_stage, None, str, None, None, "x"),
+                         lambda: core._begin(bad) if bad != 7 else 1 / 0,
                          kinds=(TypeError, ValueError, IndexError, RuntimeError, OverflowError, ZeroDivisionError))
-        for kind in (4, 5, 6, 9):
+        for kind in (4, 5, 6, 10):
             self.refused(lambda: core._change(kind, 0, core_stage, None))
         self.fits(core)
         self.assertEqual((len(core._facts()[2]), core_stage.complete(1), core_stage.then(str).result(9)),
@@ -108,25 +112,29 @@ class CoreArguments(CoreCase):
     def test_arguments_of_other_types(self):
         core, other = self.request, self.service.request().promise()
         core_stage = core.promise()
-        self.refused(lambda: core._attach(1, None, None, str, 5, None, None),
-                     lambda: core._attach(1, None, None, str, None, 5, None),
-                     lambda: core._attach(1, None, None, str, [], {}, None),
-                     lambda: core._attach("3", core_stage, None, str, None, None, None), lambda: core._attach(),
-                     lambda: core._attach(3, other, None, str, None, None, None),
-                     lambda: core._attach(3, 7, None, str, None, None, None), lambda: core._begin(3, other),
+        self.refused(lambda: core._attach(1, None, None, str, 5, None, "x"),
+                     lambda: core._attach(1, None, None, str, None, 5, "x"),
+                     lambda: core._attach(1, None, None, str, [], {}, "x"),
+                     lambda: core._attach(1, None, None, str, None, None, None),
+                     lambda: core._attach_all(16, b"", None),
+                     lambda: core._attach("3", core_stage, None, str, None, None, "x"), lambda: core._attach(),
+                     lambda: core._attach(3, other, None, str, None, None, "x"),
+                     lambda: core._attach(3, 7, None, str, None, None, "x"), lambda: core._begin(3, other),
                      lambda: core._begin(None), lambda: core._end(core_stage, 3, 3, other),
-                     lambda: core._change(COMPLETE, 0, "x", 1), lambda: core._set_running(other),
+                     lambda: core._change(COMPLETE, 0, "x", 1), lambda: core._gather(16, [other], "x"),
+                     lambda: core._attach_all(16, [0], "x"), lambda: core._attach_all(16, b"\1\0", "x"),
+                     lambda: core._attach_all(16, bytes(2 * 4097), "x"), lambda: core._attach_all(3, bytes(4), "x"),
                      lambda: core._work(None), lambda: core._takes(1, 0, -1), lambda: core._takes(0, 1, -1),
                      lambda: core._takes(0, 0, 0), lambda: core._takes(0, 0), lambda: core._takes(0, None, -1),
-                     lambda: _core.RequestCore(), lambda: _core.RequestCore(1, 2, 3, 4, 5, 6),
-                     lambda: _core.RequestCore(None, "", 1, None, None, 7),
-                     lambda: _core.RequestCore(None, "", 1, None, None, int))
+                     lambda: Request(), lambda: Request(1, 2, 3, 4, 5, 6), kinds=self.ODD)
         self.fits(core)
 
-    def test_classes_in_use(self):
-        self.refused(lambda: _core.use(int, RequestFull, ValueError, str), lambda: _core.use(Stage, 7, ValueError, str),
-                     lambda: _core.use(Stage, RequestFull, "x", str), lambda: _core.use(*[object()] * 4),
-                     lambda: _core.use(Stage, RequestFull, ValueError, "x"), lambda: _core.use())
+    def test_classes_of_stages(self):
+        for odd in (int, 7, concurrent.futures.Future, None):
+            self.refused(lambda: type("Own", (Request,), {"_stage_class": odd})(None, "", 1))
+        self.refused(lambda: _core.RequestCore(None, "", 1), kinds=AttributeError)
+        own = type("Own", (Stage,), {})
+        self.assertIs(type(type("Own", (Request,), {"_stage_class": own})(None, "", 1).promise()), own)
         self.assertIs(type(self.request.promise()), Stage)
         full = Flow().run()
         with self.assertRaises(RequestFull):
@@ -141,15 +149,16 @@ class CoreArguments(CoreCase):
             spec.loader.exec_module(module)
             for call in (lambda: module.StageCore(), lambda: object.__new__(module.StageCore),
                          lambda: type("X", (module.StageCore,), {})(),
-                         lambda: module.RequestCore(None, "", 1)._attach(0, None, None, None, None, None, "x"),
+                         lambda: module.RequestCore(None, "", 1),
+                         lambda: module.RequestCore.__new__(module.RequestCore)._attach_all(16, b"", "x"),
                          lambda: setattr(module.StageCore, "done", 1)):
                 try:
                     call()
                     print("done")
-                except (TypeError, RuntimeError):
+                except (TypeError, RuntimeError, AttributeError):
                     print("refused")
-        """ if sys.version_info >= (3, 10) else "print('refused\\n' * 5, end='')", head="import sys\n")
-        self.assertEqual((out, status), ("refused\n" * 5, 0), err)
+        """ if sys.version_info >= (3, 10) else "print('refused\\n' * 6, end='')", head="import sys\n")
+        self.assertEqual((out, status), ("refused\n" * 6, 0), err)
 
     def test_copies_and_classes(self):
         core_stage = self.request.promise()
@@ -185,7 +194,8 @@ class CoreArguments(CoreCase):
 class PublicArguments(Case):
     def test_misuse(self):
         other = self.service.request().promise()
-        for call in (lambda: Stage(), lambda: self.request._attach(3, other, None, str, None, None, None),
+        for call in (lambda: Stage(), lambda: self.request._attach(3, other, None, str, None, None, "x"),
+                     lambda: self.request._gather(16, [other], "x"),
                      lambda: pickle.dumps(self.request)):
             with self.assertRaises(TypeError):
                 call()

@@ -6,6 +6,7 @@ cycles, and memory that stays as it is.
 """
 import asyncio
 import concurrent.futures
+import contextlib
 import functools
 import gc
 import logging
@@ -174,6 +175,15 @@ class Lifetime(CoreCase):
             time.sleep(0.001)  # (the thread that ran it lets go of it a moment later)
         self.assertEqual([it() for it in watched], [None] * len(watched), which)
 
+    def test_an_exception_that_was_raised_keeps_no_stage(self):
+        freed_stage = self.service.request().promise()
+        freed_stage.fail(Oops())
+        watched = weakref.ref(freed_stage)
+        with contextlib.suppress(Oops):
+            freed_stage.result(0)
+        del freed_stage
+        self.assertIsNone(watched())
+
     def test_a_settled_stage_keeps_no_timer(self):
         value = Thing()
         watched, freed_stage = [weakref.ref(value)], self.request.promise().complete_on_timeout(value, 1000)
@@ -289,9 +299,9 @@ class Blocks(CoreCase):
                 call(*given)
         self.flat(lambda: refused(freed._gather, Form.ALL_OF, [source, other], "x"),
                   lambda: refused(full._gather, Form.ALL_OF, [last, last], "x"),
-                  lambda: refused(full._attach, Form.APPLY, last, None, object().__repr__, ([],), {"x": []}, None),
-                  lambda: refused(full._attach, Form.COMPOSE, last, None, object().__repr__, None, None, None),
-                  lambda: refused(freed._attach, Form.APPLY, other, None, inc, None, None, None),
+                  lambda: refused(full._attach, Form.APPLY, last, None, object().__repr__, ([],), {"x": []}, "x"),
+                  lambda: refused(full._attach, Form.COMPOSE, last, None, object().__repr__, None, None, "x"),
+                  lambda: refused(freed._attach, Form.APPLY, other, None, inc, None, None, "inc"),
                   lambda: refused(PlanCore, [(99, (), None, "x")]))
 
     def test_outcomes(self):

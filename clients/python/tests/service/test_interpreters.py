@@ -134,14 +134,16 @@ service.request().promise().or_timeout(1000)
         """The types and what they hold go with the interpreter, as the module does with its last object."""
         out, err, status = program("""
             import importlib.util
+            plan = _core.PlanCore([])
             spec = importlib.util.find_spec("cf._cf")
             def made():
                 module = importlib.util.module_from_spec(spec)
                 spec.loader.exec_module(module)
                 class Own(module.StageCore):
                     pass
-                module.use(Own, ValueError, KeyError, str)
-                request = module.RequestCore(None, "", 1)
+                class Owns(module.RequestCore):
+                    _stage_class, _chooses, kept = Own, False, (module.pool(plan.at, plan.most, 0, b""), (), [], plan)
+                request = Owns(None, "", 1)
                 stage = request._attach(0, None, None, None, None, None, "x")
                 assert type(stage) is Own
                 return weakref.ref(Own), weakref.ref(module.RequestCore), request

@@ -29,11 +29,11 @@ class RefusedMemory(unittest.TestCase):
             def trial(n):
                 r, planned = Request(works, "r", 1), Request(works, "p", 0, None, flow._plan)
                 first = r._attach(0, None, None, None, None, None, "first")
-                seen = r._attach(3, first, None, abs, None, None, None)
+                seen = r._attach(3, first, None, abs, None, None, "abs")
                 error, row, rows = OSError(), (0, (), None, "x"), [(0, (), None, "x"), (3, (0,), abs, "y")]
                 calls = [lambda: r._attach(0, None, None, None, None, None, "x"),
-                         lambda: r._attach(3, first, None, abs, None, None, None),
-                         lambda: r._attach(12, first, None, abs, None, None, None),
+                         lambda: r._attach(3, first, None, abs, None, None, "abs"),
+                         lambda: r._attach(12, first, None, abs, None, None, "abs"),
                          lambda: r._attach(16, first, first, None, None, None, "x"),
                          lambda: planned._change(1, -1, 0, -5), lambda: planned._stage(1), lambda: planned._work(3),
                          lambda: planned._stage(1).result(0), lambda: first.add_done_callback(id),

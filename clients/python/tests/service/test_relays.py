@@ -16,7 +16,7 @@ import weakref
 from case import CoreCase, Wild
 import cf
 from cf.service import RequestFull, Service, Stage
-from cf.service.words import CLIENT, FAIL_AS
+from cf.service.words import CLIENT, FAIL_AS, FAIL_BADLY
 
 
 class Relays(CoreCase):
@@ -157,12 +157,12 @@ class Relays(CoreCase):
     def test_a_relay_ends_as_what_it_stands_for(self):
         """As timed out, or with a bad answer. Where somebody failed it with an exception of such a class, the relay
         fails with that."""
-        for error, says, cause in ((TimeoutError("x"), "relay times out 0 relay of p of a\n", "timeout"),
-                                   (cf.BadAnswer("x"), "relay fails 0 relay of p of a with a bad answer\n",
-                                    "badanswer")):
+        for kind, error, says, cause in (
+                (FAIL_AS, TimeoutError("x"), "relay times out 0 relay of p of a\n", "timeout"),
+                (FAIL_BADLY, cf.BadAnswer("x"), "relay fails 0 relay of p of a with a bad answer\n", "badanswer")):
             adopted_stage, b = self.service.request("a").promise("p"), self.service.request("b")
             relays = [b.adopt(adopted_stage)]
-            self.assertTrue(adopted_stage.request._change(FAIL_AS, CLIENT, adopted_stage, error))
+            self.assertTrue(adopted_stage.request._change(kind, CLIENT, adopted_stage, error))
             relays.append(b.adopt(adopted_stage))
             self.assertTrue(all(relay.exception(0) is error for relay in relays))
             history = b.history()

@@ -17,7 +17,7 @@ import unittest.mock
 from case import Case, fails, inc, leaves, no_thread, starting, until
 import cf
 from cf.service import _machine, Flow
-from cf.service.words import CLIENT, CLOCK, FAIL_AS
+from cf.service.words import CLIENT, CLOCK, FAIL_AS, FAIL_BADLY
 
 
 class Limits(Case):
@@ -268,7 +268,7 @@ class Causes(Case):
     def test_a_bad_answer_is_told_as_one(self):
         timed, bad = self.service.request("r"), cf.BadAnswer("x")
         late_stage = timed.promise("p")
-        self.assertTrue(timed._change(FAIL_AS, CLIENT, late_stage, bad))
+        self.assertTrue(timed._change(FAIL_BADLY, CLIENT, late_stage, bad))
         self.assertIs(late_stage.then(inc).exception(20), bad)
         late_history = timed.history()
         for part in ("caller fails 0 p with a bad answer\n", "0 p ends: a bad answer\n"):
