@@ -1,6 +1,8 @@
 """Accounts of requests that threads raced, and how what callers were told is judged. Each request is a row of three texts: its account, its
 script, and the report of what its callers were told."""
 import concurrent.futures
+import ctypes
+import os
 import subprocess
 
 import program
@@ -26,6 +28,21 @@ def by_program(cf, script):
     """The status of `cf run`, and what it prints."""
     ran = subprocess.run([cf, "run"], input=script, stdout=subprocess.PIPE, universal_newlines=True)
     return ran.returncode, ran.stdout
+
+
+def by_library(path):
+    """What does a script again by cf_run_script of that libcf.so, which `cf run` calls: it gives the status, and what `cf run` prints."""
+    library = ctypes.CDLL(os.path.abspath(path))
+
+    def run(script):
+        text, room, length = script.encode(), 1 << 16, ctypes.c_size_t()
+        while True:
+            report = ctypes.create_string_buffer(room)
+            status = library.cf_run_script(text, ctypes.c_size_t(len(text)), report, ctypes.c_size_t(room), ctypes.byref(length))
+            if length.value <= room:
+                return status, report.raw[:length.value].decode()
+            room = length.value
+    return run
 
 
 def judge(rows, cf, cf_look, by_library=None):

@@ -3,7 +3,7 @@ import functools
 import json
 
 import model
-from cf.service.words import FORMS
+from cf.service.words import FORMS, name_of
 from cf.testing import orders
 
 NIL = ["runAsync", "accept", "thenRun", "acceptBoth", "runBoth", "acceptEither", "runEither"]
@@ -80,7 +80,7 @@ class Asked:
             self.stages.append(self.request.all_of(*of) if form == "allOf" else self.request.first_of(*of))
             return
         first, second = (*of, None, None)[:2]
-        self.stages.append(self.request._attach(FORMS.index(form), first, second, call, None, None, None if fn is not None else form))
+        self.stages.append(self.request._attach(FORMS.index(form), first, second, call, None, None, form if fn is None else name_of(call)))
 
     def calls(self, c, said):
         """A step as calls. A join is as many looks as it may take, or where orders are counted as many as it takes."""
