@@ -95,11 +95,19 @@ final class Machine {
                 return memory != null && this.pool == pool.self;
             }
 
+            /** Hands over its memory. Where a thread is stopped in between, neither one has it, rather than both. */
+            private long given() {
+                long given = at;
+                at = 0;
+                return given;
+            }
+
             @Override
             public void run() {
-                if (at != 0) {
+                long given = given();
+                if (given != 0) {
                     LIVE.getAndDecrement();
-                    destroy(at);
+                    destroy(given);
                 }
             }
         }
@@ -119,8 +127,8 @@ final class Machine {
             weigh();
             Outside outside = new Outside(lost.pool);
             freed = new Freed(this, outside);
-            at = outside.at = lost.at; // Nothing fails from here on.
             memory = outside.memory = lost.memory;
+            at = outside.at = lost.given();
         }
 
         /** One of this plan that nobody can reach, or a new one. Some of what else can't be reached is freed meanwhile. */
@@ -283,9 +291,10 @@ final class Machine {
                 try {
                     again.run();
                 } catch (Throwable refused) {
-                    core.freed.now();
+                    Core half = core;
                     core = null;
                     kept = words;
+                    half.freed.now();
                     throw refused;
                 }
                 again = null;
