@@ -648,6 +648,7 @@ impl Inner {
             None => {
                 // All that was ready by now was looked at.
                 self.is_more = false;
+                self.ledger.rest_if_over();
                 return None;
             }
         };
@@ -829,6 +830,7 @@ impl Inner {
             if may_hire || !self.helpers.is_empty() {
                 self.hire_one(is_more, may_hire, after);
             }
+            self.ledger.rest_if_over();
         }
     }
 
@@ -935,6 +937,22 @@ impl Hands {
 mod tests {
     use super::*;
     use crate::{Inline, Request};
+
+    /// Also where a worker settles the last stage, and not a call.
+    #[test]
+    fn large_requests_that_are_over_rest() {
+        let (by_calls, by_workers) = (Request::new("calls", Inline), Request::new("workers", Inline));
+        let promises: Vec<_> = (0..=SLOTS).map(|_| by_calls.promise::<i32>()).collect();
+        promises.iter().for_each(|promise| promise.complete(1).unwrap());
+        let source = by_workers.promise::<i32>();
+        (0..SLOTS + 9).for_each(|_| drop(source.clone().then(|value| *value)));
+        source.complete(1).unwrap();
+        for over in [by_calls, by_workers] {
+            assert!(over.0.lock().ledger.rests(), "{}", over.name());
+            drop(over.promise::<i32>());
+            assert!(!over.0.lock().ledger.rests(), "{}", over.name());
+        }
+    }
 
     /// A few small ones, which are empty.
     #[test]

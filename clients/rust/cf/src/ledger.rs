@@ -18,13 +18,19 @@ pub(crate) const MOST_STAGES: u16 = 4096;
 const LANE: u8 = 0;
 
 pub(crate) struct Ledger {
-    /// There until this is dropped.
+    /// Not there where it rests.
     machine: Option<Request>,
     /// What its last call settled.
     pub(crate) told: Told,
     /// For how many stages there was room at first.
     room: u16,
     pub(crate) stages: u16,
+    /// How many of them were shown as settled.
+    settled: u16,
+    /// The words of a request whose stages are all settled, of which there are at least so many: most likely nothing is done to it any more, so it
+    /// has no machine, which takes three times as much. If something is done to it nevertheless, a new machine does all words again.
+    words: Vec<u64>,
+    rests_from: u16,
     /// Which stage each relay of this request follows.
     pub(crate) relays: Vec<(u16, u16)>,
     pub(crate) record: Record,
@@ -98,13 +104,63 @@ impl Ledger {
     pub(crate) fn new(room: u16) -> Result<Ledger, Refusal> {
         let room = room.clamp(1, MOST_STAGES);
         let Spare { machine, room, told, moments } = kept(room).map_or_else(|| opened(room), Ok).map_err(|_| Refusal::NoLedger)?;
-        Ok(Ledger { machine: Some(machine), told, room, stages: 0, relays: Vec::new(), record: Record::over(moments), passed: 0 })
+        Ok(Ledger {
+            machine: Some(machine),
+            told,
+            room,
+            stages: 0,
+            settled: 0,
+            words: Vec::new(),
+            rests_from: SLOTS + 1,
+            relays: Vec::new(),
+            record: Record::over(moments),
+            passed: 0,
+        })
     }
 
     /// The machine, and where it tells what it settles.
-    #[inline]
+    #[inline(always)]
     fn machine(&mut self) -> (&mut Request, &mut Told) {
-        (self.machine.as_mut().expect("it is there until this is dropped"), &mut self.told)
+        if self.machine.is_none() {
+            self.resume().expect("memory for a machine");
+        }
+        (self.machine.as_mut().expect("it was resumed"), &mut self.told)
+    }
+
+    /// The same, or nothing where it rests: then no stage is ready, and none is due.
+    #[inline]
+    fn awake(&mut self) -> Option<&mut Request> {
+        self.machine.as_mut()
+    }
+
+    /// Keeps the words alone, unless there is no memory for them.
+    #[cold]
+    #[inline(never)]
+    fn rest(&mut self) {
+        if let Some(Ok(words)) = self.machine.as_mut().map(Request::words) {
+            self.words = words;
+            self.machine = None;
+        }
+    }
+
+    #[cfg(test)]
+    pub(crate) fn rests(&self) -> bool {
+        self.machine.is_none()
+    }
+
+    /// Has a machine again. It rests the next time once there are twice as many stages, so that words are done again but a few times.
+    #[cold]
+    #[inline(never)]
+    fn resume(&mut self) -> Result<(), Refused> {
+        let twice = MOST_STAGES.min(2 * self.stages);
+        let mut machine = opened(twice)?.machine;
+        for word in &self.words {
+            machine.apply(*word, LANE, &mut self.told)?;
+        }
+        self.words = Vec::new();
+        self.machine = Some(machine);
+        self.rests_from = twice;
+        Ok(())
     }
 
     /// Does the event of a word, and writes down what it was answered.
@@ -159,13 +215,15 @@ impl Ledger {
     pub(crate) fn pass(&mut self, moment: u64) {
         let passed = self.passed.max(moment);
         self.passed = passed;
-        let (machine, told) = self.machine();
-        machine.pass(passed, told).expect("memory for what is due");
+        match &mut self.machine {
+            Some(machine) => machine.pass(passed, &mut self.told).expect("memory for what is due"),
+            None => self.told = Told::default(),
+        }
     }
 
     /// The moment of the deadline that comes next.
     pub(crate) fn next_deadline(&mut self) -> Option<u64> {
-        self.machine().0.next_deadline().expect("the machine is there").map(|next| next.moment)
+        self.awake()?.next_deadline().expect("the machine is there").map(|next| next.moment)
     }
 
     /// Writes down an event by which a call settled a stage, beside the one that it was asked for.
@@ -176,22 +234,31 @@ impl Ledger {
     /// How many stages are ready.
     #[inline]
     pub(crate) fn ready(&mut self) -> usize {
-        usize::from(self.machine().0.ready(LANE).expect("the lane is there"))
+        self.awake().map_or(0, |machine| usize::from(machine.ready(LANE).expect("the lane is there")))
     }
 
     /// The lowest stage from a number on that is ready.
     pub(crate) fn lowest_ready(&mut self, from: u16) -> Option<u16> {
-        self.machine().0.lowest_ready(from).expect("the machine is there")
+        self.awake()?.lowest_ready(from).expect("the machine is there")
     }
 
     pub(crate) fn is_ready(&mut self, stage: u16) -> bool {
-        self.machine().0.stage(stage).expect("the stage is there").state == State::Ready
+        self.awake().map_or(false, |machine| machine.stage(stage).expect("the stage is there").state == State::Ready)
     }
 
     /// Writes down that a stage was settled by the last event.
     #[inline]
     pub(crate) fn shown(&mut self, stage: u16, outcome: Outcome) {
         self.record.told(stage, outcome);
+        self.settled += 1;
+    }
+
+    /// Keeps the words alone of a large request whose stages are all settled.
+    #[inline]
+    pub(crate) fn rest_if_over(&mut self) {
+        if self.settled == self.stages && self.stages >= self.rests_from {
+            self.rest();
+        }
     }
 
     /// Attaches a stage, whose function has the stage's own number, and gives the number.
@@ -202,6 +269,9 @@ impl Ledger {
             return Err(Refusal::Full);
         }
         let word = word::attach(who, form, of, if has_function { number } else { 0 });
+        if self.machine.is_none() {
+            self.resume().map_err(|_| Refusal::NoLedger)?;
+        }
         let (machine, told) = self.machine();
         let mut applied = machine.apply(word, LANE, told);
         if applied == Err(Refused::NO_ROOM) {
@@ -218,6 +288,9 @@ impl Ledger {
     pub(crate) fn gather(&mut self, who: u8, form: cf_graph::Form, of: &[u16]) -> Result<u16, Refusal> {
         if of.len() > usize::from(self.left()) + 1 || self.left() == 0 {
             return Err(Refusal::Full);
+        }
+        if self.machine.is_none() {
+            self.resume().map_err(|_| Refusal::NoLedger)?;
         }
         let (machine, told) = self.machine();
         let root = loop {
@@ -256,7 +329,10 @@ impl Ledger {
     }
 
     pub(crate) fn words(&mut self) -> Vec<u64> {
-        self.machine().0.words().expect("the words are there")
+        match &mut self.machine {
+            Some(machine) => machine.words().expect("the words are there"),
+            None => self.words.clone(),
+        }
     }
 }
 
@@ -343,6 +419,64 @@ mod tests {
         assert_eq!(count(), MOST_KEPT);
     }
 
+    /// Shows what the last call settled.
+    fn show(ledger: &mut Ledger) {
+        for at in 0..ledger.told.len() {
+            let (stage, outcome) = ledger.told.at(at);
+            ledger.shown(stage, outcome);
+        }
+        ledger.rest_if_over();
+    }
+
+    fn settle(ledger: &mut Ledger, stage: u16) -> Reply {
+        let reply = ledger.act(word::of(COMPLETE, 0, stage, 0));
+        show(ledger);
+        reply
+    }
+
+    /// It keeps its words alone, until something is done to it, and again once it is twice as large.
+    #[test]
+    fn large_request_that_is_over_rests() {
+        let mut ledger = Ledger::new(1).unwrap();
+        for stage in 0..SLOTS {
+            promise(&mut ledger).unwrap();
+            settle(&mut ledger, stage);
+        }
+        assert!(ledger.machine.is_some());
+        let late = promise(&mut ledger).unwrap();
+        assert!(ledger.machine.is_some());
+        settle(&mut ledger, late);
+        assert!(ledger.machine.is_none());
+
+        // It is asked, and goes on resting.
+        ledger.pass(5);
+        assert_eq!(
+            (ledger.told.len(), ledger.ready(), ledger.lowest_ready(0), ledger.is_ready(late), ledger.next_deadline()),
+            (0, 0, None, false, None)
+        );
+        let events = 2 * usize::from(SLOTS + 1);
+        assert_eq!((ledger.words().len(), ledger.hangs().len()), (events, usize::from(SLOTS + 1)));
+        assert!(ledger.machine.is_none());
+
+        // Something is done to it.
+        assert_eq!(settle(&mut ledger, late), Reply::Flag(false));
+        assert!(ledger.machine.is_some());
+        assert_eq!(ledger.words().len(), events + 1);
+        for stage in SLOTS + 1..2 * (SLOTS + 1) {
+            assert!(ledger.machine.is_some(), "{stage}");
+            assert_eq!((promise(&mut ledger), settle(&mut ledger, stage)), (Ok(stage), Reply::Flag(true)));
+        }
+        assert!(ledger.machine.is_none());
+        assert!(comes_again(&ledger.words(), &ledger.record, ledger.stages).unwrap());
+
+        // A stage that it attaches, and one that gathers, go on, too.
+        let root = ledger.gather(0, cf_graph::Form::AllOf, &[0, late]).unwrap();
+        ledger.gathered(root);
+        show(&mut ledger);
+        assert_eq!((root, ledger.settled, ledger.machine.is_some()), (2 * (SLOTS + 1), ledger.stages, true));
+        assert!(comes_again(&ledger.words(), &ledger.record, ledger.stages).unwrap());
+    }
+
     /// What another ledger would tell of the same words, or this one of others.
     #[test]
     fn what_differs_does_not_come_again() {
@@ -352,10 +486,7 @@ mod tests {
         }
         for word in [word::of(COMPLETE, 0, 0, SOME), word::of(COMPLETE, 0, 0, SOME | 1), word::of(CANCEL, 0, 1, 0)] {
             ledger.act(word);
-            for at in 0..ledger.told.len() {
-                let (stage, outcome) = ledger.told.at(at);
-                ledger.shown(stage, outcome);
-            }
+            show(&mut ledger);
         }
         let (words, replies) = (ledger.words(), done_again(&ledger.words(), 2).unwrap());
         assert!(words.len() == 5 && comes_again(&words, &ledger.record, 2).unwrap());

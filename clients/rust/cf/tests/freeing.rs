@@ -1,7 +1,8 @@
 //! What is freed, and when: functions, values and futures of stages that are over, requests that wait for themselves, relays that nobody
 //! needs.
-use cf::{Error, Inline, Refusal, Request, Stage};
+use cf::{Error, HandClock, Inline, Refusal, Request, Stage};
 use std::sync::Arc;
+use std::time::Duration;
 
 #[test]
 fn dropped_functions_and_values_are_freed() {
@@ -40,6 +41,32 @@ fn a_future_that_nobody_can_wake_goes_with_its_request() {
     assert_eq!(Arc::strong_count(&alive), 2);
     drop((stage, freed));
     assert_eq!(Arc::strong_count(&alive), 1);
+}
+
+/// All that a request does, it does also once all its stages were settled, when a large one has its words alone.
+#[test]
+fn a_large_request_goes_on_once_it_was_over() {
+    let (clock, pause) = (Arc::new(HandClock::new()), Duration::from_millis(20));
+    let large = Request::with_clock("large", Arc::new(Inline), clock.clone());
+    let (source, limited) = (large.promise::<i32>(), large.promise::<i32>().or_timeout(pause));
+    let last = (0..100).fold(source.clone(), |stage, _| stage.then(|value| *value + 1));
+    assert!(limited.cancel() && source.complete(1).is_ok());
+    assert_eq!(last.wait().unwrap(), 101);
+    clock.turn(2 * pause);
+    let is_true = |events| {
+        let history = large.history();
+        assert_eq!((history.words().len(), history.comes_again()), (events, true));
+        assert_eq!(cf_graph::run_script(history.script().as_bytes()), Ok(history.report()));
+    };
+    is_true(102 + 2 + 200);
+
+    assert!(!last.cancel() && source.complete(2).is_err());
+    let again = large.promise::<i32>().or_timeout(pause);
+    let (behind, other) = (last.then(|value| *value + 1), again.clone().recover(|error| if error.is_timeout() { 7 } else { 8 }));
+    assert_eq!((behind.wait().unwrap(), other.is_settled()), (102, false));
+    clock.turn(pause);
+    assert_eq!(other.wait().unwrap(), 7);
+    is_true(102 + 2 + 200 + 2 + 3 + 5);
 }
 
 /// What nobody can settle any more goes with the last handle of its request, also where a stage of the same request waits for it.
