@@ -111,6 +111,9 @@ pub extern "C" fn cf_request_next(
 ) -> u32
     ensures { HandleWrites GoesOnIn h.old h.new result (step.old, task.old, told.old) (step.new, task.new, told.new) }
 {
+    if task.held != 0 {
+        return next_apart(alloc, h, step, task, told);
+    }
     if let Some(mut held) = h.take(alloc) {
         if doing::rests(&held, step, task) {
             let done = doing::rest(&mut held, step, task, told);

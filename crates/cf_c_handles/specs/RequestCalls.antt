@@ -1,5 +1,5 @@
 -- What a request behind a handle is asked.
-use Rattle.std.specs.Prelude.{◌≡◌, ◌⊎◌, ℕ, ◌<◌, ◌≤◌, Result, Ok, Err, List, [], length}
+use Rattle.std.specs.Prelude.{◌≡◌, ◌⊎◌, ℕ, ◌<◌, ◌≤◌, Bool, Result, Ok, Err, List, [], is_some, length}
 use Rattle.cf_model.specs.declared.events.Reply.{Reply}
 use Rattle.cf_request.specs.Deadlines.{Forgets, IsNextOpen, NoneOpen}
 use Rattle.cf_request.specs.Growing.{Grows, IsNoGrowth}
@@ -118,6 +118,13 @@ AppliesIn word lane (Request m) had r new has = IfLane lane m r new (has ≡ had
 AppliesIn word lane held had r new has = (r ≡ Err WrongKind) × (new ≡ held) × (has ≡ had)
 
 -- ---- a caller's step
+
+-- what the task held is finished, the next stage of a lane is claimed if there is one, and the task has both
+pub record Advances (who lane : ℕ) (old : Machine) (had : CfTask) (claimed : Bool) (new : Machine) (has : CfTask) : Type 0 where
+  pub next : Next
+  pub goes_on : GoesOn who lane (held_by had) old next new
+  pub told : claimed ≡ is_some next.taken
+  pub task : has ≡ task_with (record had { finished = late_number next.finish }) next.taken
 
 -- what was held is finished, the next stage of the lane is claimed, and C has both and what is told
 pub record HasGoneOn (old : Machine) (r : Result (Unit {0}) Code) (new : Object) (had has : CfRequestStep × CfTask × List CfTold) : Type 0 where

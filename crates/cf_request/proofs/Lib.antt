@@ -2,6 +2,7 @@ pub mod Lists
 pub mod Telling
 pub mod Words
 pub mod Sets
+pub mod Claims
 pub mod Turns
 pub mod Behind
 pub mod Moments

@@ -202,6 +202,13 @@ fit_news old new news r h fit = record {
   apart = λ i lane there differs. fit i lane there ∙ ap (λ (t : Bool). is_ready (stage_in old i) && t) (ne_eqb (lane_of r.of i) lane differs) ∙ and_not (is_ready (stage_in old i));
 }
 
+-- where the others are as they were, one alone is left
+pub fit_others : (old new : List Stage) (i : ℕ) (r : ReadySets) → ((j : ℕ) → j ≢ i → stage_in new j ≡ stage_in old j) → ((j : ℕ) → IsFit old r j) → AreFitBut (λ j. j ≡ i) new r
+fit_others old new i r same fit = record {
+  rest = λ j not lane there. fit j lane there ∙ ap (λ (x : Stage). is_ready x && (lane_of r.of j == lane)) (sym (same j not));
+  apart = λ j lane there differs. fit j lane there ∙ ap (λ (t : Bool). is_ready (stage_in old j) && t) (ne_eqb (lane_of r.of j) lane differs) ∙ and_not (is_ready (stage_in old j));
+}
+
 -- a stage that isn't there is in no set, whatever its lane
 fit_pushed : (stages : List Stage) (r : ReadySets) (lane : ℕ) → length r.of ≡ length stages → ((i : ℕ) → IsFit stages r i) → (i : ℕ) → IsFit stages (record r { of = r.of ++ lane ∷ [] }) i
 fit_pushed stages r lane size fit i = λ l there. elim (cases_lt i (length stages)) [
@@ -213,6 +220,9 @@ fit_pushed stages r lane size fit i = λ l there. elim (cases_lt i (length stage
 fit_reached : (b : Bool) (stages : List Stage) (r : ReadySets) (lane : ℕ) → length r.of ≡ length stages → ((i : ℕ) → IsFit stages r i) → (i : ℕ) → IsFit stages (record r { of = cond b (r.of ++ lane ∷ []) r.of }) i
 fit_reached true stages r lane size fit i = fit_pushed stages r lane size fit i
 fit_reached false stages r lane size fit i = fit i
+
+pub fit_reached_all : (s : State) (stages lane : ℕ) (r : ReadySets) → FitState s r → length s.stages ≡ length s.plan.stages → (i : ℕ) → IsFit s.stages (record r { of = lanes_of stages lane r.of }) i
+fit_reached_all s stages lane r h size = let all = h.all in fit_reached (nat_lt (length r.of) stages) s.stages r lane (omega (arith, all, size)) h.fit
 
 -- so many lanes there are then
 lanes_count_by : (b : Bool) (stages lane : ℕ) (lanes : List ℕ) → nat_lt (length lanes) stages ≡ b → length lanes ≤ stages → stages ≤ length lanes + 1 → length (cond b (lanes ++ lane ∷ []) lanes) ≡ stages
@@ -233,11 +243,10 @@ lanes_reached old new word stages lane reply r does is h =
 pub left_by : (old new : Ledger) (word place stages lane : ℕ) (reply : Reply) (news : List ℕ) (r : ReadySets) → (does : Does word old reply new) → place ≡ length new.events - 1 → AreNews (state_at new place).stages (state_at new (place + 1)).stages news →
     length (state_of old).stages ≡ length (state_of old).plan.stages → FitState (state_of old) r → AreFitBut (Contains news) (state_of new).stages (record r { of = lanes_of stages lane r.of })
 left_by old new word place stages lane reply news r does is are size h =
-    let all = h.all in
     let r' : ReadySets = record r { of = lanes_of stages lane r.of } in
     subst (λ (s : State). AreFitBut (Contains news) s.stages r') (sym (next_is old new word reply does))
     (fit_news (state_of old).stages ((answered (state_of old) does.event).1.stages) news r' (last_news old new word place reply news does is are)
-    (fit_reached (nat_lt (length r.of) stages) (state_of old).stages r lane (omega (arith, all, size)) h.fit))
+    (fit_reached_all (state_of old) stages lane r h size))
 
 -- and once all is written
 pub fit_state : (old new : Ledger) (word stages lane : ℕ) (reply : Reply) (r r' : ReadySets) → Does word old reply new → stages ≡ length (state_of new).plan.stages → FitState (state_of old) r → r' ≡ (record r { of = lanes_of stages lane r.of; sets = r'.sets }) →

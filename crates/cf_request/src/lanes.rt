@@ -84,16 +84,15 @@ pub(crate) fn finish(teller: &mut Teller, who: u8, held: Held) -> Finish
 {
     // No stage's number is above 4,095.
     let _known = teller.stages();
-    let event = Event::Finish {
+    let word = encode(&Event::Finish {
         who,
         stage: held.stage,
         answer: held.answer,
-    };
-    let word = encode(&event);
-    match teller.apply_event(&event) {
-        Reply::Finish(Finished::Won) => Finish { late: false, word },
-        Reply::Finish(Finished::Late) => Finish { late: true, word },
-        _ => unreachable!(),
+    });
+    match teller.finish(who, held.stage, held.answer, word) {
+        Finished::Won => Finish { late: false, word },
+        Finished::Late => Finish { late: true, word },
+        Finished::NotYours => unreachable!(),
     }
 }
 
@@ -126,10 +125,9 @@ fn claim(teller: &mut Teller, who: u8, stage: u16) -> Taken
     // No stage's number is above 4,095.
     let _known = teller.stages();
     let function = teller.ledger().function(stage);
-    let event = Event::Claim { who, stage };
-    let word = encode(&event);
-    match teller.apply_event(&event) {
-        Reply::Claim(Claimed::Granted(args)) => Taken {
+    let word = encode(&Event::Claim { who, stage });
+    match teller.claim(who, stage, word) {
+        Claimed::Granted(args) => Taken {
             stage,
             function,
             args,

@@ -292,6 +292,22 @@ impl Machine {
         self.go_on(who, lane, held)
     }
 
+    /// What `next` tells where nothing is held and no stage of the lane is ready: then it does nothing.
+    #[inline(always)]
+    pub fn rest(&self, who: u8, lane: u8) -> Next
+        requires lane { lane < self.now.teller.lanes.count }
+        requires caller { who ≤ 63 }
+        requires idle { IsIdle lane None self.now.teller }
+        ensures { GoesOn who lane None self.now result self.now }
+    {
+        // No relay is open whose stage is settled.
+        let _known = self.teller.lanes();
+        Next {
+            finish: None,
+            taken: None,
+        }
+    }
+
     /// The same where something is held, or a stage of the lane is ready.
     #[inline(always)]
     fn go_on(&mut self, who: u8, lane: u8, held: Option<Held>) -> Result<Next, StepFault>

@@ -5,7 +5,8 @@ ghost use Rattle.cf_forms.specs.Plans.{has_place, with_room};
 ghost use Rattle.cf_model.specs.Calls.{is_attach};
 ghost use Rattle.cf_model.specs.States.{is_ready, outcome_at, outcome_of, start};
 ghost use Rattle.cf_model.specs.Ranges.{EventFits};
-ghost use Rattle.cf_event.specs.Words.{IsEvent};
+ghost use Rattle.cf_event.specs.Decoding.{event_of};
+ghost use Rattle.cf_event.specs.Words.{IsEvent, word_of};
 ghost use Rattle.cf_ledger.specs.Ledgers.{AreTaken, IsShort, LedgerRefuses, roomier, state_of, with_more};
 ghost use Rattle.cf_request.specs.Lanes.{IsLowestIn, NoneReadyIn, ready_below};
 ghost use Rattle.cf_request.specs.Ready.{AreFitBut, FitState, HasLanes, IsFit, IsLaneCount, none_ready, with_lane};
@@ -13,7 +14,9 @@ ghost use Rattle.cf_request.specs.Telling.{AreFresh, AreSettled, AreSettledBelow
 
 use crate::ready::ReadySets;
 use cf_event::encode;
+use cf_forms::Answer;
 use cf_ledger::{Event, Ledger, LedgerFault, Reply, Stage};
+use cf_model::{Claimed, Finished};
 use cf_outcome::Outcome;
 use cf_plan::Plan;
 use std::alloc::{AllocError, Global};
@@ -139,6 +142,93 @@ impl Teller {
             Ok(reply) => reply,
             Err(_) => unreachable!(),
         }
+    }
+
+    /// Does a claim as the ledger does, whose word this is, where memory was found for one.
+    #[inline(always)]
+    #[tactic(auto, using(crate::proofs::Words::event_told))]
+    pub fn claim(&mut self, who: u8, stage: u16, word: u64) -> Claimed
+        requires read { event_of word ≡ Some (Event.Claim who stage) }
+        requires named { word_of (Event.Claim who stage) ≡ word }
+        requires there { stage < length (state_of self.old.ledger).plan.stages }
+        requires memory { 0 < self.old.ledger.free }
+        ensures { TellsEvent (Event.Claim who stage) self.old (Reply.Claim result) self.new }
+    {
+        // There is a lane for each stage.
+        let _known = self.lanes();
+        match self.claim_word(who, stage, word) {
+            Ok(told) => told,
+            Err(_) => unreachable!(),
+        }
+    }
+
+    /// The same, which the ledger may refuse.
+    #[inline(always)]
+    fn claim_word(&mut self, who: u8, stage: u16, word: u64) -> Result<Claimed, LedgerFault>
+        requires read { event_of word ≡ Some (Event.Claim who stage) }
+        requires named { word_of (Event.Claim who stage) ≡ word }
+        requires there { stage < length (state_of self.old.ledger).plan.stages }
+        ensures done { IfOk result (λ told. Tells word self.old (Reply.Claim told) self.new) }
+        ensures lanes { OnOk result (self.new.lanes
+            ≡ with_lane (length (state_of self.new.ledger).plan.stages) 0 self.old.lanes) }
+        ensures why { IfErr result (λ fault. LedgerRefuses (state_of self.old.ledger) word fault) }
+        ensures short { IfErr result (λ fault. IsShort self.old.ledger.free fault) }
+    {
+        let _known_before = self.ledger.stages();
+        let _lanes = self.lanes.lanes();
+        let told = self.ledger.claim(who, stage, word)?;
+        let stages = self.ledger.stages();
+        self.lanes.reach(stages, 0);
+        // The lane of each stage is there.
+        let _known = self.lanes.lanes();
+        self.lanes.write(stage, is_ready(self.ledger.stage(stage)));
+        Ok(told)
+    }
+
+    /// Does a finish as the ledger does, whose word this is, where memory was found for one.
+    #[inline(always)]
+    #[tactic(auto, using(crate::proofs::Words::event_told))]
+    pub fn finish(&mut self, who: u8, stage: u16, answer: Answer, word: u64) -> Finished
+        requires read { event_of word ≡ Some (Event.Finish who stage answer) }
+        requires named { word_of (Event.Finish who stage answer) ≡ word }
+        requires there { stage < length (state_of self.old.ledger).plan.stages }
+        requires memory { 0 < self.old.ledger.free }
+        ensures { TellsEvent (Event.Finish who stage answer) self.old (Reply.Finish result) self.new }
+    {
+        // There is a lane for each stage.
+        let _known = self.lanes();
+        match self.finish_word(who, stage, answer, word) {
+            Ok(told) => told,
+            Err(_) => unreachable!(),
+        }
+    }
+
+    /// The same, which the ledger may refuse.
+    #[inline(always)]
+    fn finish_word(
+        &mut self,
+        who: u8,
+        stage: u16,
+        answer: Answer,
+        word: u64,
+    ) -> Result<Finished, LedgerFault>
+        requires read { event_of word ≡ Some (Event.Finish who stage answer) }
+        requires named { word_of (Event.Finish who stage answer) ≡ word }
+        ensures done { IfOk result (λ told. Tells word self.old (Reply.Finish told) self.new) }
+        ensures lanes { OnOk result (self.new.lanes
+            ≡ with_lane (length (state_of self.new.ledger).plan.stages) 0 self.old.lanes) }
+        ensures why { IfErr result (λ fault. LedgerRefuses (state_of self.old.ledger) word fault) }
+        ensures short { IfErr result (λ fault. IsShort self.old.ledger.free fault) }
+    {
+        let _known_before = self.ledger.stages();
+        let _lanes = self.lanes.lanes();
+        let told = self.ledger.finish(who, stage, answer, word)?;
+        let stages = self.ledger.stages();
+        let place = self.ledger.len() - 1;
+        let changed = self.ledger.news(place);
+        self.lanes.reach(stages, 0);
+        note(&self.ledger, changed, &mut self.order, &mut self.lanes);
+        Ok(told)
     }
 
     /// The ledger.

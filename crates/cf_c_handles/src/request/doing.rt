@@ -1,7 +1,9 @@
 //! What is done to a request behind a handle, and what it tells then.
-ghost use Rattle.cf_c_handles.specs.RequestCalls.{AppliesIn, CancelsIn, FollowsIn, GoesOnIn, GrowsIn, PassesIn, RefusesIn, RestartsIn, Rests, RestsIn, SetsDeadlineIn, TellsIn, GoesOnOrNot, lanes_in};
-ghost use Rattle.std.specs.Prelude.{◌≡◌, ◌↔◌, ◌<◌, IsTrue};
-ghost use Rattle.cf_c_handles.specs.LedgerSteps.{late_number, taken_code, task_with};
+ghost use Rattle.cf_c_handles.specs.RequestCalls.{Advances, AppliesIn, CancelsIn, FollowsIn, GoesOnIn, GrowsIn, IsDueAs, PassesIn, RefusesIn, RestartsIn, Rests, RestsIn, SetsDeadlineIn, TellsIn, GoesOnOrNot, lanes_in};
+ghost use Rattle.cf_c_handles.specs.Tasks.{held_by};
+ghost use Rattle.cf_request.specs.Machines.{IsNoNext, OnlyFinds};
+ghost use Rattle.std.specs.Prelude.{◌≡◌, ◌↔◌, ◌<◌, IfErr, IfOk, IsTrue, OnErr};
+ghost use Rattle.cf_c_handles.specs.LedgerSteps.{late_number, step_code, taken_code, task_with};
 ghost use Rattle.cf_c_handles.specs.declared.handle.object.Object.TheVariants.{Request as HeldRequest};
 
 use crate::code::Code;
@@ -43,9 +45,8 @@ pub fn apply(
     }
 }
 
-/// Finishes what a task holds, and gives it the next ready stage of the caller's lane. It stands in a call of its own, so
-/// that `rest` saves no registers.
-#[inline(never)]
+/// Finishes what a task holds, and gives it the next ready stage of the caller's lane.
+#[inline(always)]
 pub fn next(
     held: &mut Object,
     step: &mut CfRequestStep,
@@ -75,12 +76,36 @@ fn go_on(
     ensures { GoesOnOrNot machine.old (step.old, task.old, row.old) result (HeldRequest machine.new)
         (step.new, task.new, row.new) }
 {
-    match machine.next(step.who, step.lane, held_by(task)) {
+    let is_claimed = advance(machine, step.who, step.lane, task)?;
+    step.told = tell_into(machine, row);
+    if is_claimed {
+        Ok(())
+    } else {
+        Err(Code::Nothing)
+    }
+}
+
+/// Finishes what a task holds, gives it the next ready stage of a lane, and says whether there was one. The machine's
+/// step stands in this call alone, so it is in line here.
+#[inline(never)]
+pub(crate) fn advance(
+    machine: &mut Machine,
+    who: u8,
+    lane: u8,
+    task: &mut CfTask,
+) -> Result<bool, Code>
+    requires { lane < machine.old.teller.lanes.count }
+    ensures done { IfOk result (λ claimed. Advances who lane machine.old task.old claimed machine.new task.new) }
+    ensures refused { OnErr result (OnlyFinds machine.old machine.new) }
+    ensures same { OnErr result (task.new ≡ task.old) }
+    ensures why { IfErr result (λ code. IsDueAs step_code (IsNoNext who lane (held_by task.old) machine.old) code) }
+{
+    match machine.next(who, lane, held_by(task)) {
         Err(fault) => Err(step_code(fault)),
         Ok(next) => {
-            let given = give(task, next);
-            step.told = tell_into(machine, row);
-            given
+            let is_claimed = next.taken.is_some();
+            let _code = give(task, next);
+            Ok(is_claimed)
         }
     }
 }
@@ -149,15 +174,9 @@ fn rest_in(
     ensures does { GoesOnOrNot machine.old (step.old, task.old, row.old) result (HeldRequest machine.new)
         (step.new, task.new, row.new) }
 {
-    let held = held_by(task);
-    match machine.next(step.who, step.lane, held) {
-        Err(fault) => Err(step_code(fault)),
-        Ok(next) => {
-            let told = tell_into(machine, row);
-            step.told = told;
-            give(task, next)
-        }
-    }
+    let next = machine.rest(step.who, step.lane);
+    step.told = tell_into(machine, row);
+    give(task, next)
 }
 
 /// From now on a stage ends as another does.

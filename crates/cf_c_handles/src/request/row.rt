@@ -5,14 +5,14 @@ ghost use Rattle.cf_c_handles.specs.RequestCalls.{lanes_in};
 
 use crate::code::Code;
 use crate::handle::object::Object;
-use crate::ledger::stepping::{late_number, step_code, take};
+use crate::ledger::stepping::step_code;
 use crate::ledger::word_code;
 use crate::plan::kind_of;
+use crate::request::doing::advance;
 use crate::request::{machine_code, tell_into};
 use crate::values::as_reply;
 use crate::values::call::{CfRequestCall, CfRequestDone};
 use crate::values::request::CfTold;
-use crate::values::task::held_by;
 use cf_request::{Deadline, Machine};
 
 /// Which call a row asks for.
@@ -114,14 +114,9 @@ fn next(machine: &mut Machine, call: &mut CfRequestCall) -> Result<(), Code>
     if call.lane >= machine.lanes() {
         return Err(Code::NoLane);
     }
-    match machine.next(call.who, call.lane, held_by(&call.task)) {
-        Err(fault) => Err(step_code(fault)),
-        Ok(next) => {
-            let task = &mut call.task;
-            task.finished = late_number(next.finish);
-            let _claimed = take(task, next.taken);
-            Ok(())
-        }
+    match advance(machine, call.who, call.lane, &mut call.task) {
+        Err(code) => Err(code),
+        Ok(_claimed) => Ok(()),
     }
 }
 
