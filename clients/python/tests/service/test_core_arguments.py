@@ -129,6 +129,11 @@ class CoreArguments(CoreCase):
                      lambda: Request(), lambda: Request(1, 2, 3, 4, 5, 6), kinds=self.ODD)
         self.fits(core)
 
+    def test_what_is_refused_leaves_no_name(self):
+        self.refused(lambda: self.request._attach_all(16, array("H", [5, 6, 7]).tobytes(), "refused"), kinds=self.ODD)
+        self.request.promise()
+        self.assertEqual(self.request.history().names, ["promise"])
+
     def test_classes_of_stages(self):
         for odd in (int, 7, concurrent.futures.Future, None):
             self.refused(lambda: type("Own", (Request,), {"_stage_class": odd})(None, "", 1))

@@ -20,7 +20,7 @@ from pathlib import Path
 
 from case import Case, CoreCase, fails, inc, Oops, program, Thing, until
 from cf.service import Flow, LoopService, RequestFull, Service, Stage
-from cf.service._core import PlanCore
+from cf.service._core import IS_MODULE, PlanCore
 from cf.service.words import MOST_STAGES
 from cf.values import Form
 REQUESTS = int(os.environ.get("CF_REQUESTS", "20000"))
@@ -52,6 +52,12 @@ class Kept(Case):
             del planned, request, promise
         self.assertEqual(told, told[:1] * 6)
         self.assertEqual(told[0], ((5, ["promise", "inc", "promise"]), (7, ["promise", "inc", "promise"])))
+
+    def test_more_requests_than_their_plan_keeps_machines_of(self):
+        for _ in range(2):
+            open_ones = [self.service.request(room=1) for _ in range(1100)]
+            self.assertTrue(all([opened.promise().complete(k) for k, opened in enumerate(open_ones)]))
+            del open_ones
 
     def things(self, attach):
         """A stage that is attached with things alone; and whether they are still there."""
@@ -345,15 +351,15 @@ class Blocks(CoreCase):
 
 
 class Memory(unittest.TestCase):
-    def flat(self, make):
+    def flat(self, make, many=REQUESTS):
         """Makes requests, and compares what is resident after a fifth of them with what is at the end."""
         def resident():
             gc.collect()
             return int(Path("/proc/self/statm").read_text().split()[1]) * os.sysconf("SC_PAGE_SIZE")
-        for _ in range(REQUESTS // 5):
+        for _ in range(many // 5):
             make()
         first = resident()
-        for _ in range(REQUESTS - REQUESTS // 5):
+        for _ in range(many - many // 5):
             make()
         self.assertLess(resident() - first, 3_000_000)
 
@@ -385,6 +391,15 @@ class Memory(unittest.TestCase):
         end = flow.promise().then(inc).then(fails).recover(str)
         self.flat(lambda: self.service.start(flow, 1)[end].result())
         self.flat(lambda: flow.run(1))
+
+    @unittest.skipUnless(IS_MODULE, "by ctypes a plan keeps no machines")
+    def test_plans(self):
+        """A plan is dropped with the machines that it has kept."""
+        def make():
+            flow = Flow()
+            flow.promise().then(inc)
+            self.assertEqual(len([flow.run() for _ in range(20)]), 20)
+        self.flat(make, 400)
 
 
 if __name__ == "__main__":

@@ -182,6 +182,23 @@ class Histories(Case):
         self.request.promise()
         self.assertEqual((len(history.words), str(history)), (0, "r: 0 events, 0 stages"))
 
+    def test_it_has_what_the_machine_does_to_a_relay(self):
+        gate = self.request.promise()
+        composed = gate.compose(lambda _: later)
+        later = self.request.promise()
+        gate.complete(1)
+        self.assertTrue(until(lambda: len(self.request.history().words) == 7))
+        later.complete(2)
+        self.assertEqual((composed.result(20), len(self.request.history().words)), (2, 9))
+
+    def test_its_names_stay(self):
+        promise = self.request.promise().named("before")
+        history = self.request.history()
+        promise.named("behind")
+        self.request.promise()
+        self.assertEqual((history.names, self.request.history().names), (["before"], ["behind", "promise"]))
+        self.assertIn("before", str(history))
+
     def test_a_submit_has_one(self):
         stage = self.service.submit(inc, 1)
         stage.result()

@@ -40,6 +40,18 @@ class Loops(unittest.TestCase):
             self.assertIn("worker 0 finishes", str(on_loop.history()))
         asyncio.run(main())
 
+    def test_what_else_can_be_awaited(self):
+        class Later:
+            def __await__(self):
+                yield from asyncio.sleep(0).__await__()
+                return 5
+
+        async def main():
+            request = LoopService(asyncio.get_running_loop()).request()
+            for given, value in ((Later, 5), (lambda: asyncio.ensure_future(asyncio.sleep(0, 6)), 6)):
+                self.assertEqual(await request.supply(given), value)
+        asyncio.run(main())
+
     def test_submits(self):
         """A request of one stage, of a function or a coroutine function, by any thread."""
         async def twice(x, by=2):
@@ -329,6 +341,16 @@ class Loops(unittest.TestCase):
                 await asyncio.sleep(0.01)
                 self.assertTrue(loop_promise.cancelled())
         asyncio.run(main())
+
+    def test_a_loop_that_is_closed_before_it_uses_a_turn(self):
+        loop = asyncio.new_event_loop()
+        on_loop = LoopService(loop).request()
+        loop_promise = on_loop.promise()
+        behind, left = loop_promise.then(inc), on_loop.supply(str)  # (by this the loop is to be woken)
+        loop.close()
+        loop_promise.complete(1)
+        self.assertIsInstance(behind.exception(5), RuntimeError)
+        self.assertIsInstance(left.exception(5), RuntimeError)
 
     def test_closed_loop(self):
         loop = asyncio.new_event_loop()

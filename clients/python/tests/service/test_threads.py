@@ -69,6 +69,14 @@ class Threads(unittest.TestCase):
                              100)
             self.assertIn("worker 60 claims", str(request.history()))
 
+    def test_of_two_that_an_end_makes_ready_neither_waits_for_the_other(self):
+        with Service(2) as pooled:
+            on_threads, opens, ran = pooled.request(), threading.Event(), threading.Event()
+            source = on_threads.supply(opens.wait, 20)
+            first, second = source.then(lambda _: ran.wait(20)), source.then(lambda _: ran.set())
+            opens.set()
+            self.assertEqual((first.result(30), second.result(20)), (True, None))
+
 
 if __name__ == "__main__":
     unittest.main()

@@ -95,6 +95,14 @@ class Limits(Case):
             limited = [self.request.promise().complete_on_timeout(k, 0) for k in range(5)]
         self.assertEqual([stage.result(20) for stage in limited], list(range(5)))
 
+    def test_a_limit_that_is_due_at_just_this_moment(self):
+        """A loop may ring a request at the very nanosecond."""
+        late, given = self.request.promise().or_timeout(1000), self.request.promise().complete_on_timeout("x", 2000)
+        for moment in sorted(self.request._limits):
+            self.request._ring(moment)
+        self.assertIn("took longer than 1000 s", str(late.exception(0)))
+        self.assertEqual(given.result(0), "x")
+
     def test_a_limit_that_is_set_while_time_passes(self):
         """It gets a moment that hasn't passed: what it gives isn't at hand by now."""
         class Passing(_machine.Limits):
@@ -142,6 +150,13 @@ class Limits(Case):
             with self.assertLogs("concurrent.futures", "ERROR"):
                 self.assertIsInstance(late.or_timeout(0.01).exception(20), TimeoutError)
                 self.assertEqual(self.request.promise().complete_on_timeout(1, 0.02).result(20), 1)
+
+    def test_a_callback_that_leaves_keeps_no_later_limit_from_coming(self):
+        first, second = self.request.promise(), self.request.promise()
+        first.add_done_callback(leaves)
+        with self.assertLogs("concurrent.futures", "CRITICAL"):
+            first.or_timeout(0.01), second.or_timeout(0.1)
+            self.assertIsInstance(second.exception(20), concurrent.futures.TimeoutError)
 
     def test_what_a_timer_held_may_use_the_clock(self):
         """A value that a timer lets go of is freed where no lock is held."""
@@ -264,6 +279,12 @@ class Causes(Case):
                 both[number].or_timeout(0)
                 self.assertIsInstance(both[number].exception(20), TimeoutError)
             self.assertEqual([stage.exception(20) for stage in behind], [both[0].exception()] * 2)
+
+    def test_of_two_that_are_over_by_now_the_earlier_one_is_told(self):
+        late, early = self.request.promise().or_timeout(2000), self.request.promise().or_timeout(1000)
+        first = self.request.first_of(late, early)
+        self.request._ring(max(self.request._limits))
+        self.assertIs(first.exception(0), early.exception(0))
 
     def test_a_bad_answer_is_told_as_one(self):
         timed, bad = self.service.request("r"), cf.BadAnswer("x")

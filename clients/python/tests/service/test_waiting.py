@@ -10,7 +10,7 @@ import threading
 import time
 import unittest
 
-from case import Case, CoreCase, Oops
+from case import Case, CoreCase, Oops, until
 from cf.service._core import IS_MODULE
 from cf.testing import orders
 
@@ -59,6 +59,25 @@ class Waiting(Case):
         report = orders(test)
         self.assertEqual((report.whole, list(map(str, report.failed))), (True, []))
         self.assertGreater(report.orders, 3)
+
+
+class Ends(Case):
+    def test_what_ends_a_wait_for_the_first_exception(self):
+        """An exception does, and a cancellation doesn't."""
+        for settle, ends in ((lambda stage: stage.fail(Oops()), True), (lambda stage: stage.cancel(), False)):
+            first, second, told = self.request.promise(), self.request.promise(), []
+
+            def wait(row=(first, second), to=told):
+                to.append(concurrent.futures.wait(row, 30, "FIRST_EXCEPTION").not_done)
+            waits = threading.Thread(target=wait)
+            waits.start()
+            self.assertTrue(until(lambda: first._waiters and second._waiters))
+            settle(first)
+            waits.join(30 if ends else 0.05)
+            self.assertEqual(told, [{second}] if ends else [])
+            second.complete(1)
+            waits.join(60)
+            self.assertEqual(told, [{second} if ends else set()])
 
 
 class WaitersThatRaise(CoreCase):

@@ -16,7 +16,7 @@ pub struct Aside<T>(Arc<Shared<T>>);
 struct Shared<T> {
     tells: Box<dyn Fn(T) + Send + Sync>,
     queue: Mutex<Queue<T>>,
-    /// Is rung as the thread ends.
+    /// Is rung as the thread ends, or where none could be started.
     rests: Condvar,
 }
 
@@ -69,8 +69,7 @@ impl<T: Send + 'static> Aside<T> {
         drop(queue);
         let shared = Arc::clone(&self.0);
         if thread::Builder::new().name("cf ends".into()).spawn(move || shared.run()).is_err() {
-            // The next one tries again.
-            self.0.lock().has_thread = false;
+            self.0.has_none();
         }
     }
 }
@@ -78,6 +77,12 @@ impl<T: Send + 'static> Aside<T> {
 impl<T> Shared<T> {
     fn lock(&self) -> MutexGuard<'_, Queue<T>> {
         self.queue.lock().unwrap_or_else(PoisonError::into_inner)
+    }
+
+    /// No thread could be started. The next one that is told tries again, and whoever waits tells what is left.
+    fn has_none(&self) {
+        self.lock().has_thread = false;
+        self.rests.notify_all();
     }
 
     fn run(&self) {
@@ -112,6 +117,7 @@ impl<T> fmt::Debug for Aside<T> {
 mod tests {
     use super::*;
     use std::sync::atomic::{AtomicU32, Ordering};
+    use std::sync::mpsc::channel;
 
     /// Where the system starts no thread, whoever waits for the function calls it.
     #[test]
@@ -122,5 +128,34 @@ mod tests {
         aside.0.lock().left.push_back(7);
         assert!(aside.flush(Duration::from_secs(60)));
         assert_eq!(told.load(Ordering::SeqCst), 7);
+    }
+
+    #[test]
+    fn what_the_function_panics_with_is_dropped() {
+        let alive = Arc::new(());
+        let held = Arc::clone(&alive);
+        let aside = Aside::new(move |()| std::panic::panic_any(Arc::clone(&held)));
+        aside.tell(());
+        assert!(aside.flush(Duration::from_secs(60)));
+        assert_eq!(Arc::strong_count(&alive), 2);
+    }
+
+    /// Nor does it wait for a thread that the system has refused meanwhile.
+    #[test]
+    fn a_flush_waits_for_no_thread_that_was_refused() {
+        let told = Arc::new(AtomicU32::new(0));
+        let tells = Arc::clone(&told);
+        let aside = Aside::new(move |it| tells.store(it, Ordering::SeqCst));
+        {
+            let mut queue = aside.0.lock();
+            queue.left.push_back(7);
+            queue.has_thread = true;
+        }
+        let (waits, (ends, end)) = (aside.clone(), channel());
+        thread::spawn(move || ends.send(waits.flush(Duration::from_secs(600))).unwrap());
+        // It waits by then, or finds no thread.
+        thread::sleep(Duration::from_millis(20));
+        aside.0.has_none();
+        assert_eq!((end.recv_timeout(Duration::from_secs(30)), told.load(Ordering::SeqCst)), (Ok(true), 7));
     }
 }

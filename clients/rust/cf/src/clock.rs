@@ -479,4 +479,19 @@ mod tests {
         sweeps.join().unwrap();
         assert!(stage.wait_timeout(Duration::from_secs(60)).expect("the alarm is rung").unwrap_err().is_timeout());
     }
+
+    /// And so do those that come meanwhile.
+    #[test]
+    fn alarms_that_come_in_a_sweep_ring() {
+        let request = Request::new("swept", Inline);
+        let stage = request.promise::<i32>().or_timeout(Duration::from_secs(3600));
+        let held = request.0.lock();
+        let sweeps = thread::spawn(sweep);
+        thread::sleep(Duration::from_millis(50));
+        let came = Request::new("came", Inline).promise::<i32>().or_timeout(Duration::from_millis(300));
+        drop(held);
+        sweeps.join().unwrap();
+        assert!(came.wait_timeout(Duration::from_secs(60)).expect("the alarm is rung").unwrap_err().is_timeout());
+        assert!(!stage.is_settled());
+    }
 }

@@ -775,4 +775,24 @@ mod tests {
         comes_to(&request, 0);
         assert!(request.history().comes_again());
     }
+
+    /// What it finishes is too late, so nothing else asks for a job that would run what is ready.
+    #[test]
+    fn who_gives_way_too_late_leaves_nothing() {
+        let request = Request::with_clock("too late", Arc::new(Two), Arc::new(HandClock::new()));
+        let ((opens, open), (goes, go)) = (channel::<()>(), channel::<()>());
+        let long = request.supply(move || open.recv().unwrap());
+        let late = request.supply(move || go.recv().unwrap());
+        comes_to(&request, 2);
+        let left = request.supply(|| 3);
+        assert!(late.cancel());
+        let held = request.0.lock();
+        goes.send(()).unwrap();
+        thread::sleep(Duration::from_millis(20));
+        drop(held);
+        assert_eq!(left.wait_timeout(LONG).expect("it is run").unwrap(), 3);
+        opens.send(()).unwrap();
+        long.wait_timeout(LONG).expect("it ends").unwrap();
+        assert!(request.history().comes_again());
+    }
 }

@@ -228,6 +228,30 @@ mod tests {
     use super::*;
     use std::collections::HashSet;
 
+    /// Around the most events and the longest while that one number says. A moment is written once.
+    #[test]
+    fn times_are_read_at_the_bounds_of_a_number() {
+        let (mut record, mut wanted, mut at) = (Record::default(), Vec::new(), 0);
+        for later in [1, LONGEST - 1, LONGEST, LONGEST + 1, LONGEST + 2, 2 * LONGEST + 1, 2 * LONGEST + 2] {
+            for count in [1, MOST - 1, MOST, MOST + 1, MOST + 2, 2 * MOST, 2 * MOST + 1] {
+                at += later;
+                for _ in 0..count {
+                    record.go_on(at);
+                    record.lately += 1;
+                    wanted.push(at);
+                }
+            }
+        }
+        assert_eq!((record.times().collect::<Vec<_>>(), record.events()), (wanted.clone(), wanted.len()));
+        let mut one = Record::default();
+        for _ in 0..MOST {
+            one.go_on(1);
+            one.lately += 1;
+        }
+        one.go_on(2);
+        assert_eq!(one.moments, [(1 << BITS | MOST) as u32]);
+    }
+
     #[test]
     fn times_are_read_as_they_were_written() {
         let (mut record, mut wanted, mut at) = (Record::default(), Vec::new(), 0);

@@ -157,3 +157,46 @@ fn a_stage_that_is_settled_keeps_no_relay() {
     config.complete(8).unwrap();
     assert_eq!((first.wait().unwrap(), both.wait().unwrap()), (7, vec![7, 8]));
 }
+
+/// An error, values with which one worker has called one function after another, and the function of a stage that got a value without it.
+#[test]
+fn what_functions_gave_and_took_goes_with_their_request() {
+    #[derive(Debug)]
+    struct Holds(#[allow(dead_code)] Arc<()>);
+    impl std::fmt::Display for Holds {
+        fn fmt(&self, f: &mut std::fmt::Formatter<'_>) -> std::fmt::Result {
+            f.write_str("no")
+        }
+    }
+    impl std::error::Error for Holds {}
+    let alive = Arc::new(());
+    let freed = Request::new("given", Inline);
+    let gate = freed.promise::<i32>();
+    let held = Arc::clone(&alive);
+    let passed = gate.clone().recover(move |_| Arc::strong_count(&held) as i32);
+    let held = [(); 2].map(|()| {
+        let held = Arc::clone(&alive);
+        gate.clone().then(move |_| held)
+    });
+    let behind = held.map(|held| held.then(|held| Arc::strong_count(held)));
+    gate.complete(1).unwrap();
+    assert!(passed.is_settled() && behind.iter().all(Stage::is_settled));
+    assert_eq!(Arc::strong_count(&alive), 3, "the two values");
+    assert!(freed.promise::<i32>().fail(Holds(Arc::clone(&alive))));
+    assert_eq!(Arc::strong_count(&alive), 4, "and the error");
+    drop((freed, gate, passed, behind));
+    assert_eq!(Arc::strong_count(&alive), 1);
+}
+
+/// What is gathered and never settled goes with the last handle of its request.
+#[test]
+fn a_request_that_gathers_is_freed() {
+    let alive = Arc::new(());
+    let freed = Request::new("gathers", Inline);
+    let (first, second, held) = (freed.promise::<i32>(), freed.promise::<i32>(), Arc::clone(&alive));
+    let both = freed.gather([&first, &second]).then(move |_| Arc::strong_count(&held));
+    first.complete(1).unwrap();
+    assert!(!both.is_settled());
+    drop((freed, first, second, both));
+    assert_eq!(Arc::strong_count(&alive), 1);
+}

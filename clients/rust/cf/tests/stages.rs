@@ -252,3 +252,43 @@ fn a_relay_that_is_cancelled_takes_no_other_along() {
     source.complete(5).unwrap();
     assert_eq!(second.peek().expect("it is told").unwrap(), 5);
 }
+
+/// A composing stage takes two places, and what waits for so many stages one less than these.
+#[test]
+fn the_last_places_of_a_request_are_taken() {
+    let nearly_full = |left: usize| {
+        let r = Request::new("nearly full", Inline);
+        let first = r.promise::<i32>();
+        (1..4096 - left).for_each(|_| drop(r.promise::<i32>()));
+        (r, first)
+    };
+    let is_refused = |stage: Stage<i32>| matches!(stage.wait_timeout(std::time::Duration::ZERO), Some(Err(Error::Refused(cf::Refusal::Full))));
+    let (r, first) = nearly_full(1);
+    let given = first.clone();
+    assert!(is_refused(first.clone().compose(move |_| given)) && is_refused(r.first_of([&first, &first, &first])));
+    let last = r.first_of([&first, &first]);
+    assert!(is_refused(r.promise()) && is_refused(r.first_of([&first, &first])));
+    first.complete(1).unwrap();
+    assert_eq!(last.wait().unwrap(), 1);
+    let (r, first) = nearly_full(2);
+    let given = first.clone();
+    let composed = first.clone().compose(move |_| given);
+    assert!(is_refused(r.promise()));
+    first.complete(2).unwrap();
+    assert_eq!(composed.wait().unwrap(), 2);
+    let (r, first) = nearly_full(2);
+    assert!(is_refused(r.first_of([&first; 4])) && !r.first_of([&first; 3]).is_settled() && is_refused(r.promise()));
+}
+
+/// One worker calls functions with one value, two, an end, and the first value again.
+#[test]
+fn functions_of_one_job_are_called_with_their_own_values() {
+    let r = Request::new("one job", Inline);
+    let [a, b] = ["a", "b"].map(|name| (name, r.promise::<String>()));
+    let one = || a.1.clone().then(String::clone);
+    let behind = [one(), a.1.clone().combine(&b.1, |a, b| format!("{a}{b}")), one(), a.1.clone().handle(|told| told.unwrap().to_uppercase()), one()];
+    for (name, stage) in [&b, &a] {
+        stage.complete((*name).into()).unwrap();
+    }
+    assert_eq!(behind.map(|stage| stage.wait().unwrap()), ["a", "ab", "a", "A", "a"]);
+}

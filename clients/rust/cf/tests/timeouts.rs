@@ -164,3 +164,65 @@ fn alarms_are_swept_whatever_their_values_do() {
         assert!(late.wait().unwrap_err().is_timeout());
     });
 }
+
+#[test]
+fn alarms_of_one_moment_ring_as_they_were_asked_for() {
+    let (clock, rung) = (HandClock::new(), Arc::new(Mutex::new(Vec::new())));
+    let timed: Vec<Stage<()>> = (0..20)
+        .map(|k| {
+            let (rings, timed) = (Arc::clone(&rung), Request::with_clock("by hand", Arc::new(Inline), Arc::new(clock.clone())));
+            timed.promise().complete_on_timeout(k, Duration::from_secs(1)).then(move |k| rings.lock().unwrap().push(*k))
+        })
+        .collect();
+    clock.turn(Duration::from_secs(1));
+    assert!(timed.iter().all(Stage::is_settled));
+    assert_eq!(*rung.lock().unwrap(), (0..20).collect::<Vec<_>>());
+}
+
+/// What it rings turns it further.
+#[test]
+fn a_clock_does_not_go_back() {
+    let (clock, seconds) = (HandClock::new(), Duration::from_secs);
+    let (turns, timed) = (clock.clone(), Request::with_clock("by hand", Arc::new(Inline), Arc::new(clock.clone())));
+    let turned = timed.promise::<i32>().or_timeout(seconds(1)).handle(move |_| turns.turn(seconds(10)));
+    clock.turn(seconds(2));
+    assert!(turned.is_settled());
+    assert_eq!(clock.now(), seconds(11));
+}
+
+/// Stands, and keeps the alarms that it is asked for.
+#[derive(Clone, Default)]
+struct Stands(Arc<Mutex<Vec<Alarm>>>);
+
+impl Clock for Stands {
+    fn now(&self) -> Duration {
+        Duration::ZERO
+    }
+
+    fn after(&self, _wait: Duration, alarm: Alarm) {
+        self.0.lock().unwrap().push(alarm);
+    }
+}
+
+#[test]
+fn a_settled_stage_of_two_timeouts_wants_no_alarm() {
+    let clock = Stands::default();
+    let timed = Request::with_clock("stands", Arc::new(Inline), Arc::new(clock.clone()));
+    let timed_stage = timed.promise().or_timeout(Duration::from_secs(2)).complete_on_timeout(1, Duration::from_secs(3));
+    let wanted = || clock.0.lock().unwrap().iter().filter(|alarm| alarm.is_wanted()).count();
+    assert_eq!(wanted(), 1);
+    timed_stage.complete(5).unwrap();
+    assert_eq!(wanted(), 0);
+}
+
+/// The function runs in the call that rings, and may take long.
+#[test]
+fn the_next_alarm_is_asked_for_before_a_function_runs() {
+    let (clock, seconds) = (Stands::default(), Duration::from_secs);
+    let timed = Request::with_clock("stands", Arc::new(Inline), Arc::new(clock.clone()));
+    let (later, looks) = (timed.promise::<i32>().or_timeout(seconds(2)), clock.clone());
+    let asked = timed.promise::<i32>().or_timeout(seconds(1)).handle(move |_| looks.0.lock().unwrap().len());
+    let alarm = clock.0.lock().unwrap().pop().expect("it is the first that comes");
+    alarm.ring();
+    assert_eq!((asked.peek().expect("it was called").unwrap(), later.is_settled()), (2, false));
+}

@@ -219,3 +219,16 @@ fn a_stage_is_polled_after_its_end() {
     other.complete(2).unwrap();
     assert_eq!(counts.count(), 2);
 }
+
+/// Nor with what its thread tells later, by the same memory.
+#[test]
+fn a_waker_is_called_once_and_kept_by_nobody() {
+    let request = Request::new("once", Inline);
+    let bells = [(); 2].map(|()| Arc::new(Counts::default()));
+    for (k, bell) in bells.iter().enumerate() {
+        let mut waits = request.promise::<i32>();
+        assert!(!bell.polls(&mut waits));
+        waits.complete(1).unwrap();
+        assert_eq!((bells[0].count(), bells[1].count(), Arc::strong_count(bell)), (1, k, 1));
+    }
+}

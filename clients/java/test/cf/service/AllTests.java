@@ -101,6 +101,13 @@ public final class AllTests {
         test("attaches that fail", MachineTest::failedAttach);
         test("words that are refused", MachineTest::refusedWords);
         test("words that fail a stage for a cause", MachineTest::failedAs);
+        test("large cores", MachineTest::largeCores);
+        test("a request that can't come again", MachineTest::failsToComeAgain);
+        test("moments of words that wait", MachineTest::moments);
+        test("many events of one moment", MachineTest::manyOfOneMoment);
+        test("lanes of one call", MachineTest::lanesOfOneCall);
+        test("many functions of both lanes", MachineTest::manyOfBothLanes);
+        test("cores of other plans", FreeingTest::otherPlans);
         test("flows that several threads start first", FlowsTest::startedTogether);
         test("flows with errors", FlowsTest::flowErrors);
         test("a flow without steps", FlowsTest::emptyFlow);

@@ -282,4 +282,25 @@ final class FreeingTest {
         System.out.println("at most " + most + " were alive");
         is(most < 30_000, true);
     }
+
+    /** Who opens a request frees what others have left, also of other plans. */
+    static void otherPlans() throws Exception {
+        Flow flow = new Flow("left");
+        flow.promise();
+        List<Request> open = new ArrayList<>();
+        for (int k = 0; k < 100; k++) {
+            open.add(INLINE.request("open")); // So no core is at hand.
+        }
+        int live = Machine.live();
+        for (int k = 0; k < 200; k++) {
+            INLINE.start(flow);
+        }
+        for (int k = 0; k < 200 && Machine.live() > live + 100; k++) {
+            System.gc();
+            Thread.sleep(5);
+            open.add(INLINE.request("open"));
+        }
+        is(Machine.live() <= live + 100, true);
+        open.forEach(Request::close);
+    }
 }

@@ -4,6 +4,7 @@ import static cf.service.Checks.is;
 import static cf.service.Checks.thrown;
 
 import java.util.ArrayList;
+import java.util.Arrays;
 import java.util.List;
 import java.util.concurrent.ExecutorService;
 import java.util.concurrent.Executors;
@@ -258,5 +259,127 @@ final class MachineTest {
         }
         is(Machine.first(core, supply, Long.MIN_VALUE, supply, Integer.MAX_VALUE) & 0xff, (long) Native.OK);
         Machine.destroy(core);
+    }
+
+    private static Machine sources(Machine machine, int count) {
+        for (int k = 0; k < count; k++) {
+            machine.attachLater(source(), Machine.HERE);
+        }
+        return machine;
+    }
+
+    /** A core of many stages, or of many words, isn't kept for the next request. */
+    static void largeCores() {
+        for (int stages : new int[] {512, 513}) {
+            Machine.Plan plan = new Flow("stages").plan();
+            sources(new Machine(plan, 8), stages).rest(null);
+            is(plan.pool.take(0) != null, stages == 512);
+        }
+        for (int late : new int[] {1000, 16 * 512}) {
+            Machine.Plan plan = new Flow("words").plan();
+            Machine machine = sources(new Machine(plan, 8), 1);
+            for (int k = 0; k < late; k++) {
+                machine.apply(Words.cancel(WHO, 0), WHO);
+            }
+            machine.rest(null);
+            is(plan.pool.take(0) != null, late == 1000);
+        }
+    }
+
+    /** A request that was closed and can't come again has its words all the same, and comes by the next call that can. */
+    static void failsToComeAgain() {
+        Machine machine = sources(new Machine(null, 8), 3);
+        boolean[] fails = {true};
+        machine.rest(() -> {
+            if (fails[0]) {
+                Checks.breaks();
+            }
+        });
+        thrown(Checks.Broken.class, () -> machine.apply(Words.complete(WHO, 2, 7), WHO));
+        is(machine.events() + " " + machine.kept().length, "3 4");
+        fails[0] = false;
+        machine.apply(Words.complete(WHO, 2, 7), WHO);
+        is(machine.answer() + " " + machine.told() + " " + machine.events(), "1 1 4");
+        machine.rest(null);
+    }
+
+    /** Words that wait have the moment of the first of them. */
+    static void moments() {
+        Machine machine = sources(new Machine(null, 8), 1);
+        long came = Native.ticks();
+        sources(machine, 1).apply(Words.complete(WHO, 0, 7), WHO);
+        long[] kept = machine.kept();
+        is(kept.length, 3 + 2);
+        is(kept[3] >>> 8 <= came && kept[4] >>> 8 >= came, true);
+        is((kept[3] & 0xff) + " " + (kept[4] & 0xff), "2 1");
+        machine.rest(null);
+    }
+
+    /** More events come at one moment than a number tells. Once all words are done again, they have their moments, and nothing is told again. */
+    static void manyOfOneMoment() {
+        Machine machine = sources(new Machine(null, 8), 300);
+        short[] of = new short[300];
+        for (int k = 0; k < of.length; k++) {
+            of[k] = (short) k;
+        }
+        machine.gather(Form.ANY_OF, of, WHO);
+        machine.apply(Words.fail(WHO, 0, 1), WHO);
+        int told = machine.told();
+        while (machine.more(WHO)) {
+            told += machine.told();
+        }
+        is(told, 300);
+        int events = machine.events();
+        long[] kept = machine.kept();
+        int sum = 0;
+        for (int k = events; k < kept.length; k++) {
+            sum += (int) kept[k] & 0xff;
+            is(k == events || kept[k] >>> 8 >= kept[k - 1] >>> 8, true);
+        }
+        is(events + " " + sum, "600 600");
+        machine.rest(null);
+        machine.apply(Words.cancel(WHO, 1), WHO);
+        is(machine.told() + " " + machine.told(0) % 4096 + " " + machine.more(WHO), "1 1 false");
+        long[] again = machine.kept();
+        is(machine.events(), 601);
+        is(again.length, kept.length + 2);
+        is(Arrays.equals(Arrays.copyOfRange(again, 601, 601 + kept.length - 600), Arrays.copyOfRange(kept, 600, kept.length)), true);
+        machine.rest(null);
+    }
+
+    /** One request of a call has a stage more of an executor. Another one's isn't such a stage, also once its words are done again. */
+    static void lanesOfOneCall() {
+        List<Runnable> tasks = new ArrayList<>();
+        Service later = new Service(tasks::add);
+        later.supplyAsync(() -> 1).thenApplyAsync(x -> x + 1);
+        Stage<Integer> call = later.supplyAsync(() -> 5), behind = call.thenApply(x -> x + 1);
+        call.request().close();
+        tasks.get(1).run();
+        is(behind.getNow(0), 6);
+    }
+
+    /** As many functions become ready at once as one crossing brings for this thread, or some more, and some for an executor. */
+    static void manyOfBothLanes() {
+        for (int here : new int[] {31, 32, 33, 64, 65, 66, 200, 0}) {
+            List<Runnable> tasks = new ArrayList<>();
+            Request request = new Service(tasks::add).request("both");
+            Stage<Integer> source = request.promise();
+            List<Stage<Integer>> behind = new ArrayList<>();
+            int all = here + Math.min(here + 3, 70);
+            for (int k = 0; k < all; k++) {
+                int own = k;
+                behind.add(k < here ? source.thenApply(x -> own) : source.thenApplyAsync(x -> own));
+            }
+            source.complete(1);
+            is(tasks.size(), all - here);
+            for (int k = 0; k < all; k++) {
+                is(behind.get(k).getNow(-1), k < here ? k : -1);
+            }
+            tasks.forEach(Runnable::run);
+            for (int k = 0; k < all; k++) {
+                is(behind.get(k).getNow(-1), k);
+            }
+            request.close();
+        }
     }
 }
