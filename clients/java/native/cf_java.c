@@ -9,7 +9,8 @@
  *     history and its plan stand in the one call that has them;
  *   - one call at a time has a handle: a core's by its request's lock (Machine.java), a plan's by the lock beside it, since threads open
  *     requests of one plan at once. Both locks order what different threads do, and so does the atomic by which Machine's pool hands a core on;
- *   - nothing is freed while it is used, or twice: who calls keeps the core's owner reachable, and Freed.java frees what can't be reached, once;
+ *   - nothing is freed while it is used, or twice: a call is one of the core's machine, which keeps the core and its plan reachable meanwhile, and
+ *     Freed.java frees what can't be reached, once;
  *   - pointers are aligned, and to as many elements as said: they are to variables and to the core's own memory. Arrays of Java's are read
  *     within their bounds, whatever numbers are told beside them;
  *   - malloc and free are those of the one C library; no call is made by a handler of signals, and the children that a JVM forks run no Java.
@@ -348,8 +349,8 @@ static jlong apply(jlong at, jint waiting, jlong word, jint lane, jint who) {
   return end(&it, code, did.reply.answer);
 }
 
-CALL(jlong, apply)(JNIEnv *env, jclass class, jlong at, jint waiting, jlong word, jint lane, jint who) {
-  (void)env, (void)class;
+CALL(jlong, apply)(JNIEnv *env, jobject machine, jlong at, jint waiting, jlong word, jint lane, jint who) {
+  (void)env, (void)machine;
   return apply(at, waiting, word, lane, who);
 }
 
@@ -375,8 +376,8 @@ static uint32_t finish_late(struct crossing *it, uint8_t who, cf_task *task) {
 
 /* Finishes a stage that the caller has claimed, by a value's number, -1 for null, or by an exception's code. Then it claims as `apply` does.
  * Where this is the last finish, it also brings the words, if they are few: bit 34 of the reply says so. */
-CALL(jlong, finish)(JNIEnv *env, jclass class, jlong at, jint waiting, jint stage, jboolean throws, jint number, jint who, jboolean last) {
-  (void)env, (void)class;
+CALL(jlong, finish)(JNIEnv *env, jobject machine, jlong at, jint waiting, jint stage, jboolean throws, jint number, jint who, jboolean last) {
+  (void)env, (void)machine;
   struct crossing it;
   begin(&it, at);
   cf_task task = {.held = 1, .stage = (uint16_t)stage};
@@ -391,8 +392,8 @@ CALL(jlong, finish)(JNIEnv *env, jclass class, jlong at, jint waiting, jint stag
 }
 
 /* Finishes a stage by this word, which links it to a relay, unless it is 0. If that was in time, the relay follows a stage from now on. */
-CALL(jlong, link)(JNIEnv *env, jclass class, jlong at, jint waiting, jlong word, jint relay, jint stage, jint who) {
-  (void)env, (void)class;
+CALL(jlong, link)(JNIEnv *env, jobject machine, jlong at, jint waiting, jlong word, jint relay, jint stage, jint who) {
+  (void)env, (void)machine;
   struct crossing it;
   cf_applied did = {0};
   size_t told = 0;
@@ -410,8 +411,8 @@ CALL(jlong, link)(JNIEnv *env, jclass class, jlong at, jint waiting, jlong word,
 }
 
 /* Does the words that wait, and attaches stages of this form that wait for all of these stages, or for one of them: no function is ready then. */
-CALL(jlong, gather)(JNIEnv *env, jclass class, jlong at, jint waiting, jint form, jshortArray sources, jint who) {
-  (void)class;
+CALL(jlong, gather)(JNIEnv *env, jobject machine, jlong at, jint waiting, jint form, jshortArray sources, jint who) {
+  (void)machine;
   struct crossing it;
   cf_request_gathering step = {.who = (uint8_t)who, .form = (uint32_t)form};
   begin(&it, at);
@@ -433,8 +434,8 @@ CALL(jlong, gather)(JNIEnv *env, jclass class, jlong at, jint waiting, jint form
 }
 
 /* Does the words that wait, and sets a deadline of a stage: it times out then, or gets the value of this number, -1 for null. */
-CALL(jlong, deadline)(JNIEnv *env, jclass class, jlong at, jint waiting, jint stage, jlong moment, jboolean gives, jint number) {
-  (void)env, (void)class;
+CALL(jlong, deadline)(JNIEnv *env, jobject machine, jlong at, jint waiting, jint stage, jlong moment, jboolean gives, jint number) {
+  (void)env, (void)machine;
   struct crossing it;
   cf_value value = {number < 0 ? CF_NIL : CF_INT, number < 0 ? 0 : number};
   begin(&it, at);
@@ -445,8 +446,8 @@ CALL(jlong, deadline)(JNIEnv *env, jclass class, jlong at, jint waiting, jint st
 }
 
 /* Lets time pass up to a moment, and tells that of the next deadline. */
-CALL(jlong, pass)(JNIEnv *env, jclass class, jlong at, jint waiting, jlong moment, jint who) {
-  (void)env, (void)class;
+CALL(jlong, pass)(JNIEnv *env, jobject machine, jlong at, jint waiting, jlong moment, jint who) {
+  (void)env, (void)machine;
   struct crossing it;
   size_t told = 0;
   cf_deadline next;
@@ -462,8 +463,8 @@ CALL(jlong, pass)(JNIEnv *env, jclass class, jlong at, jint waiting, jlong momen
 }
 
 /* What had no place. */
-CALL(jlong, more)(JNIEnv *env, jclass class, jlong at, jint who) {
-  (void)env, (void)class;
+CALL(jlong, more)(JNIEnv *env, jobject machine, jlong at, jint who) {
+  (void)env, (void)machine;
   struct crossing it;
   size_t told = 0;
   begin(&it, at);
@@ -474,8 +475,8 @@ CALL(jlong, more)(JNIEnv *env, jclass class, jlong at, jint who) {
 }
 
 /* How a stage was settled, as what is told, in the first place there; else -1. */
-CALL(jint, ask)(JNIEnv *env, jclass class, jlong at, jint stage) {
-  (void)env, (void)class;
+CALL(jint, ask)(JNIEnv *env, jobject machine, jlong at, jint stage) {
+  (void)env, (void)machine;
   struct core *core = CORE(at);
   cf_stage now;
   uint32_t code = cf_ledger_stage(&core->request, (uint16_t)stage, &now);
@@ -485,8 +486,8 @@ CALL(jint, ask)(JNIEnv *env, jclass class, jlong at, jint stage) {
 }
 
 /* How many stages for executors are ready, from a number on, and which: as many as there is place for. */
-CALL(jint, ready)(JNIEnv *env, jclass class, jlong at, jint from) {
-  (void)env, (void)class;
+CALL(jint, ready)(JNIEnv *env, jobject machine, jlong at, jint from) {
+  (void)env, (void)machine;
   struct core *core = CORE(at);
   uint16_t stage;
   jint n = 0;
@@ -527,8 +528,8 @@ CALL(void, destroy)(JNIEnv *env, jclass class, jlong at) {
   free_core(CORE(at));
 }
 
-CALL(void, since)(JNIEnv *env, jclass class, jlong at, jlong since) {
-  (void)env, (void)class;
+CALL(void, since)(JNIEnv *env, jobject machine, jlong at, jlong since) {
+  (void)env, (void)machine;
   CORE(at)->since = since ? (uint64_t)since : ticks();
 }
 
@@ -563,15 +564,15 @@ static uint32_t do_again(struct core *core, const jlong *words, jint n, const jl
 }
 
 /* A request of the plan, or of none where it is 0, in which the first n of these words are done already; behind them stand their moments. */
-CALL(jint, open)(JNIEnv *env, jclass class, jlong at, jlong plan, jint room, jlongArray kept, jint n, jlongArray executors) {
-  (void)class;
+CALL(jint, open)(JNIEnv *env, jobject machine, jlong at, jlong plan, jint room, jlongArray kept, jint n, jlongArray executors) {
+  (void)machine;
   struct core *core = CORE(at);
   if (room < 0 || room > MOST) return CF_ROOM;
-  jsize length = n ? (*env)->GetArrayLength(env, kept) : 0, bits = n && executors ? (*env)->GetArrayLength(env, executors) : 0;
+  jsize length = kept ? (*env)->GetArrayLength(env, kept) : 0, bits = executors ? (*env)->GetArrayLength(env, executors) : 0;
   if (n < 0 || n > length) return CF_NO_WORD;
   uint32_t code = open_anew(core, PLAN(plan), room);
   if (!n || code != CF_OK) return (jint)code;
-  jlong *done = (*env)->GetLongArrayElements(env, kept, NULL), *own = bits ? (*env)->GetLongArrayElements(env, executors, NULL) : NULL;
+  jlong *done = (*env)->GetLongArrayElements(env, kept, NULL), *own = done && bits ? (*env)->GetLongArrayElements(env, executors, NULL) : NULL;
   code = !done || (bits && !own) ? CF_NO_MEMORY : do_again(core, done, n, own, bits);
   if (code == CF_OK) {
     core->block.events = 0;
@@ -589,8 +590,8 @@ CALL(jint, open)(JNIEnv *env, jclass class, jlong at, jlong plan, jint room, jlo
 
 /* Opens a request of no plan for two words: one that attaches a stage whose function an executor calls, which came at that moment, and then one
  * as `apply` does it. Where it is refused, the core is of no use. */
-CALL(jlong, first)(JNIEnv *env, jclass class, jlong at, jlong attach, jlong since, jlong word, jint who) {
-  (void)env, (void)class;
+CALL(jlong, first)(JNIEnv *env, jobject machine, jlong at, jlong attach, jlong since, jlong word, jint who) {
+  (void)env, (void)machine;
   struct core *core = CORE(at);
   uint32_t code = open_anew(core, &empty, 1);
   if (code != CF_OK) return (jlong)code;
@@ -599,8 +600,8 @@ CALL(jlong, first)(JNIEnv *env, jclass class, jlong at, jlong attach, jlong sinc
 }
 
 /* The n words from a place on, and behind them the moments for which there is place. */
-CALL(jint, words)(JNIEnv *env, jclass class, jlong at, jlongArray into, jint from, jint n) {
-  (void)class;
+CALL(jint, words)(JNIEnv *env, jobject machine, jlong at, jlongArray into, jint from, jint n) {
+  (void)machine;
   struct core *core = CORE(at);
   uint64_t words[512];
   size_t left;
