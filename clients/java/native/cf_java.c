@@ -94,6 +94,8 @@ struct crossing {
 
 #define CORE(at) ((struct core *)(intptr_t)(at))
 #define PLAN(at) ((at) ? (struct plan *)(intptr_t)(at) : &empty)
+/* Each crossing has a copy of its own of these, which takes a fifth off what the binding does. */
+#define INLINE static inline __attribute__((always_inline))
 #define METHOD(type, name) JNIEXPORT type JNICALL Java_cf_service_Native_##name
 #define CALL(type, name) JNIEXPORT type JNICALL Java_cf_service_Machine_##name
 
@@ -151,7 +153,7 @@ METHOD(jdouble, nanosPerTick)(JNIEnv *env, jclass class) {
 }
 
 /* All events that have no time yet were done by then. Times never go back. Where there is no memory they get the time of those after them. */
-static inline void time_events(struct core *core, uint64_t at) {
+INLINE void time_events(struct core *core, uint64_t at) {
   if (!core->timed) return;
   for (size_t left = (size_t)core->block.events - core->timed_events, some; left > 0; left -= some, core->timed_events += some) {
     size_t n = (size_t)core->block.moments;
@@ -195,14 +197,14 @@ METHOD(jboolean, hasStack)(JNIEnv *env, jclass class) {
 }
 
 /* So many stages were to be told: they stand in the row as far as there is room. */
-static void take(struct crossing *it, size_t told) {
+INLINE void take(struct crossing *it, size_t told) {
   size_t room = TOLD - it->n;
   it->more |= told > room;
   it->n += told < room ? told : room;
 }
 
 /* One word, with room for its stage. */
-static inline uint32_t do_word(struct crossing *it, uint64_t word, uint8_t lane, cf_applied *applied) {
+INLINE uint32_t do_word(struct crossing *it, uint64_t word, uint8_t lane, cf_applied *applied) {
   struct core *core = it->core;
   uint32_t code = cf_request_apply(&core->request, word, lane, applied, it->told + it->n, TOLD - it->n);
   if (code == CF_NO_ROOM) {
@@ -217,7 +219,7 @@ static inline uint32_t do_word(struct crossing *it, uint64_t word, uint8_t lane,
 }
 
 /* The words that waited: of stages that nothing can be told of yet. A stage that is ready by its own word was handed over as it was attached. */
-static uint32_t do_waiting(struct crossing *it, jint waiting) {
+INLINE uint32_t do_waiting(struct crossing *it, jint waiting) {
   struct block *block = &it->core->block;
   bool heard = it->core->heard == (size_t)block->events;
   uint32_t code = CF_OK;
@@ -234,7 +236,7 @@ static uint32_t do_waiting(struct crossing *it, jint waiting) {
 }
 
 /* A function to be called, with the numbers of its values, or -1 for none; or the kind of its outcome, with a value or a code. */
-static inline void write_claim(struct crossing *it, uint32_t stage, const cf_args *args) {
+INLINE void write_claim(struct crossing *it, uint32_t stage, const cf_args *args) {
   struct block *block = &it->core->block;
   uint32_t kind = args->kind;
   int32_t first = args->first.kind == CF_NIL ? -1 : args->first.number, second = args->second.kind == CF_NIL ? -1 : args->second.number;
@@ -249,7 +251,7 @@ static inline void write_claim(struct crossing *it, uint32_t stage, const cf_arg
 }
 
 /* One step of a caller: finishes what the task holds, if it does, and claims the lowest stage whose function the caller calls itself. */
-static inline uint32_t step(struct crossing *it, uint8_t who, cf_task *task) {
+INLINE uint32_t step(struct crossing *it, uint8_t who, cf_task *task) {
   cf_request_step step = {who, HERE, 0};
   uint32_t held = task->held, code = cf_request_next(&it->core->request, &step, task, it->told + it->n, TOLD - it->n);
   if (code != CF_OK && code != CF_NOTHING) return code;
@@ -260,7 +262,7 @@ static inline uint32_t step(struct crossing *it, uint8_t who, cf_task *task) {
 }
 
 /* Claims all other stages whose functions the caller calls itself. What has no place or fails here is done by whoever asks for more. */
-static inline uint32_t claim_all(struct crossing *it, jint who) {
+INLINE uint32_t claim_all(struct crossing *it, jint who) {
   uint16_t left = 0;
   uint32_t code = CF_OK;
   if (who >= 0) cf_request_ready(&it->core->request, HERE, &left);
@@ -299,14 +301,14 @@ static void hear(struct crossing *it) {
 }
 
 /* 12 bits of the stage; from 16 on the outcome's kind, whether it is wrapped, whether its value is a number. */
-static void write_told(struct block *block, size_t k, uint32_t stage, const cf_outcome *outcome) {
+INLINE void write_told(struct block *block, size_t k, uint32_t stage, const cf_outcome *outcome) {
   block->told[k].what = stage | outcome->kind << 16 | outcome->wrapped << 20 | (uint32_t)(outcome->value.kind != CF_NIL) << 21;
   block->told[k].number = outcome->kind == CF_VALUE ? outcome->value.number : (int32_t)outcome->code;
 }
 
 /* The end of a crossing, in one number: 8 bits of the code; then from 8 on the answer, 12 how many are told, 20 claimed, 26 ready, and 33 whether
  * there are more of them. `finish` has one bit more. */
-static inline jlong end(struct crossing *it, uint32_t code, uint32_t answer) {
+INLINE jlong end(struct crossing *it, uint32_t code, uint32_t answer) {
   struct core *core = it->core;
   size_t left;
   if (core->settles && cf_ledger_words(&core->request, (size_t)core->block.events, NULL, 0, &left) == CF_OK)
@@ -319,7 +321,7 @@ static inline jlong end(struct crossing *it, uint32_t code, uint32_t answer) {
                  (uint64_t)it->more << 33);
 }
 
-static void begin(struct crossing *it, jlong at) {
+INLINE void begin(struct crossing *it, jlong at) {
   it->core = CORE(at), it->n = it->claimed = it->ready = 0, it->more = false;
 }
 
@@ -334,7 +336,7 @@ static void write_args(int32_t *to, const cf_args *args) {
 
 /* Does the words that wait, and then this one, if it isn't 0. Where `who` isn't negative, it claims for that caller: the stage that the word
  * claims, or else all that are ready for whoever made them ready. */
-static jlong apply(jlong at, jint waiting, jlong word, jint lane, jint who) {
+INLINE jlong apply(jlong at, jint waiting, jlong word, jint lane, jint who) {
   struct crossing it;
   cf_applied did = {0};
   begin(&it, at);
@@ -355,7 +357,7 @@ CALL(jlong, apply)(JNIEnv *env, jobject machine, jlong at, jint waiting, jlong w
 }
 
 /* The words, and behind them their moments, where words wait, if they are so few that Java reads them faster than it asks for them. */
-static bool write_words(struct core *core) {
+INLINE bool write_words(struct core *core) {
   struct block *block = &core->block;
   size_t events = (size_t)block->events, moments = (size_t)block->moments, left = 0;
   if (events + moments > FEW || cf_ledger_words(&core->request, 0, block->words, events, &left) != CF_OK || left != events) return false;
@@ -534,7 +536,7 @@ CALL(void, since)(JNIEnv *env, jobject machine, jlong at, jlong since) {
 }
 
 /* Of a plan, as at its start. */
-static uint32_t open_anew(struct core *core, struct plan *plan, jint room) {
+INLINE uint32_t open_anew(struct core *core, struct plan *plan, jint room) {
   core->block.moments = core->block.events = 0, core->timed_events = 0;
   core->heard = core->within = 0, core->settles = false;
   core->has_executors = plan->has_executors;
