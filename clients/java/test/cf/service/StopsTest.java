@@ -25,8 +25,8 @@ import com.sun.jdi.request.StepRequest;
 import java.nio.charset.StandardCharsets;
 import java.nio.file.Files;
 import java.nio.file.Path;
-import java.util.ArrayList;
 import java.util.Arrays;
+import java.util.Iterator;
 import java.util.LinkedHashSet;
 import java.util.List;
 import java.util.Map;
@@ -64,7 +64,7 @@ public final class StopsTest {
             } catch (Error | RuntimeException unusable) {
                 // It may be, but what is freed is left alone.
             }
-            if (stopped % 4 == 0) {
+            if (stopped % 8 == 0) {
                 System.gc(); // Cores that were lost are found by those who come next.
             }
         }
@@ -139,84 +139,81 @@ public final class StopsTest {
         }
     }
 
-    private static final List<String> WHERE = Arrays.asList("cf.service.Machine", "cf.service.Machine$Core", "cf.service.Machine$Core$Outside",
-            "cf.service.Machine$Pool", "cf.service.Freed");
+    /** Where cores are handled: all of these classes, and these methods of a machine. */
+    private static final List<String> CLASSES = Arrays.asList("cf.service.Machine$Core", "cf.service.Machine$Core$Outside", "cf.service.Machine$Pool",
+            "cf.service.Freed"), METHODS = Arrays.asList("<init>", "core", "taken", "open", "first", "over", "rest", "rests", "restsUnasked");
 
     private final Set<Location> places = new LinkedHashSet<>();
-    private List<Location> left;
+    private Iterator<Location> left;
+    private BreakpointRequest next;
+    private ObjectReference death;
     private int stops;
 
     /** Steps through it once, to see where it comes by, and then has it stopped at each of these places. */
-    private int lead(VirtualMachine led) throws InterruptedException {
+    private int lead(VirtualMachine led) throws Exception {
         ClassPrepareRequest loads = led.eventRequestManager().createClassPrepareRequest();
         loads.addClassFilter(StopsTest.class.getName());
         loads.enable();
         led.resume();
         for (boolean goesOn = true; goesOn;) {
             EventSet events = led.eventQueue().remove();
-            for (Event each : events) {
-                goesOn &= !(each instanceof VMDeathEvent || each instanceof VMDisconnectEvent);
-                try {
+            try {
+                for (Event each : events) {
+                    goesOn &= !(each instanceof VMDeathEvent || each instanceof VMDisconnectEvent);
                     heard(led, each);
-                } catch (VMDisconnectedException gone) {
-                    goesOn = false;
                 }
-            }
-            if (goesOn) {
                 events.resume();
+            } catch (VMDisconnectedException gone) {
+                goesOn = false;
             }
         }
         return stops;
     }
 
-    private void heard(VirtualMachine led, Event event) {
+    private void heard(VirtualMachine led, Event event) throws Exception {
         if (event instanceof ClassPrepareEvent) {
-            ClassType loaded = (ClassType) ((ClassPrepareEvent) event).referenceType();
-            led.eventRequestManager().createBreakpointRequest(loaded.methodsByName("uses").get(0).location()).enable();
+            ClassType own = (ClassType) ((ClassPrepareEvent) event).referenceType();
+            led.eventRequestManager().createBreakpointRequest(own.methodsByName("uses").get(0).location()).enable();
         } else if (event instanceof StepEvent) {
-            Location at = ((StepEvent) event).location();
-            if (at.method().name().equals("main")) {
-                left = new ArrayList<>(places);
-                event.request().disable();
-            } else if (WHERE.contains(at.declaringType().name())) {
-                places.add(at);
-            }
+            stepped(event.request(), ((StepEvent) event).location());
         } else if (event instanceof BreakpointEvent) {
             ThreadReference thread = ((BreakpointEvent) event).thread();
-            Location at = ((BreakpointEvent) event).location();
-            if (!at.method().name().equals("uses")) {
-                event.request().disable();
+            if (event.request() == next) {
                 stops++;
-                stop(thread, (ClassType) led.classesByName(StopsTest.class.getName()).get(0));
-            } else if (left == null) {
+                thread.stop(death);
+            } else if (left != null) {
+                next(led, (ClassType) ((BreakpointEvent) event).location().declaringType());
+            } else if (death == null) {
+                ClassType own = (ClassType) ((BreakpointEvent) event).location().declaringType();
+                death = (ObjectReference) own.getValue(own.fieldByName("DEATH"));
                 StepRequest steps = led.eventRequestManager().createStepRequest(thread, StepRequest.STEP_MIN, StepRequest.STEP_INTO);
                 steps.addClassFilter("cf.service.*");
                 steps.enable();
-            } else {
-                next(led, (ClassType) at.declaringType());
             }
         }
     }
 
-    private void next(VirtualMachine led, ClassType own) {
-        if (left.isEmpty()) {
-            try {
-                own.setValue(own.fieldByName("over"), led.mirrorOf(true));
-            } catch (com.sun.jdi.InvalidTypeException | com.sun.jdi.ClassNotLoadedException impossible) {
-                throw new AssertionError(impossible);
-            }
-            return;
+    private void stepped(EventRequest steps, Location place) {
+        String type = place.declaringType().name(), method = place.method().name();
+        if (CLASSES.contains(type) || type.equals("cf.service.Machine") && METHODS.contains(method)) {
+            places.add(place);
+        } else if (method.equals("main")) {
+            steps.disable();
+            left = places.iterator();
         }
-        BreakpointRequest place = led.eventRequestManager().createBreakpointRequest(left.remove(0));
-        place.setSuspendPolicy(EventRequest.SUSPEND_ALL);
-        place.enable();
     }
 
-    private static void stop(ThreadReference thread, ClassType own) {
-        try {
-            thread.stop((ObjectReference) own.getValue(own.fieldByName("DEATH")));
-        } catch (com.sun.jdi.InvalidTypeException impossible) {
-            throw new AssertionError(impossible);
+    /** Has the thread come by the next place, where it is stopped once. */
+    private void next(VirtualMachine led, ClassType own) throws Exception {
+        if (next != null && next.isEnabled()) {
+            next.disable(); // It didn't come by.
+        }
+        if (left.hasNext()) {
+            next = led.eventRequestManager().createBreakpointRequest(left.next());
+            next.addCountFilter(1);
+            next.enable();
+        } else {
+            own.setValue(own.fieldByName("over"), led.mirrorOf(true));
         }
     }
 }
