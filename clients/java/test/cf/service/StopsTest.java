@@ -61,8 +61,8 @@ public final class StopsTest {
             }
             try {
                 broken.apply(Words.complete(WHO, 0, 4), WHO);
-            } catch (Error | RuntimeException unusable) {
-                // It may be, but what is freed is left alone.
+            } catch (Error | RuntimeException unusable) { // It may be, but what is freed is left alone.
+                stopped += unusable == DEATH ? 1 : 0;
             }
             if (stopped % 8 == 0) {
                 System.gc(); // Cores that were lost are found by those who come next.
@@ -118,6 +118,7 @@ public final class StopsTest {
                 .filter(each -> each.name().equals("com.sun.jdi.SocketListen")).findFirst().get();
         Map<String, Connector.Argument> arguments = listens.defaultArguments();
         arguments.get("localAddress").setValue("127.0.0.1");
+        arguments.get("timeout").setValue("60000");
         String address = listens.startListening(arguments);
         ProcessBuilder led = new ProcessBuilder(System.getProperty("java.home") + "/bin/java", "-Xint", "-Xmx16m", "-XX:+UseSerialGC", "-Dcf.kept=1",
                 "-agentlib:jdwp=transport=dt_socket,suspend=y,address=" + address, "-cp", System.getProperty("java.class.path"),
