@@ -135,9 +135,7 @@ final class Machine {
                 try {
                     core = gone instanceof Outside && ((Outside) gone).isOf(pool) ? new Core((Outside) gone) : null;
                 } finally {
-                    if (core == null) {
-                        gone.run();
-                    }
+                    gone.run(); // It has nothing where it was handed over.
                 }
                 if (core != null) {
                     return core;
