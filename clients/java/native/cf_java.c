@@ -9,7 +9,8 @@
  *     history and its plan stand in the one call that has them;
  *   - one call at a time has a handle: a core's by its request's lock (Machine.java), a plan's by the lock beside it, since threads open
  *     requests of one plan at once. Both locks order what different threads do, and so does the atomic by which Machine's pool hands a core on;
- *   - nothing is freed while it is used, or twice: who calls keeps the core's owner reachable, and Freed.java frees what can't be reached, once;
+ *   - nothing is freed while it is used, or twice: a call is one of the core's machine, which keeps the core and its plan reachable meanwhile, and
+ *     Freed.java frees what can't be reached, once;
  *   - pointers are aligned, and to as many elements as said: they are to variables and to the core's own memory. Arrays of Java's are read
  *     within their bounds, whatever numbers are told beside them;
  *   - malloc and free are those of the one C library; no call is made by a handler of signals, and the children that a JVM forks run no Java.
@@ -93,6 +94,8 @@ struct crossing {
 
 #define CORE(at) ((struct core *)(intptr_t)(at))
 #define PLAN(at) ((at) ? (struct plan *)(intptr_t)(at) : &empty)
+/* Each crossing has a copy of its own of these, which takes a fifth off what the binding does. */
+#define INLINE static inline __attribute__((always_inline))
 #define METHOD(type, name) JNIEXPORT type JNICALL Java_cf_service_Native_##name
 #define CALL(type, name) JNIEXPORT type JNICALL Java_cf_service_Machine_##name
 
@@ -150,7 +153,7 @@ METHOD(jdouble, nanosPerTick)(JNIEnv *env, jclass class) {
 }
 
 /* All events that have no time yet were done by then. Times never go back. Where there is no memory they get the time of those after them. */
-static inline void time_events(struct core *core, uint64_t at) {
+INLINE void time_events(struct core *core, uint64_t at) {
   if (!core->timed) return;
   for (size_t left = (size_t)core->block.events - core->timed_events, some; left > 0; left -= some, core->timed_events += some) {
     size_t n = (size_t)core->block.moments;
@@ -194,14 +197,14 @@ METHOD(jboolean, hasStack)(JNIEnv *env, jclass class) {
 }
 
 /* So many stages were to be told: they stand in the row as far as there is room. */
-static void take(struct crossing *it, size_t told) {
+INLINE void take(struct crossing *it, size_t told) {
   size_t room = TOLD - it->n;
   it->more |= told > room;
   it->n += told < room ? told : room;
 }
 
 /* One word, with room for its stage. */
-static inline uint32_t do_word(struct crossing *it, uint64_t word, uint8_t lane, cf_applied *applied) {
+INLINE uint32_t do_word(struct crossing *it, uint64_t word, uint8_t lane, cf_applied *applied) {
   struct core *core = it->core;
   uint32_t code = cf_request_apply(&core->request, word, lane, applied, it->told + it->n, TOLD - it->n);
   if (code == CF_NO_ROOM) {
@@ -216,7 +219,7 @@ static inline uint32_t do_word(struct crossing *it, uint64_t word, uint8_t lane,
 }
 
 /* The words that waited: of stages that nothing can be told of yet. A stage that is ready by its own word was handed over as it was attached. */
-static uint32_t do_waiting(struct crossing *it, jint waiting) {
+INLINE uint32_t do_waiting(struct crossing *it, jint waiting) {
   struct block *block = &it->core->block;
   bool heard = it->core->heard == (size_t)block->events;
   uint32_t code = CF_OK;
@@ -233,7 +236,7 @@ static uint32_t do_waiting(struct crossing *it, jint waiting) {
 }
 
 /* A function to be called, with the numbers of its values, or -1 for none; or the kind of its outcome, with a value or a code. */
-static inline void write_claim(struct crossing *it, uint32_t stage, const cf_args *args) {
+INLINE void write_claim(struct crossing *it, uint32_t stage, const cf_args *args) {
   struct block *block = &it->core->block;
   uint32_t kind = args->kind;
   int32_t first = args->first.kind == CF_NIL ? -1 : args->first.number, second = args->second.kind == CF_NIL ? -1 : args->second.number;
@@ -248,7 +251,7 @@ static inline void write_claim(struct crossing *it, uint32_t stage, const cf_arg
 }
 
 /* One step of a caller: finishes what the task holds, if it does, and claims the lowest stage whose function the caller calls itself. */
-static inline uint32_t step(struct crossing *it, uint8_t who, cf_task *task) {
+INLINE uint32_t step(struct crossing *it, uint8_t who, cf_task *task) {
   cf_request_step step = {who, HERE, 0};
   uint32_t held = task->held, code = cf_request_next(&it->core->request, &step, task, it->told + it->n, TOLD - it->n);
   if (code != CF_OK && code != CF_NOTHING) return code;
@@ -259,7 +262,7 @@ static inline uint32_t step(struct crossing *it, uint8_t who, cf_task *task) {
 }
 
 /* Claims all other stages whose functions the caller calls itself. What has no place or fails here is done by whoever asks for more. */
-static inline uint32_t claim_all(struct crossing *it, jint who) {
+INLINE uint32_t claim_all(struct crossing *it, jint who) {
   uint16_t left = 0;
   uint32_t code = CF_OK;
   if (who >= 0) cf_request_ready(&it->core->request, HERE, &left);
@@ -298,14 +301,14 @@ static void hear(struct crossing *it) {
 }
 
 /* 12 bits of the stage; from 16 on the outcome's kind, whether it is wrapped, whether its value is a number. */
-static void write_told(struct block *block, size_t k, uint32_t stage, const cf_outcome *outcome) {
+INLINE void write_told(struct block *block, size_t k, uint32_t stage, const cf_outcome *outcome) {
   block->told[k].what = stage | outcome->kind << 16 | outcome->wrapped << 20 | (uint32_t)(outcome->value.kind != CF_NIL) << 21;
   block->told[k].number = outcome->kind == CF_VALUE ? outcome->value.number : (int32_t)outcome->code;
 }
 
 /* The end of a crossing, in one number: 8 bits of the code; then from 8 on the answer, 12 how many are told, 20 claimed, 26 ready, and 33 whether
  * there are more of them. `finish` has one bit more. */
-static inline jlong end(struct crossing *it, uint32_t code, uint32_t answer) {
+INLINE jlong end(struct crossing *it, uint32_t code, uint32_t answer) {
   struct core *core = it->core;
   size_t left;
   if (core->settles && cf_ledger_words(&core->request, (size_t)core->block.events, NULL, 0, &left) == CF_OK)
@@ -318,7 +321,7 @@ static inline jlong end(struct crossing *it, uint32_t code, uint32_t answer) {
                  (uint64_t)it->more << 33);
 }
 
-static void begin(struct crossing *it, jlong at) {
+INLINE void begin(struct crossing *it, jlong at) {
   it->core = CORE(at), it->n = it->claimed = it->ready = 0, it->more = false;
 }
 
@@ -333,7 +336,7 @@ static void write_args(int32_t *to, const cf_args *args) {
 
 /* Does the words that wait, and then this one, if it isn't 0. Where `who` isn't negative, it claims for that caller: the stage that the word
  * claims, or else all that are ready for whoever made them ready. */
-static jlong apply(jlong at, jint waiting, jlong word, jint lane, jint who) {
+INLINE jlong apply(jlong at, jint waiting, jlong word, jint lane, jint who) {
   struct crossing it;
   cf_applied did = {0};
   begin(&it, at);
@@ -348,13 +351,13 @@ static jlong apply(jlong at, jint waiting, jlong word, jint lane, jint who) {
   return end(&it, code, did.reply.answer);
 }
 
-CALL(jlong, apply)(JNIEnv *env, jclass class, jlong at, jint waiting, jlong word, jint lane, jint who) {
-  (void)env, (void)class;
+CALL(jlong, apply)(JNIEnv *env, jobject machine, jlong at, jint waiting, jlong word, jint lane, jint who) {
+  (void)env, (void)machine;
   return apply(at, waiting, word, lane, who);
 }
 
 /* The words, and behind them their moments, where words wait, if they are so few that Java reads them faster than it asks for them. */
-static bool write_words(struct core *core) {
+INLINE bool write_words(struct core *core) {
   struct block *block = &core->block;
   size_t events = (size_t)block->events, moments = (size_t)block->moments, left = 0;
   if (events + moments > FEW || cf_ledger_words(&core->request, 0, block->words, events, &left) != CF_OK || left != events) return false;
@@ -375,8 +378,8 @@ static uint32_t finish_late(struct crossing *it, uint8_t who, cf_task *task) {
 
 /* Finishes a stage that the caller has claimed, by a value's number, -1 for null, or by an exception's code. Then it claims as `apply` does.
  * Where this is the last finish, it also brings the words, if they are few: bit 34 of the reply says so. */
-CALL(jlong, finish)(JNIEnv *env, jclass class, jlong at, jint waiting, jint stage, jboolean throws, jint number, jint who, jboolean last) {
-  (void)env, (void)class;
+CALL(jlong, finish)(JNIEnv *env, jobject machine, jlong at, jint waiting, jint stage, jboolean throws, jint number, jint who, jboolean last) {
+  (void)env, (void)machine;
   struct crossing it;
   begin(&it, at);
   cf_task task = {.held = 1, .stage = (uint16_t)stage};
@@ -391,8 +394,8 @@ CALL(jlong, finish)(JNIEnv *env, jclass class, jlong at, jint waiting, jint stag
 }
 
 /* Finishes a stage by this word, which links it to a relay, unless it is 0. If that was in time, the relay follows a stage from now on. */
-CALL(jlong, link)(JNIEnv *env, jclass class, jlong at, jint waiting, jlong word, jint relay, jint stage, jint who) {
-  (void)env, (void)class;
+CALL(jlong, link)(JNIEnv *env, jobject machine, jlong at, jint waiting, jlong word, jint relay, jint stage, jint who) {
+  (void)env, (void)machine;
   struct crossing it;
   cf_applied did = {0};
   size_t told = 0;
@@ -410,8 +413,8 @@ CALL(jlong, link)(JNIEnv *env, jclass class, jlong at, jint waiting, jlong word,
 }
 
 /* Does the words that wait, and attaches stages of this form that wait for all of these stages, or for one of them: no function is ready then. */
-CALL(jlong, gather)(JNIEnv *env, jclass class, jlong at, jint waiting, jint form, jshortArray sources, jint who) {
-  (void)class;
+CALL(jlong, gather)(JNIEnv *env, jobject machine, jlong at, jint waiting, jint form, jshortArray sources, jint who) {
+  (void)machine;
   struct crossing it;
   cf_request_gathering step = {.who = (uint8_t)who, .form = (uint32_t)form};
   begin(&it, at);
@@ -433,8 +436,8 @@ CALL(jlong, gather)(JNIEnv *env, jclass class, jlong at, jint waiting, jint form
 }
 
 /* Does the words that wait, and sets a deadline of a stage: it times out then, or gets the value of this number, -1 for null. */
-CALL(jlong, deadline)(JNIEnv *env, jclass class, jlong at, jint waiting, jint stage, jlong moment, jboolean gives, jint number) {
-  (void)env, (void)class;
+CALL(jlong, deadline)(JNIEnv *env, jobject machine, jlong at, jint waiting, jint stage, jlong moment, jboolean gives, jint number) {
+  (void)env, (void)machine;
   struct crossing it;
   cf_value value = {number < 0 ? CF_NIL : CF_INT, number < 0 ? 0 : number};
   begin(&it, at);
@@ -445,8 +448,8 @@ CALL(jlong, deadline)(JNIEnv *env, jclass class, jlong at, jint waiting, jint st
 }
 
 /* Lets time pass up to a moment, and tells that of the next deadline. */
-CALL(jlong, pass)(JNIEnv *env, jclass class, jlong at, jint waiting, jlong moment, jint who) {
-  (void)env, (void)class;
+CALL(jlong, pass)(JNIEnv *env, jobject machine, jlong at, jint waiting, jlong moment, jint who) {
+  (void)env, (void)machine;
   struct crossing it;
   size_t told = 0;
   cf_deadline next;
@@ -462,8 +465,8 @@ CALL(jlong, pass)(JNIEnv *env, jclass class, jlong at, jint waiting, jlong momen
 }
 
 /* What had no place. */
-CALL(jlong, more)(JNIEnv *env, jclass class, jlong at, jint who) {
-  (void)env, (void)class;
+CALL(jlong, more)(JNIEnv *env, jobject machine, jlong at, jint who) {
+  (void)env, (void)machine;
   struct crossing it;
   size_t told = 0;
   begin(&it, at);
@@ -474,8 +477,8 @@ CALL(jlong, more)(JNIEnv *env, jclass class, jlong at, jint who) {
 }
 
 /* How a stage was settled, as what is told, in the first place there; else -1. */
-CALL(jint, ask)(JNIEnv *env, jclass class, jlong at, jint stage) {
-  (void)env, (void)class;
+CALL(jint, ask)(JNIEnv *env, jobject machine, jlong at, jint stage) {
+  (void)env, (void)machine;
   struct core *core = CORE(at);
   cf_stage now;
   uint32_t code = cf_ledger_stage(&core->request, (uint16_t)stage, &now);
@@ -485,8 +488,8 @@ CALL(jint, ask)(JNIEnv *env, jclass class, jlong at, jint stage) {
 }
 
 /* How many stages for executors are ready, from a number on, and which: as many as there is place for. */
-CALL(jint, ready)(JNIEnv *env, jclass class, jlong at, jint from) {
-  (void)env, (void)class;
+CALL(jint, ready)(JNIEnv *env, jobject machine, jlong at, jint from) {
+  (void)env, (void)machine;
   struct core *core = CORE(at);
   uint16_t stage;
   jint n = 0;
@@ -527,13 +530,13 @@ CALL(void, destroy)(JNIEnv *env, jclass class, jlong at) {
   free_core(CORE(at));
 }
 
-CALL(void, since)(JNIEnv *env, jclass class, jlong at, jlong since) {
-  (void)env, (void)class;
+CALL(void, since)(JNIEnv *env, jobject machine, jlong at, jlong since) {
+  (void)env, (void)machine;
   CORE(at)->since = since ? (uint64_t)since : ticks();
 }
 
 /* Of a plan, as at its start. */
-static uint32_t open_anew(struct core *core, struct plan *plan, jint room) {
+INLINE uint32_t open_anew(struct core *core, struct plan *plan, jint room) {
   core->block.moments = core->block.events = 0, core->timed_events = 0;
   core->heard = core->within = 0, core->settles = false;
   core->has_executors = plan->has_executors;
@@ -563,15 +566,15 @@ static uint32_t do_again(struct core *core, const jlong *words, jint n, const jl
 }
 
 /* A request of the plan, or of none where it is 0, in which the first n of these words are done already; behind them stand their moments. */
-CALL(jint, open)(JNIEnv *env, jclass class, jlong at, jlong plan, jint room, jlongArray kept, jint n, jlongArray executors) {
-  (void)class;
+CALL(jint, open)(JNIEnv *env, jobject machine, jlong at, jlong plan, jint room, jlongArray kept, jint n, jlongArray executors) {
+  (void)machine;
   struct core *core = CORE(at);
   if (room < 0 || room > MOST) return CF_ROOM;
-  jsize length = n ? (*env)->GetArrayLength(env, kept) : 0, bits = n && executors ? (*env)->GetArrayLength(env, executors) : 0;
+  jsize length = kept ? (*env)->GetArrayLength(env, kept) : 0, bits = executors ? (*env)->GetArrayLength(env, executors) : 0;
   if (n < 0 || n > length) return CF_NO_WORD;
   uint32_t code = open_anew(core, PLAN(plan), room);
   if (!n || code != CF_OK) return (jint)code;
-  jlong *done = (*env)->GetLongArrayElements(env, kept, NULL), *own = bits ? (*env)->GetLongArrayElements(env, executors, NULL) : NULL;
+  jlong *done = (*env)->GetLongArrayElements(env, kept, NULL), *own = done && bits ? (*env)->GetLongArrayElements(env, executors, NULL) : NULL;
   code = !done || (bits && !own) ? CF_NO_MEMORY : do_again(core, done, n, own, bits);
   if (code == CF_OK) {
     core->block.events = 0;
@@ -589,8 +592,8 @@ CALL(jint, open)(JNIEnv *env, jclass class, jlong at, jlong plan, jint room, jlo
 
 /* Opens a request of no plan for two words: one that attaches a stage whose function an executor calls, which came at that moment, and then one
  * as `apply` does it. Where it is refused, the core is of no use. */
-CALL(jlong, first)(JNIEnv *env, jclass class, jlong at, jlong attach, jlong since, jlong word, jint who) {
-  (void)env, (void)class;
+CALL(jlong, first)(JNIEnv *env, jobject machine, jlong at, jlong attach, jlong since, jlong word, jint who) {
+  (void)env, (void)machine;
   struct core *core = CORE(at);
   uint32_t code = open_anew(core, &empty, 1);
   if (code != CF_OK) return (jlong)code;
@@ -599,8 +602,8 @@ CALL(jlong, first)(JNIEnv *env, jclass class, jlong at, jlong attach, jlong sinc
 }
 
 /* The n words from a place on, and behind them the moments for which there is place. */
-CALL(jint, words)(JNIEnv *env, jclass class, jlong at, jlongArray into, jint from, jint n) {
-  (void)class;
+CALL(jint, words)(JNIEnv *env, jobject machine, jlong at, jlongArray into, jint from, jint n) {
+  (void)machine;
   struct core *core = CORE(at);
   uint64_t words[512];
   size_t left;

@@ -61,7 +61,7 @@ final class Machine {
     private int waiting;
     /** The reply to the last call, as native/cf_java.c packs it; before it is opened, the word that waits then, and since when. */
     private long reply, since;
-    /** The words and their moments, where the core was given back, and a bit for each stage whose function an executor calls. */
+    /** The words and their moments, which count where there is no core, and a bit for each stage whose function an executor calls. */
     private long[] kept, executors = NONE;
     private int keptWords;
     /** What sets again what isn't in the words. */
@@ -77,7 +77,7 @@ final class Machine {
     static final class Core {
         final long at;
         final ByteBuffer memory;
-        private final Freed freed;
+        final Freed freed;
 
         /** What outlives a core that nobody can reach; it is told of at first, so that a core that fails to be made is freed, too. */
         private static final class Outside implements Runnable {
@@ -90,24 +90,18 @@ final class Machine {
                 this.pool = pool;
             }
 
-            /** Whether it is a whole core of that plan. */
+            /** Whether it has a whole core of that plan. */
             boolean isOf(Pool pool) {
-                return memory != null && this.pool == pool.self;
-            }
-
-            /** Hands over its memory. Where a thread is stopped in between, neither one has it, rather than both. */
-            private long given() {
-                long given = at;
-                at = 0;
-                return given;
+                return at != 0 && memory != null && this.pool == pool.self;
             }
 
             @Override
             public void run() {
-                long given = given();
-                if (given != 0) {
+                long freed = at;
+                at = 0;
+                if (freed != 0) {
                     LIVE.getAndDecrement();
-                    destroy(given);
+                    destroy(freed);
                 }
             }
         }
@@ -128,7 +122,9 @@ final class Machine {
             Outside outside = new Outside(lost.pool);
             freed = new Freed(this, outside);
             memory = outside.memory = lost.memory;
-            at = outside.at = lost.given();
+            long handed = lost.at;
+            lost.at = 0; // Where a thread is stopped here, neither one has it, rather than both.
+            at = outside.at = handed;
         }
 
         /** One of this plan that nobody can reach, or a new one. Some of what else can't be reached is freed meanwhile. */
@@ -139,9 +135,7 @@ final class Machine {
                 try {
                     core = gone instanceof Outside && ((Outside) gone).isOf(pool) ? new Core((Outside) gone) : null;
                 } finally {
-                    if (core == null) {
-                        gone.run();
-                    }
+                    gone.run(); // It has nothing where it was handed over.
                 }
                 if (core != null) {
                     return core;
@@ -284,21 +278,20 @@ final class Machine {
     /** Has a core again, if it was given back, in which all is as it was. */
     private Core core() {
         if (core == null) {
-            long[] words = kept;
-            cameBack = words != null;
+            cameBack = kept != null;
             open(stages - planned());
             if (again != null) {
                 try {
                     again.run();
                 } catch (Throwable refused) {
                     Core half = core;
-                    core = null;
-                    kept = words;
+                    core = null; // Nobody uses it once it is freed, wherever this thread is stopped.
                     half.freed.now();
                     throw refused;
                 }
                 again = null;
             }
+            kept = null;
         }
         return core;
     }
@@ -326,14 +319,15 @@ final class Machine {
             core.freed.now();
             throw refusal(code);
         }
-        this.core = core;
-        if (isUnopened()) {
+        boolean waits = isUnopened();
+        if (waits) {
             core.memory.putLong(WORDS, reply);
             core.memory.put(LANES, (byte) BY_EXECUTOR);
-            waiting = 1;
             since(core.at, since);
         }
-        kept = null;
+        // No method is called from here on, so that a stack that is at its end can't leave half of it.
+        this.core = core;
+        waiting = waits ? 1 : 0;
         reply = 0; // What that brought was of the core before.
     }
 
@@ -602,7 +596,7 @@ final class Machine {
 
     /** The words, and behind them the moments: of each its ticks, in 56 bits, and how many events were done since the one before it. */
     long[] kept() {
-        if (kept != null) {
+        if (core == null && kept != null) {
             return kept;
         }
         core();
@@ -711,33 +705,34 @@ final class Machine {
         }
     }
 
-    // The methods of native/cf_java.c. One thread at a time has a core, whose lock it holds.
+    // The methods of native/cf_java.c. One thread at a time has a core, whose lock it holds. Those that use a core are called on its machine, so
+    // that neither core nor plan is unreachable meanwhile, whatever a compiler makes of the caller.
 
     /**
      * Does the words in the memory that wait, so many, and then one more, if it isn't 0. Then it claims for the caller {@code who}, if that
      * isn't negative: the stage that the word claims, or else all that are ready for whoever made them ready. The reply is one number.
      */
-    static native long apply(long core, int waiting, long word, int lane, int who);
+    native long apply(long core, int waiting, long word, int lane, int who);
 
     /** Where it is the last finish, it also brings the words: the reply's bit 34 says whether they stand where words wait, with their moments. */
-    static native long finish(long core, int waiting, int stage, boolean isThrown, int number, int who, boolean last);
+    native long finish(long core, int waiting, int stage, boolean isThrown, int number, int who, boolean last);
 
-    static native long gather(long core, int waiting, int form, short[] sources, int who);
+    native long gather(long core, int waiting, int form, short[] sources, int who);
 
-    static native long link(long core, int waiting, long word, int relay, int stage, int who);
+    native long link(long core, int waiting, long word, int relay, int stage, int who);
 
-    static native long deadline(long core, int waiting, int stage, long moment, boolean gives, int number);
+    native long deadline(long core, int waiting, int stage, long moment, boolean gives, int number);
 
-    static native long pass(long core, int waiting, long moment, int who);
+    native long pass(long core, int waiting, long moment, int who);
 
-    static native long more(long core, int who);
+    native long more(long core, int who);
 
-    static native int ask(long core, int stage);
+    native int ask(long core, int stage);
 
-    static native int ready(long core, int from);
+    native int ready(long core, int from);
 
     /** This is when the first word came that waits: these ticks, or now. */
-    static native void since(long core, long ticks);
+    native void since(long core, long ticks);
 
     /** A core without a request, or 0. */
     static native long create(boolean timed);
@@ -747,11 +742,11 @@ final class Machine {
     static native void destroy(long core);
 
     /** A request of a plan, 0 for the one without stages, with room, in which the first n of these words are done, with their moments. */
-    static native int open(long core, long plan, int room, long[] kept, int n, long[] executors);
+    native int open(long core, long plan, int room, long[] kept, int n, long[] executors);
 
     /** A request of no plan, of which the first word attaches an executor's stage and came at that moment, and then this one is done as above. */
-    static native long first(long core, long attach, long since, long word, int who);
+    native long first(long core, long attach, long since, long word, int who);
 
     /** The n words from a place on, and behind them the moments for which there is place. */
-    static native int words(long core, long[] into, int from, int n);
+    native int words(long core, long[] into, int from, int n);
 }

@@ -191,7 +191,7 @@ public final class Request implements AutoCloseable {
         this.describe = describe;
         within = service.captured();
         machine = new Machine(flow == null ? null : flow.plan(), room);
-        values = flow != null ? new Object[Math.max(flow.count(), 1)] : NO_VALUES;
+        values = flow != null ? new Object[flow.count()] : NO_VALUES;
         stages = flow == null && room > 0 ? new Stage<?>[room] : NO_STAGES;
         if (watch != null) {
             watch.opened(this);

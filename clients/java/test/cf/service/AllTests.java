@@ -118,6 +118,7 @@ public final class AllTests {
         test("a named library in several class loaders", LoaderTest::named);
         test("no library", LoaderTest::missing);
         test("hostile code", HostileTest::survived);
+        test("threads that are stopped anywhere", StopsTest::everywhere);
         test("virtual threads", FunctionsTest::virtualThreads);
         test("what can't be reached", FreeingTest::unreachable);
         test("requests that are over", FreeingTest::over);

@@ -28,9 +28,12 @@ final class LoaderTest {
             Service service = new Service(Runnable::run);
             Flow flow = new Flow("loaded");
             Flow.Step<Integer> first = flow.promise(), last = first.thenApply(x -> x + 1);
+            List<Request> open = new ArrayList<>();
             int sum = 0;
             for (int k = 0; k < requests; k++) {
                 Request request = service.request("loaded");
+                request.promise(); // So it is never over, and keeps its core.
+                open.add(request);
                 Stage<Integer> stage = request.completedFuture(1).thenApply(x -> x + 1);
                 if (timers) {
                     stage = request.<Integer>promise().completeOnTimeout(2, 1, TimeUnit.MILLISECONDS);

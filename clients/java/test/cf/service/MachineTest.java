@@ -176,7 +176,7 @@ final class MachineTest {
         thrown(AssertionError.class, machine::flush);
         is(machine.events(), 4);
         // The source of the second one, which wasn't there.
-        is(Machine.apply(core.at, 0, source(), Machine.HERE, Machine.NOBODY) & 0xff, (long) Native.OK);
+        is(machine.apply(core.at, 0, source(), Machine.HERE, Machine.NOBODY) & 0xff, (long) Native.OK);
         machine.apply(Words.complete(WHO, 0, 7), WHO);
         is(machine.ready() + " " + machine.ready(0) + " " + machine.claimed() + " " + machine.claimed(0), "1 3 1 4");
         is(machine.events(), 7);
@@ -220,45 +220,48 @@ final class MachineTest {
         wide[1] = -1;
         wide[2] = 5000;
         is(Native.plan(wide) < 0, true);
+        Machine machine = new Machine(null, 8);
         long core = Machine.create(true);
         for (int room : new int[] {-1, 4097, 65536 + 32, Integer.MAX_VALUE, Integer.MIN_VALUE}) {
-            is(Machine.open(core, 0, room, null, 0, null) != Native.OK, true);
+            is(machine.open(core, 0, room, null, 0, null) != Native.OK, true);
         }
         for (int n : new int[] {-1, 2, Integer.MAX_VALUE, Integer.MIN_VALUE}) {
-            is(Machine.open(core, 0, 8, new long[1], n, null) != Native.OK, true);
+            is(machine.open(core, 0, 8, new long[1], n, null) != Native.OK, true);
+            is(machine.open(core, 0, 8, null, n, null) != Native.OK, true);
         }
-        is(Machine.open(core, 0, 8, new long[] {-1}, 1, null) != Native.OK, true);
-        is(Machine.open(core, 0, 8, new long[] {source(), 5, 1}, 1, new long[0]), Native.OK);
+        is(machine.open(core, 0, 8, new long[] {-1}, 1, null) != Native.OK, true);
+        is(machine.open(core, 0, 8, new long[] {source(), 5, 1}, 1, new long[0]), Native.OK);
         for (int waiting : new int[] {-1, 65, Integer.MAX_VALUE, Integer.MIN_VALUE}) {
-            is(Machine.apply(core, waiting, source(), 0, WHO) & 0xff, 26L);
+            is(machine.apply(core, waiting, source(), 0, WHO) & 0xff, 26L);
         }
         for (int stage : new int[] {-1, 1, 4096, Integer.MAX_VALUE}) {
-            is(Machine.ask(core, stage) != Native.OK, true);
-            is((Machine.deadline(core, 0, stage, 5, false, 0) & 0xff) != Native.OK, true);
-            is((Machine.finish(core, 0, stage, false, 0, WHO, true) & 0xff) != Native.OK, true);
+            is(machine.ask(core, stage) != Native.OK, true);
+            is((machine.deadline(core, 0, stage, 5, false, 0) & 0xff) != Native.OK, true);
+            is((machine.finish(core, 0, stage, false, 0, WHO, true) & 0xff) != Native.OK, true);
         }
         for (short[] of : new short[][] {{0, 1, 0}, {0, 0, -1}, {0, 4096, 0}, new short[5000]}) {
-            is((Machine.gather(core, 0, Form.ALL_OF.ordinal(), of, WHO) & 0xff) != Native.OK, true);
+            is((machine.gather(core, 0, Form.ALL_OF.ordinal(), of, WHO) & 0xff) != Native.OK, true);
         }
         for (int number : new int[] {-1, 64, Form.COMBINE.ordinal(), Integer.MAX_VALUE}) {
-            is((Machine.gather(core, 0, number, new short[3], WHO) & 0xff) != Native.OK, true);
-            is((Machine.gather(core, number == 6 ? -1 : 0, Form.ALL_OF.ordinal(), new short[3], number) & 0xff) != Native.OK, true);
+            is((machine.gather(core, 0, number, new short[3], WHO) & 0xff) != Native.OK, true);
+            is((machine.gather(core, number == 6 ? -1 : 0, Form.ALL_OF.ordinal(), new short[3], number) & 0xff) != Native.OK, true);
         }
-        is((int) Machine.pass(core, 0, -1, Integer.MAX_VALUE) & 0xff, 0);
-        is((int) Machine.apply(core, 0, Words.complete(WHO, 0, 3), Integer.MAX_VALUE, Integer.MAX_VALUE) & 0xff, 34);
-        is((int) Machine.apply(core, 0, Words.complete(WHO, 0, 3), 0, WHO) & 0xff, 0);
+        is((int) machine.pass(core, 0, -1, Integer.MAX_VALUE) & 0xff, 0);
+        is((int) machine.apply(core, 0, Words.complete(WHO, 0, 3), Integer.MAX_VALUE, Integer.MAX_VALUE) & 0xff, 34);
+        is((int) machine.apply(core, 0, Words.complete(WHO, 0, 3), 0, WHO) & 0xff, 0);
         for (int n : new int[] {-1, 3, 100, Integer.MAX_VALUE}) {
-            is(Machine.words(core, new long[0], 0, n) != Native.OK && Machine.words(core, new long[200], 0, n) != Native.OK, true);
+            is(machine.words(core, new long[0], 0, n) != Native.OK && machine.words(core, new long[200], 0, n) != Native.OK, true);
         }
-        is(Machine.words(core, new long[100], 0, 2), Native.OK);
-        is(Machine.words(core, new long[100], 2, 0) + Machine.words(core, new long[1], 1, 1), Native.OK);
+        is(machine.words(core, new long[100], 0, 2), Native.OK);
+        is(machine.words(core, new long[100], 2, 0) + machine.words(core, new long[1], 1, 1), Native.OK);
         long supply = Words.attach(WHO, Form.SUPPLY, 0, 0, 0, 0);
         for (long word : new long[] {-1, Words.claim(WHO, 1), Words.claim(64, 0)}) {
-            is((Machine.first(core, word, 1, Words.claim(WHO, 0), WHO) & 0xff) != Native.OK, true);
-            is((Machine.first(core, supply, 1, word, WHO) & 0xff) != Native.OK, true);
+            is((machine.first(core, word, 1, Words.claim(WHO, 0), WHO) & 0xff) != Native.OK, true);
+            is((machine.first(core, supply, 1, word, WHO) & 0xff) != Native.OK, true);
         }
-        is(Machine.first(core, supply, Long.MIN_VALUE, supply, Integer.MAX_VALUE) & 0xff, (long) Native.OK);
+        is(machine.first(core, supply, Long.MIN_VALUE, supply, Integer.MAX_VALUE) & 0xff, (long) Native.OK);
         Machine.destroy(core);
+        machine.rest(null);
     }
 
     private static Machine sources(Machine machine, int count) {
