@@ -1,12 +1,10 @@
-//! The library's machine of one request, and what callers were told by it. One thread at a time has it.
+//! The library's machine of one request, and when its events were done. One thread at a time has it.
 use crate::error::Refusal;
 use crate::inner::SLOTS;
 use crate::record::Record;
 use crate::spawn::CLOCK;
 use crate::word::{self, Form};
-use cf_graph::{
-    Args, Finished, Ledger as Words, Limit, Outcome, Plan, PlanBuilder, Refused, Reply, Request, RequestSizes, State, Tale, Task, Told, Value,
-};
+use cf_graph::{Ledger as Words, Limit, Outcome, Plan, PlanBuilder, Refused, Reply, Request, RequestSizes, State, Tale, Task, Told, Value};
 use std::cell::RefCell;
 use std::mem::take;
 use std::sync::{Mutex, MutexGuard, PoisonError};
@@ -84,14 +82,13 @@ pub(crate) fn done_again(words: &[u64], stages: u16) -> Result<Vec<Replied>, Ref
     words.iter().map(&mut apply).collect()
 }
 
-/// Whether callers were told just what the words are answered and settle as they are done again.
-pub(crate) fn comes_again(words: &[u64], record: &Record, stages: u16) -> Result<bool, Refused> {
-    let mut same = Record::default();
-    for (_, reply, told) in done_again(words, stages)? {
-        same.reply(reply);
-        told.into_iter().for_each(|(stage, outcome)| same.told(stage, outcome));
+/// Whether the words settle stages just as these were, as they are done again.
+pub(crate) fn comes_again(words: &[u64], outcomes: &[Option<Outcome>]) -> Result<bool, Refused> {
+    let mut same = vec![None; outcomes.len()];
+    for (_, _, told) in done_again(words, outcomes.len() as u16)? {
+        told.into_iter().for_each(|(stage, outcome)| same[usize::from(stage)] = Some(outcome));
     }
-    Ok(same.events() == record.events() && same.digest() == record.digest())
+    Ok(same == outcomes)
 }
 
 impl Ledger {
@@ -107,33 +104,22 @@ impl Ledger {
         (self.machine.as_mut().expect("it is there until this is dropped"), &mut self.told)
     }
 
-    /// Does the event of a word, and writes down what it was answered.
+    /// Does the event of a word.
     #[inline]
     pub(crate) fn act(&mut self, word: u64) -> Reply {
         let (machine, told) = self.machine();
         let reply = machine.apply(word, LANE, told).expect("memory for a word");
-        self.record.reply(reply);
+        self.record.done(1);
         reply
     }
 
-    /// A worker's step: finishes the stage that it has in its hands, if it has one, and claims the lowest ready stage, if there is one. What the
-    /// finish was answered is to be written down then, and what was claimed behind what the finish settled.
+    /// A worker's step: finishes the stage that it has in its hands, if it has one, and claims the lowest ready stage, if there is one.
     #[inline(always)]
     pub(crate) fn step(&mut self, who: u8, task: &mut Task) {
+        let held = task.stage().is_some();
         let (machine, told) = self.machine();
         machine.step(who, LANE, task, told).expect("memory for two words, and an open claim of what is held");
-    }
-
-    /// Writes down what a finish was answered.
-    #[inline]
-    pub(crate) fn finished(&mut self, finished: Finished) {
-        self.record.finished(finished);
-    }
-
-    /// Writes down what a claim was granted with.
-    #[inline]
-    pub(crate) fn claimed(&mut self, args: Args) {
-        self.record.claimed(args);
+        self.record.done(u64::from(held) + u64::from(task.stage().is_some()));
     }
 
     /// Lets a stage end as another one does.
@@ -168,11 +154,6 @@ impl Ledger {
         self.machine().0.next_deadline().expect("the machine is there").map(|next| next.moment)
     }
 
-    /// Writes down an event by which a call settled a stage, beside the one that it was asked for.
-    pub(crate) fn settled_beside(&mut self) {
-        self.record.flag(true);
-    }
-
     /// How many stages are ready.
     #[inline]
     pub(crate) fn ready(&mut self) -> usize {
@@ -186,12 +167,6 @@ impl Ledger {
 
     pub(crate) fn is_ready(&mut self, stage: u16) -> bool {
         self.machine().0.stage(stage).expect("the stage is there").state == State::Ready
-    }
-
-    /// Writes down that a stage was settled by the last event.
-    #[inline]
-    pub(crate) fn shown(&mut self, stage: u16, outcome: Outcome) {
-        self.record.told(stage, outcome);
     }
 
     /// Attaches a stage, whose function has the stage's own number, and gives the number.
@@ -209,7 +184,7 @@ impl Ledger {
             applied = machine.apply(word, LANE, told);
         }
         applied.expect("memory for a word");
-        self.record.attached(number);
+        self.record.done(1);
         self.stages = number + 1;
         Ok(number)
     }
@@ -226,13 +201,9 @@ impl Ledger {
                 gathered => break gathered.expect("memory for words"),
             }
         };
+        self.record.done(u64::from(root + 1 - self.stages));
         self.stages = root + 1;
         Ok(root)
-    }
-
-    /// Writes down that a stage was attached with others.
-    pub(crate) fn gathered(&mut self, stage: u16) {
-        self.record.attached(stage);
     }
 
     /// How many stages can be attached yet.
@@ -343,48 +314,32 @@ mod tests {
         assert_eq!(count(), MOST_KEPT);
     }
 
-    /// What another ledger would tell of the same words, or this one of others.
+    /// What another ledger would settle by the same words, or this one by others.
     #[test]
     fn what_differs_does_not_come_again() {
         let mut ledger = Ledger::new(2).unwrap();
         for _ in 0..2 {
             promise(&mut ledger).unwrap();
         }
+        let mut outcomes = vec![None; 2];
         for word in [word::of(COMPLETE, 0, 0, SOME), word::of(COMPLETE, 0, 0, SOME | 1), word::of(CANCEL, 0, 1, 0)] {
             ledger.act(word);
-            for at in 0..ledger.told.len() {
-                let (stage, outcome) = ledger.told.at(at);
-                ledger.shown(stage, outcome);
-            }
+            ledger.told.iter().for_each(|(stage, outcome)| outcomes[usize::from(stage)] = Some(outcome));
         }
-        let (words, replies) = (ledger.words(), done_again(&ledger.words(), 2).unwrap());
-        assert!(words.len() == 5 && comes_again(&words, &ledger.record, 2).unwrap());
-        let comes = |words: &[u64], replies: &[Replied]| {
-            let mut record = Record::default();
-            for (_, reply, told) in replies {
-                record.reply(*reply);
-                told.iter().for_each(|(stage, outcome)| record.told(*stage, *outcome));
-            }
-            comes_again(words, &record, 2).unwrap_or(false)
-        };
-        assert!(comes(&words, &replies));
-        for at in 0..replies.len() {
-            let left_out = [&replies[..at], &replies[at + 1..]].concat();
-            assert!(!comes(&words, &left_out), "without {:?}", replies[at]);
-            let mut other = replies.clone();
-            other[at].1 = match other[at].1 {
-                Reply::Flag(did) => Reply::Flag(!did),
-                _ => Reply::Attached(None),
-            };
+        let words = ledger.words();
+        assert!(words.len() == 5 && comes_again(&words, &outcomes).unwrap());
+        let comes = |words: &[u64], outcomes: &[Option<Outcome>]| comes_again(words, outcomes).unwrap_or(false);
+        for at in 0..2 {
+            let mut other = outcomes.clone();
+            other.swap(at, 1 - at);
+            other[1 - at] = outcomes[1 - at];
             assert!(!comes(&words, &other), "with {:?}", other[at]);
-            let mut untold = replies.clone();
-            if untold[at].2.pop().is_some() {
-                assert!(!comes(&words, &untold), "which settles {:?}", untold[at]);
-            }
+            other[at] = None;
+            assert!(!comes(&words, &other), "without {:?}", outcomes[at]);
         }
-        for at in 0..words.len() {
-            assert!(!comes(&[&words[..at], &words[at + 1..]].concat(), &replies), "without word {at}");
+        for at in [0, 1, 2, 4] {
+            assert!(!comes(&[&words[..at], &words[at + 1..]].concat(), &outcomes), "without word {at}");
         }
-        assert!(!comes(&words, &replies[..4]) && !comes(&[&words[..], &[0]].concat(), &replies));
+        assert!(!comes(&words, &outcomes[..1]) && !comes(&[&words[..], &[0]].concat(), &outcomes));
     }
 }
