@@ -18,8 +18,8 @@ use std::process::{Command, Stdio};
 use std::thread;
 use std::time::{Duration, SystemTime};
 
-/// The events of a request until some moment, in their one order, with all that callers were told. It stays as it is while the request goes
-/// on. `Display` tells it in words.
+/// The events of a request until some moment, in their one order, and what its stages ended in. It stays as it is while the request goes on.
+/// `Display` tells it in words.
 ///
 /// What names and texts of others hold is told in one line: a line break in one is written `\n`, and what turns the direction of a text
 /// `\u202e`. [`Request::described`](crate::Request::described) says how much is told of values and errors.
