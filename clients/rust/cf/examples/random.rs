@@ -5,9 +5,10 @@
 //! Each seed makes two requests, of which the one takes stages of the other. Eight threads attach stages of all forms, complete, fail, cancel
 //! and name them, let them time out and have bad answers, while four threads run their functions, which give values, return errors, panic, rest,
 //! wait for stages, or give futures. Three lines for each history, one of them taken in the midst of the race: the account, the script, and the
-//! report with tabs for ends of lines. What callers were told has to come again on a ledger, which does the words of the history. At the end no
-//! stage may be ready or claimed, each has to have the error of the stage from which that came, and by the program CF_LOOK the first history has
-//! to become a page: else the status is 1.
+//! report with tabs for ends of lines. A thread that is told that it has settled a stage has to find there what it settled it with. The outcomes
+//! that stages showed have to come again on a ledger, which does the words of the history. At the end no stage may be ready or claimed, each has
+//! to have the error of the stage from which that came, and by the program CF_LOOK the first history has to become a page: else the status isn't
+//! 0.
 use cf::{Error, HandClock, Pool, Request, Spawn, Stage, SystemClock};
 use cf_graph::{Call, Cause, Event, Ledger, Outcome, PlanBuilder, State};
 use std::sync::Arc;
@@ -84,14 +85,17 @@ fn step(dice: &mut Dice, request: &Request, stages: &[Stage<i64>], others: &[Sta
         20 => request.promise().or_timeout(Duration::from_micros(500)),
         21 => request.promise().complete_on_timeout(7, Duration::from_micros(500)),
         22 => {
-            match dice.roll(6) {
-                0 => assert!(a.complete(dice.roll(9) as i64).map_or(true, |()| true)),
-                1 => drop(a.fail("gone")),
-                2 => drop(a.cancel()),
-                3 => drop(a.fail(Error::TimedOut(Duration::from_nanos(dice.roll(1000) as u64)))),
-                4 => drop(a.fail(Error::BadAnswer)),
-                _ => drop(a.named("named")),
-            }
+            // Nobody else gives this number.
+            let mine = i64::MIN | dice.0 as i64;
+            let fails = |error: Box<dyn std::error::Error + Send + Sync>| !a.fail(error) || a.blamed() == a.number();
+            assert!(match dice.roll(6) {
+                0 => a.complete(mine).is_ok() == matches!(a.peek(), Some(Ok(it)) if it == mine),
+                1 => fails("gone".into()),
+                2 => !a.cancel() || matches!(a.peek(), Some(Err(error)) if error.is_cancelled()),
+                3 => fails(Error::TimedOut(Duration::from_nanos(dice.roll(1000) as u64)).into()),
+                4 => fails(Error::BadAnswer.into()),
+                _ => a.clone().named("named").number() == a.number(),
+            });
             return None;
         }
         // A worker that waits runs others; what it waits for is there, or comes by the clock.

@@ -10,7 +10,7 @@ use crate::record::Record;
 use crate::spawn::{CALLER, CLOCK, FIRST_WORKER, RELAY};
 use crate::value::Val;
 use crate::word::{self, ATTACH, COMPLETE, FAIL, FINISH, SOME, THROWS};
-use cf_graph::{Cause, Finished, Refused, Reply, Said, Telling};
+use cf_graph::{Cause, Finished, Outcome, Refused, Reply, Said, Telling};
 use std::ffi::OsStr;
 use std::fmt;
 use std::io::{self, Write as _};
@@ -18,8 +18,8 @@ use std::process::{Command, Stdio};
 use std::thread;
 use std::time::{Duration, SystemTime};
 
-/// The events of a request until some moment, in their one order, with all that callers were told. It stays as it is while the request goes
-/// on. `Display` tells it in words.
+/// The events of a request until some moment, in their one order, and what its stages ended in. It stays as it is while the request goes on.
+/// `Display` tells it in words.
 ///
 /// What names and texts of others hold is told in one line: a line break in one is written `\n`, and what turns the direction of a text
 /// `\u202e`. [`Request::described`](crate::Request::described) says how much is told of values and errors.
@@ -36,6 +36,8 @@ pub struct History {
     name: String,
     words: Vec<u64>,
     record: Record,
+    /// What stages were settled with.
+    outcomes: Vec<Option<Outcome>>,
     names: Vec<String>,
     /// What stages gave, by their numbers, and what they failed with.
     values: Vec<Option<Kept<Val>>>,
@@ -82,6 +84,7 @@ impl History {
         let mut inner = core.lock();
         let words = inner.ledger.words();
         let record = inner.ledger.record.clone();
+        let outcomes = inner.slots.iter().map(|slot| slot.outcome()).collect();
         let slots = inner.slots.iter();
         let (of, kept): (Vec<u16>, Vec<_>) = slots.map(|slot| (slot.made, (slot.value().cloned(), slot.error().cloned()))).unzip();
         let made = inner.made.clone();
@@ -91,7 +94,7 @@ impl History {
         given.into_iter().for_each(|(stage, name)| names[usize::from(stage)] = name.into_owned());
         let (values, errors) = kept.into_iter().unzip();
         let (values, errors) = (Kept::all(values), Kept::all(errors));
-        (History { name: core.name.to_string(), words, record, names, values, errors, relays, since }, describe)
+        (History { name: core.name.to_string(), words, record, outcomes, names, values, errors, relays, since }, describe)
     }
 
     /// The same, which keeps what is told of values and errors alone, where that isn't all.
@@ -171,7 +174,7 @@ impl History {
         &self.names
     }
 
-    /// Does all again on a ledger of its own, and says whether each reply and each outcome comes again.
+    /// Does all again on a ledger of its own, and says whether each stage ends again as it was shown.
     ///
     /// ```
     /// let shipment = cf::Request::new("shipment 9", cf::Pool::new(4));
@@ -180,7 +183,7 @@ impl History {
     /// ```
     #[must_use]
     pub fn comes_again(&self) -> bool {
-        comes_again(&self.words, &self.record, self.names.len() as u16).unwrap_or(false)
+        self.record.events() == self.words.len() && comes_again(&self.words, &self.outcomes).unwrap_or(false)
     }
 
     /// What `cf run` does again, and `cf_look dot` draws: a line of JSON. A function stands there as `{"const": N}`, and is never called, since
@@ -209,7 +212,7 @@ impl History {
     }
 
     /// What `cf_look check` judges and `cf_look page` shows, a line of JSON: the events, and what they were answered and what stages hold in the
-    /// end, both by the graph. [`comes_again`](History::comes_again) says whether callers were told the same. The members `name`, `names`, `times`
+    /// end, both by the graph. [`comes_again`](History::comes_again) says whether stages showed the same. The members `name`, `names`, `times`
     /// (nanoseconds), `lanes`, `values`, `errors` and `relays` are for people.
     ///
     /// ```

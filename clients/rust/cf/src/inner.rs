@@ -337,18 +337,10 @@ impl Inner {
 
     /// Attaches a row of stages, of which the last is given. Each is attached by an event, which settles no other one.
     pub(crate) fn gather(&mut self, who: u8, form: cf_graph::Form, of: &[u16], made: Made, after: &mut After) -> Result<u16, Refusal> {
-        let first = self.ledger.stages;
         let root = self.ledger.gather(who, form, of)?;
-        let (made, mut hangs, mut shown) = (self.made(made), Hangs::new(), 0);
-        for stage in first..=root {
-            self.slots.push(Slot::new(made, None));
-            self.ledger.gathered(stage);
-            if shown < self.ledger.told.len() && self.ledger.told.at(shown).0 == stage {
-                let outcome = self.ledger.told.at(shown).1;
-                self.show_one(stage, outcome, &mut hangs, after);
-                shown += 1;
-            }
-        }
+        let made = self.made(made);
+        self.slots.resize_with(usize::from(root) + 1, || Slot::new(made, None));
+        self.show(after);
         Ok(root)
     }
 
@@ -381,7 +373,7 @@ impl Inner {
         })
     }
 
-    /// Keeps what a stage was settled with, unless it was cancelled again. What it held is to be dropped.
+    /// Keeps what a stage is settled with, unless it is settled already. What isn't kept any more is to be dropped.
     #[inline(always)]
     fn hold(&mut self, stage: u16, keeps: Held, after: &mut After) {
         let slot = self.slot(stage);
@@ -422,7 +414,7 @@ impl Inner {
             }
             self.is_more = true;
             slot.settle(told, stage);
-            self.ledger.shown(stage, told);
+            self.ledger.shown();
         }
     }
 
@@ -434,7 +426,7 @@ impl Inner {
         for at in first..self.ledger.told.len() {
             let (stage, outcome) = self.ledger.told.at(at);
             if self.slots[usize::from(stage)].follows || has_event(self, stage, outcome, after) {
-                self.ledger.settled_beside();
+                self.ledger.record.done(1);
             }
             self.show_one(stage, outcome, &mut hangs, after);
         }
@@ -454,7 +446,7 @@ impl Inner {
         self.is_more = true;
         let slot = &mut self.slots[usize::from(stage)];
         slot.settle(outcome, from);
-        self.ledger.shown(stage, outcome);
+        self.ledger.shown();
         if let Held::Call(_) = slot.held {
             after.news().dropped.push(take(&mut slot.held));
         }
@@ -633,16 +625,12 @@ impl Inner {
     /// ready. The function is called with what is given there.
     #[inline(always)]
     pub(crate) fn step(&mut self, who: u8, hands: &mut Hands, after: &mut After) -> Option<Call> {
-        let held = hands.task.stage();
-        if let Some(stage) = held {
+        if let Some(stage) = hands.task.stage() {
             hands.task.answer(answer_of(stage, &hands.keeps));
+            self.hold(stage, take(&mut hands.keeps), after);
         }
         self.ledger.step(who, &mut hands.task);
-        if let Some(stage) = held {
-            let finished = hands.task.finished();
-            self.ledger.finished(finished);
-            self.ended(stage, finished, take(&mut hands.keeps), after);
-        }
+        self.show_each(after);
         let stage = match hands.task.stage() {
             Some(stage) => stage,
             None => {
@@ -654,7 +642,6 @@ impl Inner {
         };
         match hands.task.args() {
             Args::One(value) => {
-                self.ledger.claimed(Args::One(value));
                 if hands.of != Some(value) {
                     hands.get(Given::One(self.value(value)), Some(value));
                 }
@@ -666,7 +653,6 @@ impl Inner {
 
     #[inline(never)]
     fn give_more(&mut self, stage: u16, args: Args, hands: &mut Hands) {
-        self.ledger.claimed(args);
         let args = self.blaming(stage, args);
         hands.get(self.given(args), None);
     }
@@ -779,19 +765,9 @@ impl Inner {
             Answer::Throw(code) => THROWS | u64::from(code),
             Answer::Link(target) => LINKS | u64::from(target),
         };
-        if let Reply::Finished(finished) = self.ledger.act(word::of(FINISH, who, stage, tail)) {
-            self.ended(stage, finished, keeps, after);
-        }
-    }
-
-    /// A function's answer was taken, or came too late.
-    #[inline]
-    fn ended(&mut self, stage: u16, finished: Finished, keeps: Held, after: &mut After) {
-        match finished {
-            Finished::Won => self.hold(stage, keeps, after),
-            _ => Inner::let_drop(keeps, after),
-        }
-        self.show_each(after);
+        self.hold(stage, keeps, after);
+        self.ledger.act(word::of(FINISH, who, stage, tail));
+        self.show(after);
     }
 
     /// Finishes a composing stage with a link to the stage that its function gave, or to the relay that stands for that.

@@ -1,12 +1,10 @@
-//! The library's machine of one request, and what callers were told by it. One thread at a time has it.
+//! The library's machine of one request, and when its events were done. One thread at a time has it.
 use crate::error::Refusal;
 use crate::inner::SLOTS;
 use crate::record::Record;
 use crate::spawn::CLOCK;
 use crate::word::{self, Form};
-use cf_graph::{
-    Args, Finished, Ledger as Words, Limit, Outcome, Plan, PlanBuilder, Refused, Reply, Request, RequestSizes, State, Tale, Task, Told, Value,
-};
+use cf_graph::{Ledger as Words, Limit, Outcome, Plan, PlanBuilder, Refused, Reply, Request, RequestSizes, State, Tale, Task, Told, Value};
 use std::cell::RefCell;
 use std::mem::take;
 use std::sync::{Mutex, MutexGuard, PoisonError};
@@ -90,14 +88,13 @@ pub(crate) fn done_again(words: &[u64], stages: u16) -> Result<Vec<Replied>, Ref
     words.iter().map(&mut apply).collect()
 }
 
-/// Whether callers were told just what the words are answered and settle as they are done again.
-pub(crate) fn comes_again(words: &[u64], record: &Record, stages: u16) -> Result<bool, Refused> {
-    let mut same = Record::default();
-    for (_, reply, told) in done_again(words, stages)? {
-        same.reply(reply);
-        told.into_iter().for_each(|(stage, outcome)| same.told(stage, outcome));
+/// Whether the words settle stages just as these were, as they are done again.
+pub(crate) fn comes_again(words: &[u64], outcomes: &[Option<Outcome>]) -> Result<bool, Refused> {
+    let mut same = vec![None; outcomes.len()];
+    for (_, _, told) in done_again(words, outcomes.len() as u16)? {
+        told.into_iter().for_each(|(stage, outcome)| same[usize::from(stage)] = Some(outcome));
     }
-    Ok(same.events() == record.events() && same.digest() == record.digest())
+    Ok(same == outcomes)
 }
 
 impl Ledger {
@@ -163,33 +160,22 @@ impl Ledger {
         Ok(())
     }
 
-    /// Does the event of a word, and writes down what it was answered.
+    /// Does the event of a word.
     #[inline]
     pub(crate) fn act(&mut self, word: u64) -> Reply {
         let (machine, told) = self.machine();
         let reply = machine.apply(word, LANE, told).expect("memory for a word");
-        self.record.reply(reply);
+        self.record.done(1);
         reply
     }
 
-    /// A worker's step: finishes the stage that it has in its hands, if it has one, and claims the lowest ready stage, if there is one. What the
-    /// finish was answered is to be written down then, and what was claimed behind what the finish settled.
+    /// A worker's step: finishes the stage that it has in its hands, if it has one, and claims the lowest ready stage, if there is one.
     #[inline(always)]
     pub(crate) fn step(&mut self, who: u8, task: &mut Task) {
+        let held = task.stage().is_some();
         let (machine, told) = self.machine();
         machine.step(who, LANE, task, told).expect("memory for two words, and an open claim of what is held");
-    }
-
-    /// Writes down what a finish was answered.
-    #[inline]
-    pub(crate) fn finished(&mut self, finished: Finished) {
-        self.record.finished(finished);
-    }
-
-    /// Writes down what a claim was granted with.
-    #[inline]
-    pub(crate) fn claimed(&mut self, args: Args) {
-        self.record.claimed(args);
+        self.record.done(u64::from(held) + u64::from(task.stage().is_some()));
     }
 
     /// Lets a stage end as another one does.
@@ -226,11 +212,6 @@ impl Ledger {
         self.awake()?.next_deadline().expect("the machine is there").map(|next| next.moment)
     }
 
-    /// Writes down an event by which a call settled a stage, beside the one that it was asked for.
-    pub(crate) fn settled_beside(&mut self) {
-        self.record.flag(true);
-    }
-
     /// How many stages are ready.
     #[inline]
     pub(crate) fn ready(&mut self) -> usize {
@@ -246,10 +227,9 @@ impl Ledger {
         self.awake().map_or(false, |machine| machine.stage(stage).expect("the stage is there").state == State::Ready)
     }
 
-    /// Writes down that a stage was settled by the last event.
+    /// A stage was shown as settled.
     #[inline]
-    pub(crate) fn shown(&mut self, stage: u16, outcome: Outcome) {
-        self.record.told(stage, outcome);
+    pub(crate) fn shown(&mut self) {
         self.settled += 1;
     }
 
@@ -279,7 +259,7 @@ impl Ledger {
             applied = machine.apply(word, LANE, told);
         }
         applied.expect("memory for a word");
-        self.record.attached(number);
+        self.record.done(1);
         self.stages = number + 1;
         Ok(number)
     }
@@ -299,13 +279,9 @@ impl Ledger {
                 gathered => break gathered.expect("memory for words"),
             }
         };
+        self.record.done(u64::from(root + 1 - self.stages));
         self.stages = root + 1;
         Ok(root)
-    }
-
-    /// Writes down that a stage was attached with others.
-    pub(crate) fn gathered(&mut self, stage: u16) {
-        self.record.attached(stage);
     }
 
     /// How many stages can be attached yet.
@@ -420,32 +396,33 @@ mod tests {
     }
 
     /// Shows what the last call settled.
-    fn show(ledger: &mut Ledger) {
-        for at in 0..ledger.told.len() {
-            let (stage, outcome) = ledger.told.at(at);
-            ledger.shown(stage, outcome);
+    fn show(ledger: &mut Ledger, outcomes: &mut Vec<Option<Outcome>>) {
+        outcomes.resize(usize::from(ledger.stages), None);
+        for (stage, outcome) in ledger.told.iter() {
+            outcomes[usize::from(stage)] = Some(outcome);
         }
+        (0..ledger.told.len()).for_each(|_| ledger.shown());
         ledger.rest_if_over();
     }
 
-    fn settle(ledger: &mut Ledger, stage: u16) -> Reply {
+    fn settle(ledger: &mut Ledger, stage: u16, outcomes: &mut Vec<Option<Outcome>>) -> Reply {
         let reply = ledger.act(word::of(COMPLETE, 0, stage, 0));
-        show(ledger);
+        show(ledger, outcomes);
         reply
     }
 
     /// It keeps its words alone, until something is done to it, and again once it is twice as large.
     #[test]
     fn large_request_that_is_over_rests() {
-        let mut ledger = Ledger::new(1).unwrap();
+        let (mut ledger, mut outcomes) = (Ledger::new(1).unwrap(), Vec::new());
         for stage in 0..SLOTS {
             promise(&mut ledger).unwrap();
-            settle(&mut ledger, stage);
+            settle(&mut ledger, stage, &mut outcomes);
         }
         assert!(ledger.machine.is_some());
         let late = promise(&mut ledger).unwrap();
         assert!(ledger.machine.is_some());
-        settle(&mut ledger, late);
+        settle(&mut ledger, late, &mut outcomes);
         assert!(ledger.machine.is_none());
 
         // It is asked, and goes on resting.
@@ -459,63 +436,49 @@ mod tests {
         assert!(ledger.machine.is_none());
 
         // Something is done to it.
-        assert_eq!(settle(&mut ledger, late), Reply::Flag(false));
+        assert_eq!(settle(&mut ledger, late, &mut outcomes), Reply::Flag(false));
         assert!(ledger.machine.is_some());
         assert_eq!(ledger.words().len(), events + 1);
         for stage in SLOTS + 1..2 * (SLOTS + 1) {
             assert!(ledger.machine.is_some(), "{stage}");
-            assert_eq!((promise(&mut ledger), settle(&mut ledger, stage)), (Ok(stage), Reply::Flag(true)));
+            assert_eq!((promise(&mut ledger), settle(&mut ledger, stage, &mut outcomes)), (Ok(stage), Reply::Flag(true)));
         }
         assert!(ledger.machine.is_none());
-        assert!(comes_again(&ledger.words(), &ledger.record, ledger.stages).unwrap());
+        assert!(comes_again(&ledger.words(), &outcomes).unwrap());
 
         // A stage that it attaches, and one that gathers, go on, too.
         let root = ledger.gather(0, cf_graph::Form::AllOf, &[0, late]).unwrap();
-        ledger.gathered(root);
-        show(&mut ledger);
+        show(&mut ledger, &mut outcomes);
         assert_eq!((root, ledger.settled, ledger.machine.is_some()), (2 * (SLOTS + 1), ledger.stages, true));
-        assert!(comes_again(&ledger.words(), &ledger.record, ledger.stages).unwrap());
+        assert!(comes_again(&ledger.words(), &outcomes).unwrap());
     }
 
-    /// What another ledger would tell of the same words, or this one of others.
+    /// What another ledger would settle by the same words, or this one by others.
     #[test]
     fn what_differs_does_not_come_again() {
         let mut ledger = Ledger::new(2).unwrap();
         for _ in 0..2 {
             promise(&mut ledger).unwrap();
         }
+        let mut outcomes = vec![None; 2];
         for word in [word::of(COMPLETE, 0, 0, SOME), word::of(COMPLETE, 0, 0, SOME | 1), word::of(CANCEL, 0, 1, 0)] {
             ledger.act(word);
-            show(&mut ledger);
+            ledger.told.iter().for_each(|(stage, outcome)| outcomes[usize::from(stage)] = Some(outcome));
         }
-        let (words, replies) = (ledger.words(), done_again(&ledger.words(), 2).unwrap());
-        assert!(words.len() == 5 && comes_again(&words, &ledger.record, 2).unwrap());
-        let comes = |words: &[u64], replies: &[Replied]| {
-            let mut record = Record::default();
-            for (_, reply, told) in replies {
-                record.reply(*reply);
-                told.iter().for_each(|(stage, outcome)| record.told(*stage, *outcome));
-            }
-            comes_again(words, &record, 2).unwrap_or(false)
-        };
-        assert!(comes(&words, &replies));
-        for at in 0..replies.len() {
-            let left_out = [&replies[..at], &replies[at + 1..]].concat();
-            assert!(!comes(&words, &left_out), "without {:?}", replies[at]);
-            let mut other = replies.clone();
-            other[at].1 = match other[at].1 {
-                Reply::Flag(did) => Reply::Flag(!did),
-                _ => Reply::Attached(None),
-            };
+        let words = ledger.words();
+        assert!(words.len() == 5 && comes_again(&words, &outcomes).unwrap());
+        let comes = |words: &[u64], outcomes: &[Option<Outcome>]| comes_again(words, outcomes).unwrap_or(false);
+        for at in 0..2 {
+            let mut other = outcomes.clone();
+            other.swap(at, 1 - at);
+            other[1 - at] = outcomes[1 - at];
             assert!(!comes(&words, &other), "with {:?}", other[at]);
-            let mut untold = replies.clone();
-            if untold[at].2.pop().is_some() {
-                assert!(!comes(&words, &untold), "which settles {:?}", untold[at]);
-            }
+            other[at] = None;
+            assert!(!comes(&words, &other), "without {:?}", outcomes[at]);
         }
-        for at in 0..words.len() {
-            assert!(!comes(&[&words[..at], &words[at + 1..]].concat(), &replies), "without word {at}");
+        for at in [0, 1, 2, 4] {
+            assert!(!comes(&[&words[..at], &words[at + 1..]].concat(), &outcomes), "without word {at}");
         }
-        assert!(!comes(&words, &replies[..4]) && !comes(&[&words[..], &[0]].concat(), &replies));
+        assert!(!comes(&words, &outcomes[..1]) && !comes(&[&words[..], &[0]].concat(), &outcomes));
     }
 }

@@ -1,6 +1,4 @@
-//! When the events of one request were done, in few bytes, and a digest of what callers were told. The words themselves are the machine's, and what
-//! they were answered comes again when they are done again.
-use cf_graph::{Args, Cause, Claimed, Finished, Outcome, Reply, Ticked, Value};
+//! When the events of one request were done, in few bytes. The words themselves are the machine's.
 use std::mem::take;
 
 #[derive(Clone, Debug, Default)]
@@ -13,7 +11,6 @@ pub(crate) struct Record {
     /// The moment of what is done at present, in nanoseconds since the request began, and how many events there were at it.
     now: u64,
     lately: u64,
-    told: Digest,
 }
 
 /// How many bits say how many events there were, the most that they say, and the longest while that the others do, 134 ms.
@@ -49,59 +46,10 @@ impl Record {
         self.now
     }
 
-    // Events that are done now, by what they are answered.
-
+    /// So many events are done now.
     #[inline]
-    pub(crate) fn flag(&mut self, did: bool) {
-        self.event(1, u32::from(did));
-    }
-
-    #[inline]
-    pub(crate) fn attached(&mut self, stage: u16) {
-        self.event(2, u32::from(stage));
-    }
-
-    #[inline]
-    pub(crate) fn finished(&mut self, finished: Finished) {
-        self.event(3, finished as u32);
-    }
-
-    #[inline]
-    pub(crate) fn claimed(&mut self, args: Args) {
-        self.lately += 1;
-        self.told.args(args);
-    }
-
-    /// An event that is answered so.
-    #[inline]
-    pub(crate) fn reply(&mut self, reply: Reply) {
-        match reply {
-            Reply::Flag(did) => self.flag(did),
-            Reply::Attached(Some(stage)) => self.attached(stage),
-            Reply::Finished(finished) => self.finished(finished),
-            Reply::Claimed(Claimed::Granted(args)) => self.claimed(args),
-            Reply::Attached(None) => self.event(4, 0),
-            Reply::Claimed(claimed) => self.event(5, matches!(claimed, Claimed::Settled) as u32 + 2 * matches!(claimed, Claimed::Taken) as u32),
-            Reply::Ticked(Ticked::Fired(limits)) => self.event(6, limits),
-            Reply::Ticked(Ticked::Past) => self.event(7, 0),
-        }
-    }
-
-    #[inline]
-    fn event(&mut self, kind: u8, number: u32) {
-        self.lately += 1;
-        self.told.number(0, kind, number);
-    }
-
-    /// A stage that the last event settled.
-    #[inline]
-    pub(crate) fn told(&mut self, stage: u16, outcome: Outcome) {
-        self.told.outcome(stage, outcome);
-    }
-
-    /// What callers were told, as a number. What was told otherwise has another one.
-    pub(crate) fn digest(&self) -> u64 {
-        self.told.0
+    pub(crate) fn done(&mut self, events: u64) {
+        self.lately += events;
     }
 
     #[inline]
@@ -165,68 +113,9 @@ fn parts(moment: u32) -> (u64, u64) {
     (u64::from(moment >> BITS), u64::from(moment) & MOST)
 }
 
-/// Numbers in their order as one, by a multiplication for each. None of the numbers is 0.
-#[derive(Clone, Debug, Default)]
-struct Digest(u64);
-
-impl Digest {
-    #[inline]
-    fn add(&mut self, number: u64) {
-        self.0 = self.0.wrapping_add(number).wrapping_mul(0x9e37_79b9_7f4a_7c15);
-    }
-
-    /// A number of some kind, of a stage or of none.
-    #[inline]
-    fn number(&mut self, stage: u16, kind: u8, number: u32) {
-        self.add(u64::from(stage) << 40 | u64::from(kind) << 32 | u64::from(number));
-    }
-
-    #[inline]
-    fn args(&mut self, args: Args) {
-        match args {
-            Args::None => self.number(0, 8, 0),
-            Args::One(value) => self.value(0, 9, value),
-            Args::Two(first, second) => {
-                self.value(0, 11, first);
-                self.value(0, 13, second);
-            }
-            Args::Got(outcome) => {
-                self.number(0, 15, 0);
-                self.outcome(0, outcome);
-            }
-        }
-    }
-
-    #[inline]
-    fn outcome(&mut self, stage: u16, outcome: Outcome) {
-        match outcome {
-            Outcome::Value(value) => self.value(stage, 16, value),
-            Outcome::Fault { cause, wrapped } => {
-                let (kind, code) = match cause {
-                    Cause::Thrown(code) => (18, code),
-                    Cause::Cancelled => (20, 0),
-                    Cause::TimedOut => (22, 0),
-                    Cause::BadAnswer => (24, 0),
-                };
-                self.number(stage, kind + u8::from(wrapped), code);
-            }
-        }
-    }
-
-    /// A value, by this kind or the next one.
-    #[inline]
-    fn value(&mut self, stage: u16, kind: u8, value: Value) {
-        match value {
-            Value::Nil => self.number(stage, kind, 0),
-            Value::Int(number) => self.number(stage, kind + 1, number as u32),
-        }
-    }
-}
-
 #[cfg(test)]
 mod tests {
     use super::*;
-    use std::collections::HashSet;
 
     /// Around the most events and the longest while that one number says. A moment is written once.
     #[test]
@@ -259,67 +148,25 @@ mod tests {
             // Up to a week.
             at += if k % 3 == 0 { 1 << (k % 50) } else { 0 };
             record.go_on(at);
-            record.flag(true);
+            record.done(1);
             wanted.push(at);
             // A clock that goes back has stood.
             if k % 500 == 1 {
                 record.go_on(at - 1);
-                record.flag(true);
+                record.done(1);
                 wanted.push(at);
             }
         }
         // More at one moment than a number says.
         for _ in 0..70_000 {
-            record.flag(true);
+            record.done(1);
             wanted.push(at);
         }
         assert_eq!(record.times().collect::<Vec<_>>(), wanted);
         record.go_on(at + 5);
-        record.flag(true);
+        record.done(1);
         wanted.push(at + 5);
         assert_eq!(record.times().collect::<Vec<_>>(), wanted);
         assert_eq!((record.events(), Record::default().events(), Record::default().times().count()), (wanted.len(), 0, 0));
-    }
-
-    /// What is told otherwise, in another order or in part has another digest.
-    #[test]
-    fn what_differs_has_another_digest() {
-        let values = [Value::Nil, Value::Int(0), Value::Int(1), Value::Int(-1), Value::Int(4095)];
-        let mut outcomes: Vec<Outcome> = values.iter().map(|value| Outcome::Value(*value)).collect();
-        for wrapped in [false, true] {
-            for cause in [Cause::Thrown(0), Cause::Thrown(u32::MAX), Cause::Cancelled, Cause::TimedOut, Cause::BadAnswer] {
-                outcomes.push(Outcome::Fault { cause, wrapped });
-            }
-        }
-        let mut replies = vec![Reply::Flag(true), Reply::Flag(false), Reply::Attached(None), Reply::Attached(Some(0)), Reply::Attached(Some(1))];
-        replies.extend([Claimed::Settled, Claimed::Taken, Claimed::NotReady, Claimed::Granted(Args::None)].map(Reply::Claimed));
-        replies.extend([Finished::Won, Finished::Late, Finished::NotYours].map(Reply::Finished));
-        for first in values {
-            replies.push(Reply::Claimed(Claimed::Granted(Args::One(first))));
-            replies.extend(values.iter().map(|second| Reply::Claimed(Claimed::Granted(Args::Two(first, *second)))));
-        }
-        replies.extend(outcomes.iter().map(|outcome| Reply::Claimed(Claimed::Granted(Args::Got(*outcome)))));
-        let (mut seen, mut count) = (HashSet::new(), 0);
-        let mut has_another = |does: &dyn Fn(&mut Record)| {
-            let mut record = Record::default();
-            does(&mut record);
-            count += 1;
-            assert!(seen.insert(record.digest()) && seen.len() == count);
-        };
-        has_another(&|_| {});
-        for first in &replies {
-            has_another(&|record| record.reply(*first));
-            for second in &replies {
-                has_another(&|record| [first, second].into_iter().for_each(|reply| record.reply(*reply)));
-            }
-            for (stage, outcome) in outcomes.iter().enumerate() {
-                for stage in [stage as u16, stage as u16 + 1] {
-                    has_another(&|record| {
-                        record.reply(*first);
-                        record.told(stage, *outcome);
-                    });
-                }
-            }
-        }
     }
 }

@@ -13,8 +13,8 @@
 //!   waker. Clones share the stage and have wakers of their own.
 //! - `Core` (core.rs) is the request: its executor, its clock, and one mutex.
 //! - `Inner` (inner.rs) stands under that mutex. It has the `Ledger` (the library's machine, and the `Record` of the moments of
-//!   events and of what callers were told, as a digest), a `Slot` for each stage, `Extra`s for the few stages that have more: a
-//!   future that is polled, relays; and the `Limit`s of stages.
+//!   events), a `Slot` for each stage, `Extra`s for the few stages that have more: a future that is polled, relays; and the
+//!   `Limit`s of stages.
 //! - A `Slot` (slot.rs) holds the stage's function until that is claimed, and then what the function gave: a value or an
 //!   error. It also holds what the machine told. A value's number in words is that of the stage that gave it, and so is an
 //!   error's; stages behind it hold the number alone.
