@@ -34,8 +34,9 @@ enum { MOST = 4096, CALLERS = 64, NONE = 0xFFFF, THIS_THREAD = -1 };
 enum { OWN = 1 };
 /* Calls of Python's beyond its limit for what has to be told, and how often that is tried. */
 enum { DEEPER = 200, TRIES = 100 };
-/* How many machines of a plan are kept for its next requests, and of how many stages at most. */
-enum { KEPT = 32, MOST_KEPT = 256 };
+/* How many machines of a plan are kept for its next requests: of requests of few stages, and of others, which have so many
+ * stages at most. */
+enum { KEPT = 1024, FEW = 4, LARGE_KEPT = 32, MOST_KEPT = 256 };
 /* The kinds of words; and how a stage is failed with a bad answer, where by FAIL_AS it times out. */
 enum { COMPLETE = 1, FAIL = 2, CANCEL = 3, CLAIM = 4, FINISH = 5, ATTACH = 7, FAIL_AS = 8, FAIL_BADLY = 9 };
 enum { GIVING = 1, RAISING = 2, LINKING = 3 };  /* how a stage is finished: GIVES, THROWS and LINKS of words.py */
@@ -493,8 +494,8 @@ static uint32_t open_machine(Request *self, uint16_t room) {
 
 static void close_machine(Request *self) {
   Pool *pool = self->pool;
-  bool is_kept = self->machine && pool->many < KEPT && self->stages <= MOST_KEPT && self->events <= 4 * MOST_KEPT &&
-                 !cf_request_restart(self->machine);
+  bool is_kept = self->machine && pool->many < (self->stages <= FEW ? KEPT : LARGE_KEPT) &&
+                 self->stages <= MOST_KEPT && self->events <= 4 * MOST_KEPT && !cf_request_restart(self->machine);
   if (is_kept) pool->machines[pool->many++] = self->machine;
   else if (self->machine) { cf_free(self->machine); PyMem_Free(self->machine); }
   self->machine = NULL;
