@@ -34,8 +34,9 @@ enum { MOST = 4096, CALLERS = 64, NONE = 0xFFFF, THIS_THREAD = -1 };
 enum { OWN = 1 };
 /* Calls of Python's beyond its limit for what has to be told, and how often that is tried. */
 enum { DEEPER = 200, TRIES = 100 };
-/* How many machines of a plan are kept for its next requests, and of how many stages at most. */
-enum { KEPT = 32, MOST_KEPT = 256 };
+/* How many machines of a plan are kept for its next requests: of requests of few stages, and of others, which have so many
+ * stages at most. */
+enum { KEPT = 1024, FEW = 4, LARGE_KEPT = 32, MOST_KEPT = 256 };
 /* The kinds of words; and how a stage is failed with a bad answer, where by FAIL_AS it times out. */
 enum { COMPLETE = 1, FAIL = 2, CANCEL = 3, CLAIM = 4, FINISH = 5, ATTACH = 7, FAIL_AS = 8, FAIL_BADLY = 9 };
 enum { GIVING = 1, RAISING = 2, LINKING = 3 };  /* how a stage is finished: GIVES, THROWS and LINKS of words.py */
@@ -51,25 +52,25 @@ static _Thread_local int caller;   /* which caller this thread is */
 static const uint8_t lanes[MOST];  /* each stage is of the only lane */
 
 /* Names that are looked for often, each by its place in a table. */
-enum { PUT, REFUSAL, SHOW, LOG, RELAY, PLAN_KEPT, STAGE_CLASS, CHOOSES, LINK, CONDITION, RESULT, NAMES };
+enum { PUT, REFUSE, HAND_ON, SHOW, LOG, RELAY, LINK, CONDITION, RESULT, NAMES };
 static const char *const names[NAMES] = {
-  "put", "refusal", "_show", "_log", "relay", "kept", "_stage_class", "_chooses", "_link", "_new_condition",
-  "_awaited_result"};
+  "put", "_refuse_ready", "_hand_on_chosen", "_show", "_log", "relay", "_link", "_new_condition", "_awaited_result"};
 
 /* What one interpreter has of this. */
 typedef struct {
   PyObject *module;  /* whose state it is, borrowed */
   cf_told *told;     /* what the last call told: MOST of them */
   uint32_t forks;    /* how many forks lie between the first process and this one */
-  PyTypeObject *request_core, *stage_core;
+  PyTypeObject *stage_core;
   PyObject *names[NAMES];
 } State;
 
-/* A plan, and machines of requests of it that are over, which start again for the next ones. `numbers` are, of each of
- * its stages, where its sources end, then of each its form, then all sources. */
+/* A plan, which `owner` keeps, and machines of requests of it that are over, which start again for the next ones.
+ * `numbers` are, of each of its stages, where its sources end, then of each its form, then all sources. */
 typedef struct {
   uint32_t many, most, stages;
   cf_handle *machines[KEPT], *plan;
+  PyObject *owner;
   uint16_t numbers[];
 } Pool;
 static const char POOL[] = "cf._cf.pool";
@@ -103,20 +104,23 @@ typedef struct {
   Row *rows;
   int64_t *times;  /* of each word, in nanoseconds */
   PyTypeObject *stage_class;
-  PyObject *works, *title, *keeps, *plan, *names, *values, *errors, *weak;
-  PyObject *kept;   /* what its plan keeps: a capsule of the Pool, the stages' functions, their names, and the Plan */
-  PyObject *calls;  /* these functions, borrowed */
+  PyObject *works, *names, *values, *errors;
+  PyObject *kept, *calls;  /* a capsule of the Pool, and the functions of its plan's stages */
 } Request;
 
+/* A future. `given` is its value, or the exception that somebody gave, and NULL where nobody did. */
 typedef struct {
   PyObject_HEAD
   State *state;
   Request *request;
   uint16_t number;
-  bool shown;      /* to those who wait, and to callbacks */
-  bool running;    /* as in the row, or as somebody said */
-  uint32_t forks;  /* as the process had when it was made or looked at */
-  PyObject *call, *args, *kwargs, *callbacks, *condition, *waiters;
+  uint8_t form, ended;  /* the kind of its outcome */
+  bool is_cancelled;    /* by a cancellation of its own */
+  bool shown;           /* to those who wait, and to callbacks */
+  bool running;         /* as in the row, or as somebody said */
+  uint32_t forks;       /* as the process had when it was made or looked at */
+  uint32_t told;        /* how many of those who wait know */
+  PyObject *given, *call, *args, *kwargs, *callbacks, *condition, *waiters;
 } Stage;
 
 /* The stages that calls settled, as a list through their rows, and whether functions may have become ready. `error` is
@@ -135,6 +139,47 @@ static PyObject *refused(Request *self, uint32_t code) {
   if (code == CF_NO_MEMORY) return PyErr_NoMemory();
   const char *name = cf_code_name(code);
   return code == CF_ROOM ? full(self) : PyErr_Format(PyExc_RuntimeError, "refused: %s", name ? name : "?");
+}
+
+/* ---- What the numbers of the library stand for ---- */
+
+static int kept(PyObject *list, PyObject *thing, uint32_t *number) {
+  if (!list) { PyErr_SetString(PyExc_RuntimeError, "the request isn't opened"); return -1; }
+  *number = (uint32_t)PyList_GET_SIZE(list);
+  return PyList_Append(list, thing);
+}
+
+/* The last bits of a word that gives a value. */
+static int value_in(Request *self, PyObject *value, uint64_t *low) {
+  uint32_t number = 0;
+  if (value != Py_None && kept(self->values, value, &number)) return -1;
+  *low = value != Py_None ? GIVES | number : 0;
+  return 0;
+}
+
+static PyObject *item(PyObject *list, uint32_t number) {
+  PyObject *found = number < (size_t)PyList_GET_SIZE(list) ? PyList_GET_ITEM(list, number) : Py_None;
+  Py_INCREF(found);
+  return found;
+}
+
+static PyObject *value_out(Request *self, cf_value value) {
+  return item(self->values, value.kind ? (uint32_t)value.number : UINT32_MAX);
+}
+
+/* The exception that somebody gave for an outcome, with what its stage's row says of one; None where nobody did. */
+static PyObject *error_out(Request *self, cf_outcome outcome, uint32_t error) {
+  return item(self->errors, outcome.kind == CF_THROWN ? outcome.code : error - 1);
+}
+
+static bool composes(long form) { return form == CF_COMPOSE || form == CF_EXCEPTIONALLY_COMPOSE; }
+static bool gathers(long form) { return form == CF_ALL_OF || form == CF_ANY_OF; }
+
+/* Lets the future of a stage tell what its row does. */
+static void publish(Request *self, Stage *stage, const Row *row) {
+  stage->given = row->told.kind == CF_VALUE ? value_out(self, row->told.value) : error_out(self, row->told, row->error);
+  stage->is_cancelled = row->told.kind == CF_CANCELLED && !row->told.wrapped;
+  stage->ended = (uint8_t)row->told.kind;
 }
 
 /* ---- One call of the machine ---- */
@@ -180,6 +225,7 @@ static void note(Request *self, size_t words, size_t n, News *news) {
     if (has_code) row->error = 0;
     else if (told->stage == news->own && news->error) row->error = news->error;
     else if (row->told.wrapped || !row->error) row->error = error_of_sources(self, told->stage, row->told.kind);
+    if (row->stage) publish(self, (Stage *)row->stage, row);
     row->next_settled = NONE;
     if (news->last_settled == NONE) news->settled = told->stage;
     else self->rows[news->last_settled].next_settled = told->stage;
@@ -213,39 +259,6 @@ static uint32_t ready(Request *self) {
   return many;
 }
 
-/* ---- What the numbers of the library stand for ---- */
-
-static int kept(PyObject *list, PyObject *thing, uint32_t *number) {
-  if (!list) { PyErr_SetString(PyExc_RuntimeError, "the request isn't opened"); return -1; }
-  *number = (uint32_t)PyList_GET_SIZE(list);
-  return PyList_Append(list, thing);
-}
-
-/* The last bits of a word that gives a value. */
-static int value_in(Request *self, PyObject *value, uint64_t *low) {
-  uint32_t number = 0;
-  if (value != Py_None && kept(self->values, value, &number)) return -1;
-  *low = value != Py_None ? GIVES | number : 0;
-  return 0;
-}
-
-static PyObject *value_out(Request *self, cf_value value) {
-  PyObject *given = value.kind ? PyList_GetItem(self->values, value.number) : Py_None;
-  Py_XINCREF(given);
-  return given;
-}
-
-/* The exception that somebody gave for an outcome, with what its stage's row says of one; None where nobody did. */
-static PyObject *error_out(Request *self, cf_outcome outcome, uint32_t error) {
-  if (outcome.kind == CF_THROWN) error = outcome.code + 1;
-  PyObject *given = error ? PyList_GetItem(self->errors, error - 1) : Py_None;
-  Py_XINCREF(given);
-  return given;
-}
-
-static bool was_cancelled(cf_outcome outcome) { return outcome.kind == CF_CANCELLED && !outcome.wrapped; }
-static bool composes(long form) { return form == CF_COMPOSE || form == CF_EXCEPTIONALLY_COMPOSE; }
-
 /* ---- Stages ---- */
 
 static Stage *new_stage(Request *request, uint16_t number) {
@@ -272,8 +285,12 @@ static Stage *stage_at(Request *self, uint16_t i) {
   if (!self->rows[i].stage) {
     Stage *stage = new_stage(self, i);
     if (!stage) return NULL;
+    stage->form = self->rows[i].form;
     stage->shown = self->rows[i].told.kind != 0;  /* (all was told then) */
-    if (stage->shown) return stage;
+    if (stage->shown) {
+      publish(self, stage, &self->rows[i]);
+      return stage;
+    }
     if (!self->rows[i].stage) {
       stage->running = self->rows[i].running;
       stage->call = planned(self, i);
@@ -285,34 +302,17 @@ static Stage *stage_at(Request *self, uint16_t i) {
   return (Stage *)self->rows[i].stage;
 }
 
-static cf_outcome told(Stage *self) {
-  return self->request ? self->request->rows[self->number].told : (cf_outcome){0};
-}
-
 /* In a child of `fork`: those who wait for a stage, or were about to show it, are the parent's threads. */
 static void be_here(Stage *self) {
   if (self->forks == self->state->forks) return;
   PyObject *condition = self->condition, *waiters = self->waiters;
   self->forks = self->state->forks;
   self->condition = self->waiters = NULL;
-  self->shown |= told(self).kind != 0;
+  self->shown |= self->ended != 0;
   Py_XDECREF(condition); Py_XDECREF(waiters);
 }
 
 /* ---- Telling ---- */
-
-/* Keeps the first error, that the rest be done. */
-typedef struct { PyObject *type, *value, *trace; } Kept;
-
-static void keep(Kept *first) {
-  if (!first->type) PyErr_Fetch(&first->type, &first->value, &first->trace); else PyErr_Clear();
-}
-
-static int raise_kept(Kept *first) {
-  if (!first->type) return 0;
-  PyErr_Restore(first->type, first->value, first->trace);
-  return -1;
-}
 
 /* The exception that is raised. */
 static PyObject *caught(void) {
@@ -324,9 +324,22 @@ static PyObject *caught(void) {
   return error;
 }
 
+/* Keeps the first exception that is raised, that the rest be done. */
+static void keep(PyObject **first) {
+  if (*first) PyErr_Clear(); else *first = caught();
+}
+
+static int raise_kept(PyObject *first) {
+  if (!first) return 0;
+  PyObject *type = (PyObject *)Py_TYPE(first);
+  Py_INCREF(type);
+  PyErr_Restore(type, first, PyException_GetTraceback(first));
+  return -1;
+}
+
 /* Calls a method, with `given` or with nothing, and where that fails once more: an event that is done is told,
  * though an interrupt came meanwhile, or the stack was as deep as Python lets it be. */
-static PyObject *ask(PyObject *of, PyObject *method, PyObject *given, Kept *first) {
+static PyObject *ask(PyObject *of, PyObject *method, PyObject *given, PyObject **first) {
   PyObject *told = PyObject_CallMethodObjArgs(of, method, given, NULL);
   if (told) return told;
   if (PyErr_ExceptionMatches(PyExc_RecursionError)) PyErr_Clear(); else keep(first);
@@ -336,18 +349,27 @@ static PyObject *ask(PyObject *of, PyObject *method, PyObject *given, Kept *firs
   return told;
 }
 
-/* Lets those see a stage who wait for it by its condition. */
-static void show(Stage *stage, Kept *first) {
-  be_here(stage);
-  for (int tries = 0; !stage->shown; tries++) {
-    if (!stage->condition || tries == TRIES) { stage->shown = true; return; }
-    PyObject *none = ask((PyObject *)stage, stage->state->names[SHOW], NULL, first);
-    if (!none) keep(first);
-    Py_XDECREF(none);
-  }
+/* What a method said: whether it is so, or -1 and an error. */
+static int truth(PyObject *said) {
+  int is_so = said ? PyObject_IsTrue(said) : -1;
+  Py_XDECREF(said);
+  return is_so;
 }
 
-static void call_back(Stage *stage, PyObject *call, Kept *first) {
+/* Has the class of a request or of a stage do something. */
+static void let(PyObject *of, PyObject *method, PyObject **first) {
+  if (truth(ask(of, method, NULL, first)) < 0) keep(first);
+}
+
+/* Lets those see a stage who wait for it by its condition. */
+static void show(Stage *stage, PyObject **first) {
+  be_here(stage);
+  for (int tries = 0; stage->condition && !stage->shown && tries < TRIES; tries++)
+    let((PyObject *)stage, stage->state->names[SHOW], first);
+  stage->shown = true;
+}
+
+static void call_back(Stage *stage, PyObject *call, PyObject **first) {
   PyObject *none = PyObject_CallOneArg(call, (PyObject *)stage);
   if (!none && PyErr_ExceptionMatches(PyExc_Exception)) {
     PyObject *error = caught();
@@ -359,7 +381,7 @@ static void call_back(Stage *stage, PyObject *call, Kept *first) {
 }
 
 /* Calls the callbacks of a settled stage, and lets go of what it needs no more. */
-static void let_go(Stage *stage, Kept *first) {
+static void let_go(Stage *stage, PyObject **first) {
   PyObject *callbacks = stage->callbacks;
   stage->callbacks = NULL;
   for (Py_ssize_t k = 0; callbacks && k < PyList_GET_SIZE(callbacks); k++) {
@@ -372,45 +394,34 @@ static void let_go(Stage *stage, Kept *first) {
   Py_CLEAR(stage->call); Py_CLEAR(stage->args); Py_CLEAR(stage->kwargs);
 }
 
-/* Gives somebody a turn, and says whether it is taken. An interrupt that comes meanwhile is raised once it is: a turn
- * too many does nothing, and one too few leaves a function behind. */
-static int put(Request *self, Kept *interrupt) {
+/* Gives somebody a turn, and says whether it is taken, or -1 and an error. An interrupt that comes meanwhile is raised
+ * once it is: a turn too many does nothing, and one too few leaves a function behind. */
+static int put(Request *self, PyObject **first) {
   PyObject *is_taken = NULL;
   for (int tries = 0; !is_taken && tries < TRIES; tries++) {  /* (several interrupts may come while a thread starts) */
-    if (tries) keep(interrupt);
-    is_taken = ask(self->works, self->state->names[PUT], (PyObject *)self, interrupt);
+    if (tries) keep(first);
+    is_taken = ask(self->works, self->state->names[PUT], (PyObject *)self, first);
   }
-  int taken = is_taken ? PyObject_IsTrue(is_taken) : -1;
-  Py_XDECREF(is_taken);
-  return taken;
+  return truth(is_taken);
 }
 
-/* Gives a turn for each function that is ready and has none. If nobody takes it, those that are ready fail. A request
- * whose class chooses does it by itself, and gives what was raised. */
-static void hand_on(Request *self, bool by_class, Kept *first) {
-  uint32_t many = by_class ? 0 : ready(self), turns = many > self->turns ? many - self->turns : 0;
-  PyObject *raised = NULL, *refusal = NULL;
+/* Gives a turn for each function that is ready and has none. If nobody takes it, those that are ready fail. */
+static void hand_on(Request *self, PyObject **first) {
   int taken = 1;
-  if (!self->works) return;  /* (a request that is collected has nobody) */
-  self->turns += turns;
-  for (; turns && (taken = put(self, first)) > 0; turns--) { }
-  if (taken < 0) {  /* the next call gives these turns */
-    keep(first);
-    self->turns -= self->turns < turns ? self->turns : turns;
-  } else if (by_class || !taken) {
-    if (!taken) refusal = ask(self->works, self->state->names[REFUSAL], NULL, first);
-    if (by_class) raised = PyObject_CallMethod((PyObject *)self, "_hand_on", NULL);
-    else if (refusal) raised = PyObject_CallMethod((PyObject *)self, "_fail_ready", "O", refusal);
-    if (raised && raised != Py_None) PyErr_SetObject((PyObject *)Py_TYPE(raised), raised);
-    if (raised != Py_None) keep(first);
-    Py_XDECREF(raised); Py_XDECREF(refusal);
+  while (taken > 0 && self->works && ready(self) > self->turns) {  /* (a request that is collected has nobody) */
+    self->turns++;
+    taken = put(self, first);
   }
+  if (!taken) let((PyObject *)self, self->state->names[REFUSE], first);
+  if (taken >= 0) return;
+  keep(first);
+  if (self->turns) self->turns--;  /* the next call gives this turn */
 }
 
 /* Tells what came of calls: first those who wait, then the threads, then the callbacks. */
 static int tell(Request *self, News news) {
   if (news.settled == NONE && !news.is_ready) return 0;
-  Kept first = {0};
+  PyObject *first = NULL;
   uint16_t shown = NONE, next;
   Py_INCREF(self);
   for (bool is_ready = news.is_ready;; ) {
@@ -419,7 +430,7 @@ static int tell(Request *self, News news) {
       if (self->rows[next].stage) show((Stage *)self->rows[next].stage, &first);
     } else if (is_ready) {
       is_ready = false;
-      hand_on(self, self->chooses, &first);
+      if (self->chooses) let((PyObject *)self, self->state->names[HAND_ON], &first); else hand_on(self, &first);
       if (self->counts) take_told(self, &news);  /* of what nobody took a turn for */
     } else break;
   }
@@ -429,18 +440,14 @@ static int tell(Request *self, News news) {
     if (stage) { let_go(stage, &first); Py_DECREF(stage); }
   }
   Py_DECREF(self);
-  return raise_kept(&first);
+  return raise_kept(first);
 }
 
 /* Whether a function is ready that has no turn, which is the caller's then; or -1 and an error. */
 static int take_turn(Request *self) {
   bool is_left = ready(self) > self->turns;
   self->turns += is_left && !self->chooses;
-  if (!self->chooses) return is_left;
-  PyObject *told = PyObject_CallMethod((PyObject *)self, "_take_turn", NULL);
-  int left = told ? PyObject_IsTrue(told) : -1;
-  Py_XDECREF(told);
-  return left;
+  return self->chooses ? truth(PyObject_CallMethod((PyObject *)self, "_take_turn", NULL)) : is_left;
 }
 
 /* In a child of `fork`, where no thread of the parent's is: what these were to run is the parent's. */
@@ -448,9 +455,7 @@ static int leave_to_parent(Request *self) {
   if (self->forks == self->state->forks) return 0;
   self->forks = self->state->forks;
   if (!self->works || !ready(self)) return 0;
-  PyObject *none = PyObject_CallMethod((PyObject *)self, "_leave_to_parent", NULL);
-  Py_XDECREF(none);
-  return none ? 0 : -1;
+  return truth(PyObject_CallMethod((PyObject *)self, "_leave_to_parent", NULL)) < 0 ? -1 : 0;
 }
 
 /* ---- Requests ---- */
@@ -489,68 +494,49 @@ static uint32_t open_machine(Request *self, uint16_t room) {
 
 static void close_machine(Request *self) {
   Pool *pool = self->pool;
-  bool is_kept = self->machine && pool->many < KEPT && self->stages <= MOST_KEPT && self->events <= 4 * MOST_KEPT &&
-                 !cf_request_restart(self->machine);
+  bool is_kept = self->machine && pool->many < (self->stages <= FEW ? KEPT : LARGE_KEPT) &&
+                 self->stages <= MOST_KEPT && self->events <= 4 * MOST_KEPT && !cf_request_restart(self->machine);
   if (is_kept) pool->machines[pool->many++] = self->machine;
   else if (self->machine) { cf_free(self->machine); PyMem_Free(self->machine); }
   self->machine = NULL;
 }
 
-/* What a plan keeps (`kept` of its PlanCore, in _module.py), or NULL and an error. */
-static Pool *pool_in(PyObject *kept) {
-  if (kept && PyTuple_Check(kept) && PyTuple_GET_SIZE(kept) == 4) {
-    Pool *pool = PyCapsule_GetPointer(PyTuple_GET_ITEM(kept, 0), POOL);
-    PyObject *calls = PyTuple_GET_ITEM(kept, 1), *names = PyTuple_GET_ITEM(kept, 2);
-    if (!pool || (PyTuple_Check(calls) && PyTuple_GET_SIZE(calls) == pool->stages &&
-                  PyList_Check(names) && PyList_GET_SIZE(names) == pool->stages)) return pool;
-  }
-  if (!PyErr_Occurred()) PyErr_SetString(PyExc_TypeError, "no plan");
-  return NULL;
-}
-
-/* RequestCore(works, title, room, keeps=None, plan=None) */
+/* RequestCore(works, class of its stages, room, pool, functions and names of the pool's stages) */
 static int Request_init(Request *self, PyObject *args, PyObject *Py_UNUSED(kwargs)) {
-  PyObject **name = self->state->names, *works, *title, *keeps = Py_None, *plan = Py_None;
+  PyObject *works, *stage_class, *capsule, *calls, *names;
   unsigned int room;
-  if (!PyArg_ParseTuple(args, "OOI|OO", &works, &title, &room, &keeps, &plan)) return -1;
-  if (self->kept) { PyErr_SetString(PyExc_TypeError, "a request is opened once"); return -1; }
-  PyObject *kept = PyObject_GetAttr(plan == Py_None ? (PyObject *)self : plan, name[PLAN_KEPT]);
-  PyObject *stage_class = PyObject_GetAttr((PyObject *)self, name[STAGE_CLASS]);
-  PyObject *chooses = PyObject_GetAttr((PyObject *)self, name[CHOOSES]);
-  Pool *pool = stage_class && chooses ? pool_in(kept) : NULL;
-  self->chooses = chooses == Py_True;
-  Py_XDECREF(chooses);
-  if (pool && (!PyType_Check(stage_class) ||
-               !PyType_IsSubtype((PyTypeObject *)stage_class, self->state->stage_core))) {
-    PyErr_SetString(PyExc_TypeError, "no class of stages");
-    pool = NULL;
-  }
-  Py_XSETREF(self->stage_class, (PyTypeObject *)stage_class);
-  if (!pool) { Py_XDECREF(kept); return -1; }
+  if (!PyArg_ParseTuple(args, "OO!IOO!O!", &works, &PyType_Type, &stage_class, &room, &capsule, &PyTuple_Type, &calls,
+                        &PyList_Type, &names)) return -1;
+  Pool *pool = PyCapsule_GetPointer(capsule, POOL);
+  if (!pool) return -1;
   uint32_t stages = pool->stages, most = pool->most;
-  if (plan == Py_None && !room) room = 1;
+  const char *wrong = self->kept ? "a request is opened once" :
+                      PyTuple_GET_SIZE(calls) != stages || PyList_GET_SIZE(names) != stages ? "no plan" :
+                      !PyType_IsSubtype((PyTypeObject *)stage_class, self->state->stage_core) ? "no class of stages" :
+                      NULL;
+  if (wrong) { PyErr_SetString(PyExc_TypeError, wrong); return -1; }
+  if (!stages && !room) room = 1;
   if (room > most - stages) room = most - stages;
   PyObject *values = PyList_New(0), *errors = PyList_New(0);
-  PyObject *its = PyList_GetSlice(PyTuple_GET_ITEM(kept, 2), 0, stages);
   Row *rows = PyMem_Calloc(stages + room + 1, sizeof *rows);  /* (none would be no memory) */
   self->pool = pool;
-  uint32_t code = values && errors && its && rows ? open_machine(self, (uint16_t)room) : CF_NO_MEMORY;
+  uint32_t code = values && errors && rows ? open_machine(self, (uint16_t)room) : CF_NO_MEMORY;
   if (code) {
-    Py_XDECREF(values); Py_XDECREF(errors); Py_XDECREF(its); Py_DECREF(kept);
+    Py_XDECREF(values); Py_XDECREF(errors);
     PyMem_Free(rows);
     refused(self, code);
     return -1;
   }
   for (uint32_t i = 0; i < stages; i++)
     rows[i] = (Row){.many = PLANNED, .form = (uint8_t)pool->numbers[stages + i]};
-  self->values = values; self->errors = errors; self->names = its; self->kept = kept;
-  self->calls = PyTuple_GET_ITEM(kept, 1);
+  self->values = values; self->errors = errors;
   self->room = stages + room; self->most = most; self->stages = stages;
   self->rows = rows;
+  Py_INCREF(stage_class); self->stage_class = (PyTypeObject *)stage_class;
+  Py_INCREF(names); self->names = names;
   Py_INCREF(works); self->works = works;
-  Py_INCREF(title); self->title = title;
-  Py_INCREF(keeps); self->keeps = keeps;
-  Py_INCREF(plan); self->plan = plan;
+  Py_INCREF(calls); self->calls = calls;
+  Py_INCREF(capsule); self->kept = capsule;
   News news = NO_NEWS;
   take_told(self, &news);  /* what is settled from the start, of which nobody has a future yet */
   return 0;
@@ -560,14 +546,14 @@ static int Request_traverse(Request *self, visitproc visit, void *arg) {
   Py_VISIT(Py_TYPE(self));
   Py_VISIT(self->state->module);
   for (uint32_t i = 0; i < self->stages; i++) Py_VISIT(self->rows[i].stage);
-  Py_VISIT(self->works); Py_VISIT(self->keeps); Py_VISIT(self->plan); Py_VISIT(self->kept);
-  Py_VISIT(self->names); Py_VISIT(self->values); Py_VISIT(self->errors); Py_VISIT(self->stage_class);
+  Py_VISIT(self->works); Py_VISIT(self->calls); Py_VISIT(self->stage_class);
+  Py_VISIT(self->names); Py_VISIT(self->values); Py_VISIT(self->errors);
   return 0;
 }
 
 static int Request_clear(Request *self) {
   for (uint32_t i = 0; i < self->stages; i++) Py_CLEAR(self->rows[i].stage);
-  Py_CLEAR(self->works); Py_CLEAR(self->keeps); Py_CLEAR(self->plan);
+  Py_CLEAR(self->works);
   return 0;  /* (what a stage tells is read from the rest) */
 }
 
@@ -575,12 +561,10 @@ static void Request_dealloc(Request *self) {
   PyTypeObject *type = Py_TYPE(self);
   State *state = self->state;
   PyObject_GC_UnTrack(self);
-  if (self->weak) PyObject_ClearWeakRefs((PyObject *)self);
   Request_clear(self);
-  Py_CLEAR(self->names); Py_CLEAR(self->values); Py_CLEAR(self->errors); Py_CLEAR(self->title);
-  Py_CLEAR(self->stage_class);
+  Py_CLEAR(self->names); Py_CLEAR(self->values); Py_CLEAR(self->errors); Py_CLEAR(self->stage_class);
   close_machine(self);
-  Py_CLEAR(self->kept);
+  Py_CLEAR(self->calls); Py_CLEAR(self->kept);
   PyMem_Free(self->rows); PyMem_Free(self->times);
   type->tp_free((PyObject *)self);
   Py_DECREF(state->module);
@@ -599,27 +583,12 @@ static int rows_for(Request *self, uint32_t more) {
   return 0;
 }
 
-/* Makes room for more stages, if that is what a code says is missing: whether the call is made again. */
-static bool grows(Request *self, uint32_t *code) {
-  return *code == CF_NO_ROOM && !(*code = cf_request_grow(self->machine));
-}
-
 /* Writes down so many names more, or with NULL takes those back that have no stage. */
 static uint32_t name_all(Request *self, uint32_t many, PyObject *name) {
   int failed = name ? 0 : PyList_SetSlice(self->names, self->stages, PY_SSIZE_T_MAX, NULL);
   for (uint32_t k = 0; name && k < many && !failed; k++) failed = PyList_Append(self->names, name);
   if (failed) PyErr_Clear();
   return failed ? CF_NO_MEMORY : CF_OK;
-}
-
-/* Attaches the stage of a row by a word. */
-static uint32_t add(Request *self, uint64_t word, Row row, PyObject *name, News *news) {
-  uint32_t code = name_all(self, 1, name);
-  cf_reply reply;
-  self->rows[self->stages] = row;
-  if (!code) do code = apply(self, word, &reply, news); while (grows(self, &code));
-  if (code) name_all(self, 0, NULL); else self->stages++;
-  return code;
 }
 
 /* A number from 0 on, below the bound, which gets into a word; else -1 and an error. */
@@ -649,15 +618,59 @@ static int stage_in(Request *self, PyObject *stage) {
   return -1;
 }
 
-/* Tells what came of a call that attached a stage, and gives that. The caller has one count of it, and the row one. */
-static PyObject *attached(Request *self, Stage *stage, News news) {
+/* Attaches the stages of such an `attach`, all or none, with room for them. How many are told. */
+static uint32_t attach_all(Request *self, long form, const uint16_t *of, size_t n, uint16_t function, size_t *told) {
+  cf_request_gathering gathering = {.who = (uint8_t)caller, .form = (uint32_t)form};
+  cf_request_composing composing = {
+    .who = (uint8_t)caller, .form = (uint32_t)form, .source = of[0], .function = function};
+  cf_applied applied = {.told = 0};
+  uint64_t word = KIND(ATTACH) | WHO(caller) | OF(of[0]) | (uint64_t)n << 32 | (uint64_t)form << 24 |
+                  (uint64_t)of[1] << 12 | function;
+  uint32_t code;
+  do
+    code = gathers(form) ? cf_request_gather(self->machine, &gathering, of, n, self->state->told, MOST) :
+           composes(form) ? cf_request_compose(self->machine, &composing, self->state->told, MOST) :
+                            cf_request_apply(self->machine, word, 0, &applied, self->state->told, MOST);
+  while (code == CF_NO_ROOM && !(code = cf_request_grow(self->machine)));
+  *told = gathering.told + composing.told + applied.told;
+  return code;
+}
+
+/* A stage more, behind n stages of these numbers; what it calls is a function with its arguments, or NULL. It takes
+ * further stages below it: a composing one its relay, a source, and one that gathers more than two of them those that
+ * gather them two by two. */
+static PyObject *attach(Request *self, long form, const uint16_t *of, size_t n, PyObject *const *call, PyObject *name) {
+  uint32_t relays = composes(form), many = relays + (gathers(form) && n > 2 ? (uint32_t)n - 1 : 1);
+  Stage *stage = new_stage(self, 0);
+  if (!stage) return NULL;
+  PyObject **places[] = {&stage->call, &stage->args, &stage->kwargs};
+  for (int k = 0; call && k < 3; k++)
+    if (call[k] != Py_None) { Py_INCREF(call[k]); *places[k] = call[k]; }
+  if (leave_to_parent(self) || rows_for(self, many)) { Py_DECREF(stage); return NULL; }
+  /* From here on in one step. */
+  uint32_t at = self->stages, last = at + many - 1;
+  size_t told = 0;
+  uint32_t code = name_all(self, relays, self->state->names[RELAY]);
+  if (!code) code = name_all(self, many - relays, name);
+  if (!code) code = attach_all(self, form, of, n, stage->call ? (uint16_t)last : 0, &told);
+  if (code) { name_all(self, 0, NULL); Py_DECREF(stage); return refused(self, code); }
+  for (uint32_t k = relays; k < many; k++)
+    self->rows[at + k] = (Row){.form = (uint8_t)form, .many = n < 2 ? (uint8_t)n : 2,
+                               .of = {k > relays ? (uint16_t)(at + k - 1) : of[0], of[k - relays + 1]}};
+  if (relays) self->rows[at] = (Row){.form = CF_SOURCE};
+  self->stages += many;
+  stage->number = (uint16_t)last;
+  stage->form = (uint8_t)form;
+  self->rows[last].stage = (PyObject *)stage;  /* (which has a count, beside the caller's) */
   Py_INCREF(stage);
+  News news = NO_NEWS;
+  note(self, many, told, &news);
+  news.is_ready |= stage->call != NULL;
   if (tell(self, news)) Py_CLEAR(stage);
   return (PyObject *)stage;
 }
 
-/* _attach(form, first, second, call, args, kwargs, name): a stage more, to at most two sources of this request.
- * Below a composing one stands its relay, a source. */
+/* _attach(form, first, second, call, args, kwargs, name): a stage more, behind at most two stages of this request. */
 static PyObject *Request_attach(Request *self, PyObject *const *args, Py_ssize_t n) {
   if (n != 7) return PyErr_Format(PyExc_TypeError, "_attach takes 7");
   long form = number_below(args[0], CF_EXCEPTIONALLY_COMPOSE + 1, "form");
@@ -665,60 +678,27 @@ static PyObject *Request_attach(Request *self, PyObject *const *args, Py_ssize_t
   if ((args[4] != Py_None && !PyTuple_Check(args[4])) || (args[5] != Py_None && !PyDict_Check(args[5])) ||
       !PyUnicode_Check(args[6]))
     return PyErr_Format(PyExc_TypeError, "arguments are a tuple and a dict, and a name is a str");
-  Row row = {.form = (uint8_t)form};
+  uint16_t of[2] = {0, 0};
+  size_t many = 0;
   for (int k = 1; k < 3; k++)
     if (args[k] != Py_None) {
       if (!is_own(self, args[k])) return NULL;
-      row.of[row.many++] = ((Stage *)args[k])->number;
+      of[many++] = ((Stage *)args[k])->number;
     }
-  Stage *stage = new_stage(self, 0);
-  if (!stage) return NULL;
-  PyObject **places[] = {&stage->call, &stage->args, &stage->kwargs};
-  for (int k = 0; k < 3; k++)
-    if (args[3 + k] != Py_None) { Py_INCREF(args[3 + k]); *places[k] = args[3 + k]; }
-  if (leave_to_parent(self) || rows_for(self, 1 + composes(form))) { Py_DECREF(stage); return NULL; }
-  /* From here on in one step. */
-  News news = NO_NEWS;
-  uint32_t code = CF_OK;
-  if (composes(form))
-    code = add(self, KIND(ATTACH) | WHO(caller), (Row){.form = CF_SOURCE}, self->state->names[RELAY], &news);
-  stage->number = (uint16_t)self->stages;
-  uint64_t word = KIND(ATTACH) | WHO(caller) | OF(row.of[0]) | (uint64_t)row.many << 32 | (uint64_t)form << 24 |
-                  (uint64_t)row.of[1] << 12 | (stage->call ? stage->number : 0);
-  row.stage = (PyObject *)stage;
-  if (!code) code = add(self, word, row, args[6], &news);
-  if (code) { Py_DECREF(stage); return refused(self, code); }
-  news.is_ready |= stage->call != NULL;
-  return attached(self, stage, news);
+  if (composes(form) && many != 1) return PyErr_Format(PyExc_ValueError, "a composing stage is behind one stage");
+  return attach(self, form, of, many, &args[3], args[6]);
 }
 
-/* _attach_all(form, numbers, name): the last of the stages that wait for all stages of these numbers, or for one. */
+/* _attach_all(form, numbers, name): a stage more, behind all stages of these numbers, or behind the first of them. */
 static PyObject *Request_attach_all(Request *self, PyObject *const *args, Py_ssize_t n) {
-  if (n != 3 || !PyBytes_Check(args[1]) || !PyUnicode_Check(args[2])) return PyErr_Format(PyExc_TypeError, "_attach_all takes 3");
+  if (n != 3 || !PyBytes_Check(args[1]) || !PyUnicode_Check(args[2]))
+    return PyErr_Format(PyExc_TypeError, "_attach_all takes 3");
   long form = number_below(args[0], CF_ANY_OF + 1, "form");
-  const uint16_t *of = (const uint16_t *)PyBytes_AS_STRING(args[1]);
-  size_t sources = (size_t)PyBytes_GET_SIZE(args[1]) / sizeof *of;
-  uint32_t many = sources > 1 ? (uint32_t)sources - 1 : 1;
-  if (form < 0 || leave_to_parent(self)) return NULL;
-  Stage *stage = new_stage(self, 0);
-  if (!stage) return NULL;
-  if (sources > MOST) full(self);
-  if (sources > MOST || rows_for(self, many)) { Py_DECREF(stage); return NULL; }
-  /* From here on in one step. */
-  cf_request_gathering step = {.who = (uint8_t)caller, .form = (uint32_t)form};
-  uint32_t at = self->stages, code = name_all(self, many, args[2]);
-  if (!code)
-    do code = cf_request_gather(self->machine, &step, of, sources, self->state->told, MOST); while (grows(self, &code));
-  if (code) { name_all(self, 0, NULL); Py_DECREF(stage); return refused(self, code); }
-  for (uint32_t k = 0; k < many; k++)
-    self->rows[at + k] = (Row){.form = (uint8_t)form, .many = sources < 2 ? (uint8_t)sources : 2,
-                               .of = {k ? (uint16_t)(at + k - 1) : sources ? of[0] : 0, sources > 1 ? of[k + 1] : 0}};
-  self->stages += many;
-  stage->number = step.root;
-  self->rows[step.root].stage = (PyObject *)stage;
-  News news = NO_NEWS;
-  note(self, many, step.told, &news);
-  return attached(self, stage, news);
+  size_t many = (size_t)PyBytes_GET_SIZE(args[1]) / sizeof(uint16_t);
+  const uint16_t *of = (const uint16_t *)PyBytes_AS_STRING(args[1]), few[2] = {many ? of[0] : 0, 0};
+  if (form < 0) return NULL;
+  if (!gathers(form)) return PyErr_Format(PyExc_ValueError, "form %ld gathers nothing", form);
+  return many > MOST ? full(self) : attach(self, form, many < 2 ? few : of, many, NULL, args[2]);
 }
 
 /* _change(kind, who, stage, given): completes, fails or cancels a stage, and says whether that did it. */
@@ -780,30 +760,31 @@ static PyObject *error_told(Request *self, uint16_t i, cf_outcome got) {
   return PyObject_CallMethod((PyObject *)self, "_made", "I", got.kind);
 }
 
-/* What a granted claim lets be called: with the stage's own arguments, or with as many as stand here. */
-typedef struct { PyObject *call, *args, *kwargs, *given[2]; int many; } Called;
+/* What a granted claim lets be called. */
+typedef struct { PyObject *call, *args, *kwargs; } Called;
 
-static void called_clear(Called *it) {
-  Py_CLEAR(it->call); Py_CLEAR(it->args); Py_CLEAR(it->kwargs); Py_CLEAR(it->given[0]); Py_CLEAR(it->given[1]);
-}
+static void called_clear(Called *it) { Py_CLEAR(it->call); Py_CLEAR(it->args); Py_CLEAR(it->kwargs); }
 
-/* What a stage that is claimed lets be called. It takes no memory where each exception was given by somebody. */
-static int to_call(Request *self, uint16_t i, const cf_args *args, Called *it) {
+/* What a stage that is claimed lets be called, with its own arguments or with what it waited for; nothing and an error
+ * where that can't be told. */
+static Called to_call(Request *self, uint16_t i, const cf_args *args) {
   Stage *stage = (Stage *)self->rows[i].stage;
   uint8_t form = self->rows[i].form;
   cf_outcome got = args->outcome;
-  *it = (Called){.call = stage ? stage->call : planned(self, i), .args = stage ? stage->args : NULL,
-                 .kwargs = stage ? stage->kwargs : NULL};
-  Py_XINCREF(it->call); Py_XINCREF(it->args); Py_XINCREF(it->kwargs);
-  if (!it->call) { called_clear(it); PyErr_SetString(PyExc_RuntimeError, "the request is collected"); return -1; }
-  if (args->kind == CF_ONE || args->kind == CF_TWO) it->given[it->many++] = value_out(self, args->first);
-  if (args->kind == CF_TWO) it->given[it->many++] = value_out(self, args->second);
+  PyObject *given[2] = {NULL, NULL};
+  Py_ssize_t many = 0;
+  Called it = {stage ? stage->call : planned(self, i), stage ? stage->args : NULL, stage ? stage->kwargs : NULL};
+  Py_XINCREF(it.call); Py_XINCREF(it.args); Py_XINCREF(it.kwargs);
+  if (args->kind == CF_ONE || args->kind == CF_TWO) given[many++] = value_out(self, args->first);
+  if (args->kind == CF_TWO) given[many++] = value_out(self, args->second);
   if (args->kind == CF_GOT && form != CF_EXCEPTIONALLY && form != CF_EXCEPTIONALLY_COMPOSE)
-    it->given[it->many++] = value_out(self, got.kind == CF_VALUE ? got.value : (cf_value){0});
-  if (args->kind == CF_GOT) it->given[it->many++] = error_told(self, i, got);
-  if (!it->many || it->given[it->many - 1]) return 1;
-  called_clear(it);
-  return -1;
+    given[many++] = value_out(self, got.kind == CF_VALUE ? got.value : (cf_value){0});
+  if (args->kind == CF_GOT) given[many++] = error_told(self, i, got);
+  if (!it.args && (!many || given[many - 1])) it.args = PyTuple_Pack(many, given[0], given[1]);
+  Py_XDECREF(given[0]); Py_XDECREF(given[1]);
+  if (!it.call) PyErr_SetString(PyExc_RuntimeError, "the request is collected");
+  if (!it.call || !it.args) called_clear(&it);
+  return it;
 }
 
 /* Claims this stage, or the lowest that is ready, by a turn: 1 where its function is to be called, 0 where none is. */
@@ -824,7 +805,8 @@ static int begin(Request *self, Stage *wanted, int who, uint16_t *i, Called *it)
   *i = wanted ? wanted->number : task.stage;
   self->rows[*i].running = true;
   if (self->rows[*i].stage) ((Stage *)self->rows[*i].stage)->running = true;
-  return to_call(self, *i, wanted ? &reply.args : &task.args, it);
+  *it = to_call(self, *i, wanted ? &reply.args : &task.args);
+  return 1;
 }
 
 /* Finishes a stage with a value, an exception or a lower stage, and tells what came of it. `turn` says whether a further
@@ -832,7 +814,7 @@ static int begin(Request *self, Stage *wanted, int who, uint16_t *i, Called *it)
 static int end(Request *self, uint16_t i, int who, long kind, PyObject *given, int *turn) {
   News news = NO_NEWS;
   cf_reply reply;
-  Kept first = {0};
+  PyObject *first = NULL;
   uint64_t low = 0;
   uint32_t number;
   if (leave_to_parent(self)) return -1;
@@ -852,7 +834,7 @@ static int end(Request *self, uint16_t i, int who, long kind, PyObject *given, i
   if (news.is_ready && (*turn = take_turn(self)) < 0) { keep(&first); *turn = 0; }
   news.is_ready &= *turn || self->chooses;  /* none is left to others where none was for the caller */
   if (tell(self, news)) keep(&first);
-  return raise_kept(&first);
+  return raise_kept(first);
 }
 
 /* Finishes a stage with what its function gave, or with what it raised where that is NULL; a composing one by the
@@ -872,16 +854,10 @@ static int answer(Request *self, uint16_t i, int who, PyObject *given, int *turn
   return failed;
 }
 
-static PyObject *call(Called *it) {
-  if (!it->args && !it->kwargs) return PyObject_Vectorcall(it->call, it->given, (size_t)it->many, NULL);
-  if (!it->args && !(it->args = PyTuple_New(0))) return NULL;
-  return PyObject_Call(it->call, it->args, it->kwargs);
-}
-
 /* Runs functions, each of which is claimed, called and finished: by a turn, and by one more as long as a function became
  * ready by that; or all that is ready. */
 static PyObject *run(Request *self, PyObject *number, bool all) {
-  Kept first = {0};
+  PyObject *first = NULL;
   int who = caller_in(number), turn = 1;
   if (who < 0) return NULL;
   while (turn || all) {
@@ -891,12 +867,12 @@ static PyObject *run(Request *self, PyObject *number, bool all) {
     int is_granted = begin(self, NULL, who, &i, &it);
     if (is_granted < 0) keep(&first);
     if (is_granted <= 0) break;
-    PyObject *given = call(&it);
+    PyObject *given = it.call ? PyObject_Call(it.call, it.args, it.kwargs) : NULL;
     called_clear(&it);
     if (answer(self, i, who, given, &turn)) keep(&first);
     Py_XDECREF(given);
   }
-  if (raise_kept(&first)) return NULL;
+  if (raise_kept(first)) return NULL;
   Py_RETURN_NONE;
 }
 
@@ -913,12 +889,11 @@ static PyObject *Request_begin(Request *self, PyObject *const *args, Py_ssize_t 
   Called it;
   uint16_t i;
   int is_granted = who < 0 ? -1 : begin(self, (Stage *)wanted, who, &i, &it);
-  if (is_granted < 0) return NULL;
+  if (is_granted < 0 || (is_granted && !it.call)) return NULL;
   if (!is_granted) Py_RETURN_NONE;
   Stage *stage = stage_at(self, i);
-  if (!it.args) it.args = PyTuple_Pack(it.many, it.given[0], it.given[1]);
   if (!it.kwargs) it.kwargs = PyDict_New();
-  if (stage && it.args && it.kwargs) told = PyTuple_Pack(4, stage, it.call, it.args, it.kwargs);
+  if (stage && it.kwargs) told = PyTuple_Pack(4, stage, it.call, it.args, it.kwargs);
   Py_XDECREF(stage);
   called_clear(&it);
   return told;
@@ -933,10 +908,9 @@ static PyObject *Request_end(Request *self, PyObject *const *args, Py_ssize_t n)
   if (kind < 0 || (kind == LINKING && !is_own(self, args[3]))) return NULL;
   if (!end(self, ((Stage *)args[0])->number, who, kind, args[3], &turn)) return PyBool_FromLong(turn);
   if (turn) {  /* nobody else will */
-    Kept first = {0};
-    keep(&first);
+    PyObject *first = caught();
     if (put(self, &first) < 0) keep(&first);
-    raise_kept(&first);
+    raise_kept(first);
   }
   return NULL;
 }
@@ -948,14 +922,6 @@ static PyObject *Request_take_told(Request *self, PyObject *Py_UNUSED(none)) {
   news.is_ready = true;
   if (tell(self, news)) return NULL;
   Py_RETURN_NONE;
-}
-
-/* _hand_on(): gives a turn for each function that is ready and has none. What was raised meanwhile. */
-static PyObject *Request_hand_on(Request *self, PyObject *Py_UNUSED(none)) {
-  Kept first = {0};
-  hand_on(self, false, &first);
-  if (!raise_kept(&first)) Py_RETURN_NONE;
-  return caught();
 }
 
 /* _stage(number): the future of a stage that may have none yet. */
@@ -984,13 +950,10 @@ static PyMethodDef request_methods[] = {
   {"_begin", FAST(Request_begin), METH_FASTCALL, "Claims a stage."},
   {"_end", FAST(Request_end), METH_FASTCALL, "Finishes a stage."},
   {"_take_told", (PyCFunction)Request_take_told, METH_NOARGS, "Tells what is left to be told."},
-  {"_hand_on", (PyCFunction)Request_hand_on, METH_NOARGS, "Gives turns for what is ready."},
   {"_stage", (PyCFunction)Request_stage, METH_O, "The future of a stage."},
   {NULL}};
 static PyMemberDef request_members[] = {
   {"_works", T_OBJECT, offsetof(Request, works), READONLY, NULL},
-  {"_title", T_OBJECT, offsetof(Request, title), READONLY, NULL},
-  {"_plan", T_OBJECT, offsetof(Request, plan), READONLY, NULL},
   {"_names", T_OBJECT, offsetof(Request, names), READONLY, NULL},
   {"_values", T_OBJECT, offsetof(Request, values), READONLY, NULL},
   {"_errors", T_OBJECT, offsetof(Request, errors), READONLY, NULL},
@@ -999,7 +962,7 @@ static PyMemberDef request_members[] = {
   {"_most", T_UINT, offsetof(Request, most), READONLY, NULL},
   {"_turns", T_UINT, offsetof(Request, turns), 0, NULL},
   {"_counts", T_BOOL, offsetof(Request, counts), 0, NULL},
-  {"__weaklistoffset__", T_PYSSIZET, offsetof(Request, weak), READONLY, NULL},
+  {"_chooses", T_BOOL, offsetof(Request, chooses), 0, NULL},
   {NULL}};
 static PyGetSetDef request_getters[] = {
   {"_at", (getter)Request_at, NULL, NULL, NULL},
@@ -1022,7 +985,7 @@ static PyType_Spec request_spec = {
 
 #define OF_STAGE(DO) \
   do { \
-    DO(self->request); DO(self->call); DO(self->args); DO(self->kwargs); \
+    DO(self->request); DO(self->given); DO(self->call); DO(self->args); DO(self->kwargs); \
     DO(self->callbacks); DO(self->condition); DO(self->waiters); \
   } while (0)
 
@@ -1034,6 +997,7 @@ static int Stage_traverse(Stage *self, visitproc visit, void *arg) {
 }
 
 static int Stage_clear(Stage *self) {
+  self->ended = 0;
   OF_STAGE(Py_CLEAR);
   return 0;
 }
@@ -1048,11 +1012,16 @@ static void Stage_dealloc(Stage *self) {
   Py_DECREF(type);
 }
 
-static PyObject *Stage_done(Stage *self, PyObject *Py_UNUSED(none)) { return PyBool_FromLong(told(self).kind); }
+static PyObject *Stage_done(Stage *self, PyObject *Py_UNUSED(none)) { return PyBool_FromLong(self->ended); }
+
+static PyObject *Stage_cancelled(Stage *self, PyObject *Py_UNUSED(none)) { return PyBool_FromLong(self->is_cancelled); }
 
 /* result(timeout=None): its value, where it is there. Else the class's `_awaited_result` waits for it, or raises. */
 static PyObject *Stage_result(Stage *self, PyObject *args, PyObject *kwargs) {
-  if (told(self).kind == CF_VALUE && !kwargs && PyTuple_GET_SIZE(args) < 2) return value_out(self->request, told(self).value);
+  if (self->ended == CF_VALUE && !kwargs && PyTuple_GET_SIZE(args) < 2) {
+    Py_INCREF(self->given);
+    return self->given;
+  }
   PyObject *later = PyObject_GetAttr((PyObject *)self, self->state->names[RESULT]);
   PyObject *given = later ? PyObject_Call(later, args, kwargs) : NULL;
   Py_XDECREF(later);
@@ -1060,7 +1029,7 @@ static PyObject *Stage_result(Stage *self, PyObject *args, PyObject *kwargs) {
 }
 
 static PyObject *Stage_add_done_callback(Stage *self, PyObject *call) {
-  Kept first = {0};
+  PyObject *first = NULL;
   be_here(self);
   PyObject *made = self->shown || self->callbacks ? NULL : PyList_New(0);
   if (PyErr_Occurred()) return NULL;
@@ -1070,39 +1039,8 @@ static PyObject *Stage_add_done_callback(Stage *self, PyObject *call) {
     if (PyList_Append(self->callbacks, call)) keep(&first);
   }
   Py_XDECREF(made);
-  if (raise_kept(&first)) return NULL;
+  if (raise_kept(first)) return NULL;
   Py_RETURN_NONE;
-}
-
-/* _ended: the kind of its outcome. */
-static PyObject *Stage_ended(Stage *self, void *Py_UNUSED(which)) { return PyLong_FromUnsignedLong(told(self).kind); }
-
-/* cancelled(), _is_cancelled: whether that is a cancellation of its own. */
-static PyObject *Stage_cancelled(Stage *self, void *Py_UNUSED(which)) {
-  return PyBool_FromLong(was_cancelled(told(self)));
-}
-
-/* _given: its value, or the exception that somebody gave; None where nobody did. */
-static PyObject *Stage_given(Stage *self, void *Py_UNUSED(which)) {
-  cf_outcome outcome = told(self);
-  if (!outcome.kind) Py_RETURN_NONE;
-  return outcome.kind == CF_VALUE ? value_out(self->request, outcome.value) :
-                                    error_out(self->request, outcome, self->request->rows[self->number].error);
-}
-
-static PyObject *Stage_form(Stage *self, void *Py_UNUSED(which)) {
-  return PyLong_FromLong(self->request ? self->request->rows[self->number].form : 0);
-}
-
-static PyObject *Stage_shown(Stage *self, void *Py_UNUSED(which)) {
-  be_here(self);
-  return PyBool_FromLong(self->shown);
-}
-
-static int Stage_set_shown(Stage *self, PyObject *shown, void *Py_UNUSED(which)) {
-  int is_so = shown ? PyObject_IsTrue(shown) : -1;
-  if (is_so >= 0) self->shown = is_so;
-  return is_so < 0 ? -1 : 0;
 }
 
 /* _condition, _waiters: what those wait by who wait for it, made by the class once somebody does. */
@@ -1121,22 +1059,23 @@ static PyObject *Stage_waited(Stage *self, void *is_condition) {
 
 static PyMethodDef stage_methods[] = {
   {"done", (PyCFunction)Stage_done, METH_NOARGS, "Whether it is settled."},
-  {"cancelled", FAST(Stage_cancelled), METH_NOARGS, "Whether it was cancelled."},
+  {"cancelled", (PyCFunction)Stage_cancelled, METH_NOARGS, "Whether it was cancelled."},
   {"result", FAST(Stage_result), METH_VARARGS | METH_KEYWORDS, "Waits for its value. Its exception is raised."},
   {"add_done_callback", (PyCFunction)Stage_add_done_callback, METH_O, "Calls a function with it, once it is settled."},
   {NULL}};
 static PyMemberDef stage_members[] = {
   {"request", T_OBJECT, offsetof(Stage, request), READONLY, "What it belongs to."},
   {"number", T_USHORT, offsetof(Stage, number), READONLY, "Its place in the request, from 0 on."},
+  {"_form", T_UBYTE, offsetof(Stage, form), READONLY, NULL},
+  {"_ended", T_UBYTE, offsetof(Stage, ended), READONLY, NULL},
+  {"_is_cancelled", T_BOOL, offsetof(Stage, is_cancelled), READONLY, NULL},
+  {"_given", T_OBJECT, offsetof(Stage, given), READONLY, NULL},
   {"_done_callbacks", T_OBJECT, offsetof(Stage, callbacks), READONLY, NULL},
+  {"_shown", T_BOOL, offsetof(Stage, shown), 0, NULL},
+  {"_told", T_UINT, offsetof(Stage, told), 0, NULL},
   {"_runs", T_BOOL, offsetof(Stage, running), 0, NULL},
   {NULL}};
 static PyGetSetDef stage_getters[] = {
-  {"_ended", (getter)Stage_ended, NULL, NULL, NULL},
-  {"_is_cancelled", (getter)Stage_cancelled, NULL, NULL, NULL},
-  {"_given", (getter)Stage_given, NULL, NULL, NULL},
-  {"_form", (getter)Stage_form, NULL, NULL, NULL},
-  {"_shown", (getter)Stage_shown, (setter)Stage_set_shown, NULL, NULL},
   {"_condition", (getter)Stage_waited, NULL, NULL, "one"},
   {"_waiters", (getter)Stage_waited, NULL, NULL, NULL},
   {NULL}};
@@ -1156,16 +1095,17 @@ static void empty_pool(PyObject *capsule) {
     cf_free(machine);
     PyMem_Free(machine);
   }
+  Py_XDECREF(pool->owner);
   PyMem_Free(pool);
 }
 
-/* pool(at, most, stages, numbers): the Pool of a plan, by the address of its handle. */
+/* pool(owner, at, most, stages, numbers): the Pool of a plan, by the address of its handle and who keeps that. */
 static PyObject *pool_of(PyObject *Py_UNUSED(module), PyObject *args) {
-  PyObject *at;
+  PyObject *owner, *at;
   unsigned int most, stages;
   const char *numbers;
   Py_ssize_t size;
-  if (!PyArg_ParseTuple(args, "OIIy#", &at, &most, &stages, &numbers, &size)) return NULL;
+  if (!PyArg_ParseTuple(args, "OOIIy#", &owner, &at, &most, &stages, &numbers, &size)) return NULL;
   void *plan = PyLong_AsVoidPtr(at);
   uint32_t edges = (uint32_t)size / 2 - 2 * stages, begin = 0;
   bool is_right = plan && most <= MOST && stages <= most && size >= 4 * (Py_ssize_t)stages;
@@ -1180,7 +1120,7 @@ static PyObject *pool_of(PyObject *Py_UNUSED(module), PyObject *args) {
     for (uint32_t k = begin; is_right && k < *its; k++) is_right = of[k] < i;
   }
   PyObject *made = is_right ? PyCapsule_New(pool, POOL, empty_pool) : NULL;
-  if (!made) PyMem_Free(pool);
+  if (made) { Py_INCREF(owner); pool->owner = owner; } else PyMem_Free(pool);
   if (!is_right && !PyErr_Occurred()) PyErr_SetString(PyExc_TypeError, "no plan");
   return made;
 }
@@ -1203,12 +1143,11 @@ static PyMethodDef module_methods[] = {
   {"forked", (PyCFunction)forked, METH_NOARGS, "Tells that this process is a fork's child."},
   {NULL}};
 
-static PyTypeObject *type_of(PyObject *module, PyType_Spec *spec, const char *name) {
-  PyObject *type = PyType_FromModuleAndSpec(module, spec, NULL);
-  if (!type) return NULL;
-  Py_INCREF(type);
-  if (PyModule_AddObject(module, name, type)) { Py_DECREF(type); Py_CLEAR(type); }
-  return (PyTypeObject *)type;
+/* A type of the module, which has it by its name, too. */
+static PyTypeObject *type_of(PyObject *module, PyType_Spec *spec) {
+  PyTypeObject *type = (PyTypeObject *)PyType_FromModuleAndSpec(module, spec, NULL);
+  if (type && PyModule_AddType(module, type)) Py_CLEAR(type);
+  return type;
 }
 
 /* Makes what an interpreter has of the module. */
@@ -1224,8 +1163,9 @@ static int fill(PyObject *module) {
     return -1;
   }
   if (!(it->told = PyMem_RawMalloc(MOST * sizeof *it->told))) { PyErr_NoMemory(); return -1; }
-  if (!(it->request_core = type_of(module, &request_spec, "RequestCore"))) return -1;
-  if (!(it->stage_core = type_of(module, &stage_spec, "StageCore"))) return -1;
+  PyTypeObject *request_core = type_of(module, &request_spec);
+  Py_XDECREF(request_core);  /* (which the module has) */
+  if (!request_core || !(it->stage_core = type_of(module, &stage_spec))) return -1;
   it->stage_core->tp_new = NULL;  /* a request makes its stages (Python 3.9 has no flag for it) */
   for (int k = 0; k < NAMES; k++)
     if (!(it->names[k] = PyUnicode_InternFromString(names[k]))) return -1;
@@ -1233,15 +1173,14 @@ static int fill(PyObject *module) {
 }
 
 static int module_traverse(PyObject *module, visitproc visit, void *arg) {
-  State *it = PyModule_GetState(module);
-  Py_VISIT(it->request_core); Py_VISIT(it->stage_core);
+  Py_VISIT(((State *)PyModule_GetState(module))->stage_core);
   return 0;
 }
 
 /* (There is no clearing: what stands here stays until no object is left that uses it.) */
 static void module_free(void *module) {
   State *it = PyModule_GetState((PyObject *)module);
-  Py_CLEAR(it->request_core); Py_CLEAR(it->stage_core);
+  Py_CLEAR(it->stage_core);
   for (int k = 0; k < NAMES; k++) Py_CLEAR(it->names[k]);
   PyMem_RawFree(it->told);
 }

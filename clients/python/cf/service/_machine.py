@@ -34,7 +34,7 @@ def bound(name: str) -> Callable[..., int]:
 
 _follow, _refuse, _next = bound("cf_request_follow"), bound("cf_request_refuse"), bound("cf_request_next")
 _deadline, _pass = bound("cf_request_deadline"), bound("cf_request_pass")
-_count, _ready, _words = bound("cf_request_ready"), bound("cf_ledger_ready"), bound("cf_ledger_words")
+_ready, _words = bound("cf_ledger_ready"), bound("cf_ledger_words")
 _ROW, _MANY = CTold(), c.c_size_t()
 _untold, _many = c.addressof(_ROW), c.addressof(_MANY)  # of a row without room, and of a number that isn't looked at
 
@@ -117,12 +117,12 @@ class Calls:
 
     Attributes:
         _stage_class: The class of its futures.
-        _chooses: Whether it says itself whose turn is next, by its own `_take_turn` and `_hand_on`."""
+        _chooses: Whether its class says whose turn is next, by a `_take_turn` and a `_hand_on_chosen` of its own."""
 
     _stage_class: "ClassVar[Type[Stage[Any]]]"
-    _chooses: ClassVar[bool] = False
 
     if TYPE_CHECKING:
+        _chooses: bool
         _lock: ContextManager[Any]
         _works: Works
         _limits: Limits
@@ -144,6 +144,8 @@ class Calls:
         def _takes(self, stage: int, other: int, code: int) -> None: ...
         def _link(self, stage: "Stage[Any]", who: int, to: Any) -> bool: ...
         def _take_told(self) -> None: ...
+        def _take_turn(self) -> bool: ...
+        def _hand_on_chosen(self) -> None: ...
     else:
         __slots__ = ()
 
@@ -185,19 +187,14 @@ class Calls:
             self._take_back()
             check(_refuse(self._at, 0, self._code(error), _untold, 0, _many))
 
+    def _refuse_ready(self) -> None:
+        """Nobody took a turn."""
+        self._fail_ready(self._works.refusal())
+
     def _refuse(self, error: BaseException) -> None:
         """The same, and tells the stages that fail."""
         self._fail_ready(error)
         self._take_told()
-
-    def _take_turn(self) -> bool:
-        """Whether a function is ready that has no turn, which is this thread's then."""
-        many = c.c_uint16()
-        with self._lock:
-            check(_count(self._at, 0, c.addressof(many)))
-            is_left = many.value > self._turns
-            self._turns += is_left
-            return is_left
 
     def _take_back(self) -> None:
         """Takes all turns back. The lock is held."""

@@ -14,6 +14,9 @@ from . import _machine
 from ._machine import Calls
 from .words import PENDING, VALUE
 
+if TYPE_CHECKING:
+    from .request import Works
+
 __all__ = ["PlanCore", "RequestCore", "StageCore", "be"]
 
 
@@ -21,7 +24,7 @@ class PlanCore(_machine.PlanCore):
     """A plan that keeps machines of requests that are over for its next ones.
 
     Attributes:
-        kept: What the module has of it: these machines, the functions and names of its stages, and the plan."""
+        kept: What the module has of it: these machines, and the functions and names of its stages."""
 
     __slots__ = ("kept",)
 
@@ -30,15 +33,23 @@ class PlanCore(_machine.PlanCore):
         forms, sources, calls, names = zip(*self.rows) if self.rows else ((), (), (), ())
         # Of each stage where its sources end, then of each its form, then all sources.
         numbers = array("H", chain(accumulate(map(len, sources)), forms, *sources))
-        self.kept = _cf.pool(self.at, self.most, len(self.rows), numbers.tobytes()), calls, list(names), self._plan
+        self.kept = _cf.pool(self._plan, self.at, self.most, len(self.rows), numbers.tobytes()), calls, list(names)
+
+
+_nothing = PlanCore([])
 
 
 class RequestCore(_cf.RequestCore, Calls):
     """A request of the module, which has no lock of its own."""
 
-    __slots__ = ()
+    __slots__ = ("_title", "_keeps", "_plan", "__weakref__")
     _lock: ContextManager[Any] = contextlib.nullcontext()
-    kept = PlanCore([]).kept  # of one without a plan
+
+    def __init__(self, works: "Works", title: str, room: int, keeps: object = None,
+                 plan: Optional[PlanCore] = None) -> None:
+        pool, calls, names = (plan or _nothing).kept
+        _cf.RequestCore.__init__(self, works, self._stage_class, room, pool, calls, names[:])
+        self._title, self._keeps, self._plan = title, keeps, plan
 
     def _set_running(self, stage: "StageCore") -> Optional[bool]:
         """Lets nobody cancel it any more but `abandon`. None where it is settled otherwise or runs, else whether it

@@ -300,7 +300,7 @@ class RequestCore(Calls):
     function is left does nothing."""
 
     __slots__ = ("_works", "_title", "_keeps", "_plan", "_lock", "_machine", "_rows", "_names", "_most", "_values",
-                 "_errors", "_times", "_counts", "_turns", "__weakref__")
+                 "_errors", "_times", "_counts", "_turns", "_chooses", "__weakref__")
 
     def __init__(self, works: "Works", title: str, room: int, keeps: object = None,
                  plan: Optional[PlanCore] = None) -> None:
@@ -312,7 +312,7 @@ class RequestCore(Calls):
         self._machine = _Machine(plan, min(max(room, plan is None), self._most - len(self._rows)))
         self._values: List[Any] = []
         self._errors: List[BaseException] = []
-        self._times, self._counts, self._turns = array("q"), False, 0
+        self._times, self._counts, self._turns, self._chooses = array("q"), False, 0, False
         if plan is not None:
             self._note(self._machine.more(), [])
         _forks.add(self)
@@ -622,7 +622,11 @@ class RequestCore(Calls):
     def _tell(self, settled: "List[Stage[Any]]", is_ready: bool) -> None:
         """Gives turns for functions that may be ready, and calls the callbacks of the stages that were settled. The
         lock is free. What a callback raises is raised once all is told."""
-        first = self._hand_on() if is_ready else None
+        first: Optional[BaseException] = None
+        if is_ready and self._chooses:
+            self._hand_on_chosen()
+        elif is_ready:
+            first = self._hand_on()
         if self._counts:
             with self._lock:
                 self._stamp(0)
@@ -652,7 +656,7 @@ class RequestCore(Calls):
                         self._turns -= min(left, self._turns)
                     break
             if not is_taken:
-                self._fail_ready(self._works.refusal())
+                self._refuse_ready()
                 break
         return first
 

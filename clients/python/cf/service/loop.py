@@ -1,11 +1,10 @@
 """Functions on an event loop, in place of threads: they may be coroutine functions, and the loop's clock is the
 clock."""
 import asyncio
-import functools
 import inspect
 import itertools
 from types import CoroutineType
-from typing import Any, Awaitable, Callable, List, Optional, Set, Type, TypeVar, cast
+from typing import Any, Awaitable, Callable, Optional, Set, Type, TypeVar, cast
 
 from .contexts import ContextRequest, ended, Within
 from .ending import EndingRequest, Ends, Hook
@@ -129,14 +128,9 @@ class _LoopWorks(LoopWakes):
 
     def _await(self, stage: "Stage[Any]", given: Awaitable[Any]) -> None:
         """Lets a coroutine go on, in a copy of this context. The stage keeps its task."""
-        running: "List[asyncio.Task[None]]" = []  # until it ends by itself
-        running.append(self._loop.create_task(self._awaited(stage, given, running)))
-        stage.add_done_callback(functools.partial(self._settled, running))
-
-    def _settled(self, running: "List[asyncio.Task[None]]", _stage: object) -> None:
-        """The stage of a coroutine is settled."""
-        if running:
-            self._soon(self._cancel, running[0])
+        running = _Running(self)
+        running.task = self._loop.create_task(self._awaited(stage, given, running))
+        stage.add_done_callback(running)
 
     def _cancel(self, task: "asyncio.Task[None]") -> None:
         """Cancels a task that the stage keeps no longer."""
@@ -144,19 +138,34 @@ class _LoopWorks(LoopWakes):
         task.add_done_callback(self._tasks.discard)
         task.cancel()
 
-    async def _awaited(self, stage: "Stage[Any]", given: Awaitable[Any], running: "List[asyncio.Task[None]]") -> None:
+    async def _awaited(self, stage: "Stage[Any]", given: Awaitable[Any], running: "_Running") -> None:
         try:
             value = await given
         except BaseException as error:
-            running.clear()
+            running.task = None
             goes_on = self._raised(stage, error)
         else:
-            running.clear()
+            running.task = None
             request = stage.request
             goes_on = (request._link(stage, FIRST_WORKER, value) if stage._form in COMPOSE_FORMS else
                        request._end(stage, FIRST_WORKER, GIVES, value))
         if goes_on:
             self.use(stage.request)
+
+
+class _Running:
+    """The task of a coroutine, until that ends by itself. It is called once the coroutine's stage is settled, and has
+    the task cancelled if there is still one."""
+
+    __slots__ = ("works", "task")
+    task: "Optional[asyncio.Task[None]]"
+
+    def __init__(self, works: _LoopWorks) -> None:
+        self.works, self.task = works, None
+
+    def __call__(self, _stage: object) -> None:
+        if self.task is not None:
+            self.works._soon(self.works._cancel, self.task)
 
 
 class _WatchedLoopWorks(_LoopWorks):

@@ -19,6 +19,8 @@ from collections import deque
 from queue import Empty, SimpleQueue
 from typing import TYPE_CHECKING, Any, Callable, Deque, Dict, Generator, List, Optional, Sequence, Set, Tuple
 
+from .words import VALUE
+
 if TYPE_CHECKING:
     from .request import Request
 
@@ -399,13 +401,12 @@ class Waited:
         _condition: threading.Condition
         _waiters: List[Any]
         _shown: bool
-        _exception: Optional[BaseException]
+        _ended: int
+        _is_cancelled: bool
+        _told: int  # how many waiters were told
 
-        def cancelled(self) -> bool: ...
         def cancel(self) -> bool: ...
         def add_done_callback(self, fn: Callable[[Any], object]) -> None: ...
-
-    _told = 0  # of those who wait
 
     def _wait(self, timeout: Optional[float]) -> None:
         """Waits until it is shown, or so many seconds."""
@@ -421,10 +422,10 @@ class Waited:
             while self._told < len(waiters):
                 self._told += 1
                 waiter = waiters[self._told - 1]
-                if self.cancelled():
-                    waiter.add_cancelled(self)
-                elif self._exception is None:
+                if self._ended == VALUE:
                     waiter.add_result(self)
+                elif self._is_cancelled:
+                    waiter.add_cancelled(self)
                 else:
                     waiter.add_exception(self)
             self._shown = True

@@ -173,10 +173,9 @@ class WatchedRequest(Request):
     """A request that tells a watch what is done to it. A watch that runs the functions chooses among the stages that
     are ready, so each of them is told by itself."""
 
-    _chooses = True
-
     def __init__(self, works: Any, title: str, room: int, keeps: object = None, plan: Any = None) -> None:
         super().__init__(works, title, room, keeps, plan)
+        self._chooses = not self._is_on_loop
         self._moments = array("q")
         self._told_ready: Set[int] = set()
         self._own = 0  # of these the one whose turn is the caller's
@@ -218,21 +217,16 @@ class WatchedRequest(Request):
         return Task(self._stage(self._own))
 
     def _take_turn(self) -> bool:
-        if self._is_on_loop:
-            return super()._take_turn()
         chosen = self._choose()
         self._own = self._own if chosen is None else chosen
         return chosen is not None
 
-    def _hand_on(self) -> Optional[BaseException]:
-        if self._is_on_loop:
-            return super()._hand_on()
+    def _hand_on_chosen(self) -> None:
         own = self._own
         for self._own in iter(self._choose, None):
             if not self._works.put(self):
-                self._fail_ready(self._works.refusal())
+                self._refuse_ready()
         self._own = own
-        return None
 
     # What is done.
 

@@ -41,7 +41,7 @@ class CoreArguments(CoreCase):
                          lambda: made._name_of(0), lambda: made._rename(0, "x"), lambda: made._code(OSError()),
                          lambda: made._keep(1), lambda: made._attach(3, core_stage, None, str, None, None, "x"))
             self.assertIsNone(made._open())
-            self.assertEqual((made._at, made._times, made._hand_on()), (0, b"", None))
+            self.assertEqual((made._at, made._times), (0, b""))
             self.refused(lambda: made._takes(0, -1, -1), made._facts, made._ready_ones, kinds=(IndexError, Refused))
 
     def test_an_opening_that_fails(self):
@@ -67,10 +67,10 @@ class CoreArguments(CoreCase):
         plan = _core.PlanCore([(0, (), None, "x"), (3, (0,), str, "y")])
 
         def pool(numbers, most=plan.most, stages=2):
-            return _cf.pool(plan.at, most, stages, array("H", numbers).tobytes())
+            return _cf.pool(plan, plan.at, most, stages, array("H", numbers).tobytes())
 
         def core(*kept):
-            return Request(None, "", 1, None, types.SimpleNamespace(kept=(*kept, plan)))
+            return Request(None, "", 1, None, types.SimpleNamespace(kept=kept))
         from cf import _cf
         right = pool([0, 1, 0, 3, 0])  # where sources end, forms, and sources
         self.assertEqual(core(right, (None, str), ["x", "y"])._stage(1).name, "y")
@@ -78,7 +78,7 @@ class CoreArguments(CoreCase):
                          [0, 1, 0, 3, 1], [0, 1, 0, 3, 2], [0, 1, 0, 19, 0], [0, 2, 0, 3, 0], [1, 0, 0, 3, 0],
                          [0, 1, 0, 3], [0, 1, 0], [])],
                      lambda: pool([0, 1, 0, 3, 0], 4097), lambda: pool([0, 1, 0, 3, 0], 1), lambda: pool([], -1, 0),
-                     lambda: _cf.pool(0, 9, 0, b""), lambda: _cf.pool(plan.at, 9, 0, 7), lambda: _cf.pool(),
+                     lambda: _cf.pool(plan, 0, 9, 0, b""), lambda: _cf.pool(plan, plan.at, 9, 0, 7), lambda: _cf.pool(),
                      lambda: core(), lambda: core(right, (), ["x", "y"]), lambda: core(7, (None, str), ["x", "y"]),
                      lambda: core(right, [None, str], ["x", "y"]), lambda: core(right, (None, str), ["x"]),
                      lambda: core(right, (None, str), 7), lambda: core(right, (None, str), ["x", "y"], 1), kinds=self.ODD)
@@ -120,6 +120,8 @@ class CoreArguments(CoreCase):
                      lambda: core._attach("3", core_stage, None, str, None, None, "x"), lambda: core._attach(),
                      lambda: core._attach(3, other, None, str, None, None, "x"),
                      lambda: core._attach(3, 7, None, str, None, None, "x"), lambda: core._begin(3, other),
+                     lambda: core._attach(12, None, None, str, None, None, "x"),
+                     lambda: core._attach(12, core_stage, core_stage, str, None, None, "x"),
                      lambda: core._begin(None), lambda: core._end(core_stage, 3, 3, other),
                      lambda: core._change(COMPLETE, 0, "x", 1), lambda: core._gather(16, [other], "x"),
                      lambda: core._attach_all(16, [0], "x"), lambda: core._attach_all(16, b"\1\0", "x"),

@@ -92,14 +92,17 @@ class Kept(Case):
         self.assertTrue(until(lambda: all(freed_stage.done() for freed_stage in [*held, *running])))
 
     def test_idle_threads_keep_nothing(self):
+        """A thread that waits for its next turn has no request, which a turn is."""
         gc.disable()
         try:
             for call, *given in ((Thing(),), (lambda it: it, Thing()), (fails,)):
                 freed_stage = self.service.submit(call, *given)
                 freed_stage.exception(20)
-                watched = weakref.ref(freed_stage)
+                watched = [weakref.ref(freed_stage)]
+                if call is not fails:  # (an exception keeps frames, and one of these has the request)
+                    watched.append(weakref.ref(freed_stage.request))
                 del call, given, freed_stage
-                self.assertTrue(until(lambda: watched() is None))
+                self.assertTrue(until(lambda: all(it() is None for it in watched)))
         finally:
             gc.enable()
 

@@ -141,9 +141,8 @@ service.request().promise().or_timeout(1000)
                 spec.loader.exec_module(module)
                 class Own(module.StageCore):
                     pass
-                class Owns(module.RequestCore):
-                    _stage_class, _chooses, kept = Own, False, (module.pool(plan.at, plan.most, 0, b""), (), [], plan)
-                request = Owns(None, "", 1)
+                pool = module.pool(plan, plan.at, plan.most, 0, b"")
+                request = module.RequestCore(None, Own, 1, pool, (), [])
                 stage = request._attach(0, None, None, None, None, None, "x")
                 assert type(stage) is Own
                 return weakref.ref(Own), weakref.ref(module.RequestCore), request

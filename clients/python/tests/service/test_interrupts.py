@@ -141,6 +141,18 @@ class InterruptsOfCores(CoreCase):
         request.supply(str)
         self.assertEqual(failing.taken, 2)
 
+    @unittest.skipUnless(IS_MODULE, "by ctypes the stage stays claimed")
+    def test_a_function_whose_arguments_raise(self):
+        """Its stage ends with that, as with what the function itself raises."""
+        class Own(Request):
+            @staticmethod
+            def _made(kind):
+                raise KeyboardInterrupt
+        before_interrupt = Own(self.service._works, "r", 4).promise()
+        behind = before_interrupt.handle(lambda value, error: error)
+        before_interrupt.cancel()
+        self.assertIsInstance(behind.exception(20), KeyboardInterrupt)
+
     @unittest.skipUnless(IS_MODULE,
                          "by ctypes the stack may end between an event and its showing, as within concurrent.futures")
     def test_at_the_end_of_the_stack(self):

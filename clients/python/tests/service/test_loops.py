@@ -121,7 +121,11 @@ class Loops(unittest.TestCase):
             self.assertEqual(between, [])
             with self.assertRaises(asyncio.CancelledError):
                 await cancelled
-        asyncio.run(main())
+            return given
+        given = asyncio.run(main())
+        with self.assertRaises(StopIteration) as at_once:  # no loop runs, and none is needed
+            given.__await__().send(None)
+        self.assertEqual(at_once.exception.value, 5)
 
     def test_timeouts_cancel(self):
         ended = []

@@ -187,23 +187,28 @@ class Shutdown(unittest.TestCase):
 
 class Initializers(unittest.TestCase):
     def test_initializers_that_fail_let_others_end(self):
-        initialized, numbers = Service(3, initializer=lambda: init()), iter(range(3))
-        begun, fail, lets_end = threading.Event(), threading.Event(), threading.Event()
+        """Without a shutdown, and also where one alone fails."""
+        for failing in (1, 2):
+            initialized, numbers = Service(1 + failing, initializer=lambda: init()), iter(range(3))
+            begun, fail, lets_end = threading.Event(), threading.Event(), threading.Event()
 
-        def init():
-            if next(numbers):
-                fail.wait(20)
-                fails()
-        running = initialized.submit(lambda: begun.set() or lets_end.wait(20))
-        self.assertTrue(begun.wait(20))
-        with self.assertLogs("concurrent.futures", "CRITICAL"):
-            handed_in = [initialized.submit(str), initialized.submit(str)]
-            fail.set()
-            for stage in handed_in:
-                self.assertIsInstance(stage.exception(20), concurrent.futures.BrokenExecutor)
-        lets_end.set()
-        self.assertTrue(running.result(20))
-        self.assertTrue(ends(initialized))
+            def init():
+                if next(numbers):
+                    fail.wait(20)
+                    fails()
+            running = initialized.submit(lambda: begun.set() or lets_end.wait(20))
+            self.assertTrue(begun.wait(20))
+            with self.assertLogs("concurrent.futures", "CRITICAL"):
+                handed_in = [initialized.submit(str) for _ in range(failing)]
+                fail.set()
+                for stage in handed_in:
+                    self.assertIsInstance(stage.exception(20), concurrent.futures.BrokenExecutor)
+            lets_end.set()
+            self.assertTrue(running.result(20))
+            for thread in initialized._works.threads:
+                thread.join(20)
+                self.assertFalse(thread.is_alive())
+            self.assertTrue(ends(initialized))
 
     def test_initializer(self):
         local = threading.local()

@@ -474,10 +474,7 @@ class Future(waits.Waited):
     """A stage as the C module has it: it is settled first, and shown then."""
 
     def __init__(self, led):
-        self._condition, self._waiters, self._shown, self._exception = led.condition(), [], False, None
-
-    def cancelled(self):
-        return False
+        self._condition, self._waiters, self._told, self._ended, self._shown = led.condition(), [], 0, waits.VALUE, False
 
     def show(self):
         while not self._shown:
