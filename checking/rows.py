@@ -54,15 +54,17 @@ def rows_of_python(tools: Tools, made: Path) -> List[Row]:
     python, builds, tested = tools["python3"], "setuptools and wheel for Python", "Python's own tests"
     installed, by_module = made / "python", ["env", "CF_INSTALLED=1", str(made / "python/venv/bin/python")]
     programs = [tools["cf"], tools["cf_look"]]
+
+    def example(name: str, file: str, page: str = "clients/python") -> Row:
+        """A program of the client's pages, run in the tree."""
+        return Row(name, ["library", "python3"], [["env", "PYTHONPATH=clients/python", python, f"clients/python/examples/{file}"]], (page, file))
     return [
-        Row("Python's example", ["library", "python3"], [[python, "clients/python/example.py"]], ("clients/python", "example.py")),
-        Row("Python's first program", ["library", "python3"], [[python, "clients/python/first.py"]], ("clients/python", "first.py")),
-        Row("Python's spans in a file", ["library", "python3"], [[python, "clients/python/traced.py"]], ("clients/python", "traced.py")),
-        Row("Python's order of three processes", ["library", "python3"], [[python, "clients/python/order.py"]], ("clients/python", "order.py")),
-        Row("Python's order that charges twice", ["library", "python3"], [[python, "clients/python/twice.py"]], ("docs/TESTING.md", "twice.py")),
-        Row("Python's orders that charge once", ["library", "python3"], [[python, "clients/python/once.py"]], ("docs/TESTING.md", "once.py")),
-        Row("Python's order over a store that charges twice", ["library", "python3"], [[python, "clients/python/killed.py"]], ("docs/TESTING.md", "killed.py")),
-        Row("Python's orders over a store that charge once", ["library", "python3"], [[python, "clients/python/keyed.py"]], ("docs/TESTING.md", "keyed.py")),
+        example("Python's example", "example.py"), example("Python's first program", "first.py"),
+        example("Python's spans in a file", "traced.py"), example("Python's order of three processes", "order.py"),
+        example("Python's order that charges twice", "twice.py", "docs/TESTING.md"),
+        example("Python's orders that charge once", "once.py", "docs/TESTING.md"),
+        example("Python's order over a store that charges twice", "killed.py", "docs/TESTING.md"),
+        example("Python's orders over a store that charge once", "keyed.py", "docs/TESTING.md"),
         Row("services of Python's in every order", ["library", "python3"],
             [["env", "CF_NO_MODULE=1", python, "-m", "unittest", "discover", "-s", "clients/python/tests/testing"]]),
         Row("random orders of Python's service beside explore", ["library", "python3", "cf_look"],

@@ -28,6 +28,19 @@ def told(folder, *command, **environment):
     return done.stdout
 
 
+def cannot_be_built(client, include):
+    """Without its library, or with another one in its place, the module isn't built, though one of before is there."""
+    with tempfile.TemporaryDirectory() as other:
+        for text, why in ((None, "CF_LIBRARY_DIR=/folder/of/libcf.a"), ("garbage", "ld returned 1")):
+            if text is not None:
+                Path(other, "libcf.a").write_text(text)
+            env = dict(os.environ, CF_INCLUDE=str(include), CF_LIBRARY_DIR=other, PKG_CONFIG_LIBDIR=other)
+            done = subprocess.run([sys.executable, "setup.py", "-q", "build_ext"], cwd=str(client), env=env,
+                                  stdout=subprocess.PIPE, stderr=subprocess.STDOUT, universal_newlines=True)
+            if not done.returncode or why not in done.stdout:
+                raise SystemExit(f"installed.py: built over {text or 'nothing'}:\n{done.stdout}")
+
+
 def main(made):
     made.mkdir(parents=True, exist_ok=True)
     client = made / "client"
@@ -38,6 +51,7 @@ def main(made):
     told(made, sys.executable, "-m", "pip", "wheel", "--no-index", "--no-build-isolation", "--no-deps", "-w", made,
          client, CF_INCLUDE=str(include))
     wheel = next(made.glob("*.whl"))
+    cannot_be_built(client, include)
     told(made, sys.executable, "-m", "venv", made / "venv")
     python = made / "venv/bin/python"
     told(made, python, "-m", "pip", "install", "--no-index", "--force-reinstall", wheel)
@@ -45,7 +59,7 @@ def main(made):
     if way != "True":
         raise SystemExit("installed.py: the wheel has no C module")
     told(made, python, "-c", "from cf.shared.web.server import Page; Page()")  # (page.html is there, too)
-    first = shutil.copy(str(CLIENT / "first.py"), str(made))  # (beside it the package of the tree would be found)
+    first = CLIENT / "examples/first.py"
     wanted = told(made, python, first)
     if told(made, python, first, CF_NO_MODULE="1") != wanted:
         raise SystemExit("installed.py: by ctypes the first program prints otherwise")

@@ -1,8 +1,8 @@
 """An order whose three workers are processes: order.py [ADDRESS]
 
-    python3 clients/python/order.py
-    python3 clients/python/order.py postgresql://user@host/database
-    python3 clients/python/order.py etcd://host:2379,host:2379,host:2379
+    python3 order.py
+    python3 order.py postgresql://user@host/database
+    python3 order.py etcd://host:2379,host:2379,host:2379
 
 Without an address the store is a SQLite file in a temporary folder. The worker that packs the order is killed in the
 midst of it; another one notices, and packs it again, since the flow says so.
