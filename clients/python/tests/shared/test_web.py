@@ -28,6 +28,7 @@ from cf.service import Flow
 from cf.shared import (connect, DurableService, Functions, Memory, new_session, Put, RowView, StoreError, Unknown)
 from cf.shared.plans import text_of
 from cf.shared.rows import Changes
+from cf.shared.web import server
 from cf.shared.web.server import Server
 from cf.shared.web.wording import TEXTS
 
@@ -151,6 +152,51 @@ class Door(WebCase):
             self.assertEqual(self.ask("GET", "/data", **link)[0], 403)
         self.assertEqual(self.ask("GET", "/data", Sec_Fetch_Site="same-origin")[0], 200)
 
+    def test_behind_a_proxy(self):
+        """The Origin is the public address, and the Host that one's or the server's own, as the proxy sends it on."""
+        page = self.page_over(Memory(), public="HTTPS://Ops.example:443/")
+        self.assertEqual(page.address, f"https://ops.example/?token={page.door.token}")
+        cookie = self.ask("GET", f"/?token={page.door.token}", cookie=None, Host="ops.example")[1]["Set-Cookie"]
+        self.assertEqual(cookie.split("; ")[1:], ["Path=/", "HttpOnly", "SameSite=Strict", "Secure"])
+        own = f"127.0.0.1:{self.port}"
+        for host, origin, status in (("ops.example", "https://ops.example", 400), (own, "https://ops.example", 400),
+                                     ("ops.example:443", "https://ops.example", 400), (own, f"http://{own}", 400),
+                                     ("ops.example", "http://ops.example", 403), (own, "http://ops.example", 403),
+                                     ("ops.example", "https://evil.example", 403), (own, "", 403),
+                                     ("ops.example", f"http://{own}", 403), ("evil.example", "https://ops.example", 421),
+                                     (f"ops.example:{self.port}", "https://ops.example", 421)):
+            with self.subTest(f"{host} {origin}"):
+                headers = {"Host": host, "Origin": origin, "X_CF_Token": page.door.post_token}
+                self.assertEqual(self.ask("POST", "/act", b"{}", **headers)[0], status)
+        self.page_over(Memory(), public="http://[::1]:8080")
+        self.assertTrue(self.page.address.startswith("http://[::1]:8080/?token="))
+        self.assertEqual(self.ask("GET", "/", Host="[::1]:8080")[0], 200)
+        for wrong in ("ops.example", "ftp://ops.example", "https://", "https://ops.example/cf", "https://a@ops.example",
+                      "https://ops.example?a=1", "https://ops.example:x"):
+            with self.subTest(wrong), self.assertRaises(ValueError):
+                Server(Memory(), public=wrong)
+
+    def test_slow_and_many_connections(self):
+        """A connection whose request doesn't come is ended, however slowly it comes; one too many is refused."""
+        with unittest.mock.patch.object(server, "MOST_CONNECTIONS", 3):
+            self.page_over(Memory())
+        self.until(lambda: self.page._free._value == 3)
+        slow = [socket.create_connection(("127.0.0.1", self.port), 20) for _ in range(3)]
+        slow[0].sendall(b"GET / HTTP/1.1\r\n")
+        own = f"127.0.0.1:{self.port}"
+        slow[1].sendall(f"POST /act HTTP/1.1\r\nHost: {own}\r\nOrigin: http://{own}\r\nCookie: {self.cookie}\r\n"
+                        f"X-CF-Token: {self.page.door.post_token}\r\nContent-Length: 9\r\n\r\n{{".encode())
+        self.until(lambda: self.page._free._value == 0)
+        with socket.create_connection(("127.0.0.1", self.port), 20) as late:
+            self.assertTrue(late.makefile("rb").read().startswith(b"HTTP/1.1 503 "))
+        with unittest.mock.patch.object(server, "PATIENCE", 0):
+            for it in slow:
+                it.makefile("rb").read()  # (until the server has ended it)
+                it.close()
+            self.until(lambda: self.page._free._value == 3)
+        self.assertEqual(self.ask("GET", "/")[0], 200)
+        self.until(lambda: not self.page._reading)
+
     def test_actions_that_are_forged(self):
         store = self.page.board.store
         opened = store.open("r", text_of(None, f.functions))
@@ -176,7 +222,7 @@ class Door(WebCase):
         right = {"Origin": f"http://127.0.0.1:{self.port}", "X_CF_Token": self.page.door.post_token}
         for length in ("-1", "x", "", "\u00b2", "0x10", "1" * 30):
             self.assertEqual(self.ask("POST", "/act", **{**right, "Content_Length": length})[0], 413, length)
-        for body in (b"", b"{", b"[]", b"7", b"\xff", b"{}", b'{"action": "end"}',
+        for body in (b"", b"{", b"[]", b"7", b"\xff", b"{}", b'{"action": "end"}', b"[" * 100_000,
                      b'{"action": "shout", "name": "r", "number": 1, "who": "a"}',
                      b'{"action": "end", "name": 7, "number": 1, "who": "a"}'):
             self.assertEqual(self.ask("POST", "/act", body, **right)[0], 400, body)
@@ -655,6 +701,8 @@ class Requests(WebCase):
         store._payloads["r", 2] = b'"' + b"x" * 300_000 + b'"'
         told = json.loads(self.ask("GET", "/payload?name=r&number=0&place=2")[2])
         self.assertEqual((len(told["text"]), told["bytes"], told["cut"]), (200_000, 300_002, True))
+        store._payloads["r", 2] = b"[" * 100_000
+        self.assertEqual(json.loads(self.ask("GET", "/payload?name=r&number=0&place=2")[2])["bytes"], 100_000)
         told = json.loads(self.ask("GET", "/payload?name=r&number=0&place=77")[2])
         self.assertEqual(told["text"], TEXTS["no_payload"])
 
@@ -694,6 +742,7 @@ class Acting(WebCase):
         service.request("r").promise()
         self.page_over(service.store)
         for asked in (("complete", "r", 0, "{"), ("complete", "r", 0, ""), ("fail", "r", 0, " "),
+                      ("complete", "r", 0, "[" * 100_000), ("complete", "r", 0, "NaN"), ("complete", "r", 0, "[-Infinity]"),
                       ("fail", "r", 0, "x" * 3000), ("cancel", "r", 1), ("cancel", "r", -1), ("cancel", "r", "0"),
                       ("cancel", "r", True), ("cancel", "r")):
             self.assertEqual(self.act(*asked)[0], 400, asked)

@@ -133,15 +133,22 @@ Maker = Callable[[RowView, int], Tuple[int, Optional[bytes]]]
 
 def _completing(asked: Dict[str, Any]) -> Maker:
     try:
-        value = json.loads(str(asked.get("value", "")))
+        value = json.loads(str(asked.get("value", "")), parse_constant=_no_number)
+        payload = None if value is None else json.dumps(value, separators=(",", ":"), ensure_ascii=True).encode()
+    except RecursionError:
+        raise Misused(TEXTS["too_deep"]) from None
     except ValueError as error:
         raise Misused(TEXTS["no_json"].format(error)) from None
-    payload = None if value is None else json.dumps(value, separators=(",", ":"), ensure_ascii=True).encode()
 
     def make(view: RowView, stage: int) -> Tuple[int, Optional[bytes]]:
         low = 0 if payload is None else GIVES << 32 | view.place
         return COMPLETE << 56 | view.who << 48 | stage << 36 | low, payload
     return make
+
+
+def _no_number(name: str) -> None:
+    """NaN and Infinity, which Python's JSON has and no other."""
+    raise ValueError(f"{name} is no number of JSON")
 
 
 def _failing(asked: Dict[str, Any]) -> Maker:

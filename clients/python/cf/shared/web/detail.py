@@ -149,7 +149,7 @@ class Details:
         if len(given) <= LONGEST:
             try:
                 text = json.dumps(json.loads(given.decode()), indent=2, ensure_ascii=False)
-            except ValueError:
+            except (ValueError, RecursionError):
                 pass
         return {"place": place, "text": "\n".join(map(escaped, text.split("\n"))), "bytes": len(given),
                 "cut": len(given) > LONGEST}

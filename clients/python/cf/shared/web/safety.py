@@ -3,12 +3,15 @@
 A page of another site can make a browser send requests here. Such a request has another Origin or Sec-Fetch-Site, and
 no cookie, since that is SameSite=Strict. A name of another site that is made to lead here has another Host. An action
 is a POST, and has a token that stands in the page, which no other site can read.
+
+Behind a proxy browsers know another address than the server does, its public one. Their Origin is that one, and the
+Host is either its host or the server's own, as the proxy sends it on.
 """
 import hmac
 import secrets
 from email.message import Message
 from http.cookies import CookieError, SimpleCookie
-from typing import Any, Iterable, NamedTuple, Optional
+from typing import Any, Dict, Iterable, NamedTuple, Optional, Set
 from urllib.parse import urlsplit
 
 from .wording import TEXTS
@@ -24,6 +27,9 @@ WITHIN = ("sandbox allow-scripts; default-src 'none'; script-src {}; style-src '
           "form-action 'none'; frame-ancestors 'self'")
 
 
+PORTS: Dict[str, int] = {"http": 80, "https": 443}  # that an address needn't name
+
+
 class Refusal(NamedTuple):
     """Why a request isn't answered."""
 
@@ -37,19 +43,29 @@ class Door:
     Args:
         port: That of the server.
         names: By which the server may be called, besides this machine's own.
-        token: That of the printed address. By default one by chance."""
+        token: That of the printed address. By default one by chance.
+        public: The origin of the address at which a proxy serves it, or nothing. Browsers get the cookie by TLS alone
+            where that is https."""
 
-    def __init__(self, port: int, names: Iterable[str], token: Optional[str] = None) -> None:
+    def __init__(self, port: int, names: Iterable[str], token: Optional[str] = None, public: str = "") -> None:
         self.token: str = token or secrets.token_urlsafe(32)
         self.post_token: str = secrets.token_urlsafe(32)
         self._cookie = secrets.token_urlsafe(32)
         self.cookie_name: str = f"cf-requests-{port}"  # (a browser sends a machine's cookies to all its ports)
         named = ["127.0.0.1", "localhost", "[::1]", *(f"[{it}]" if ":" in it else it for it in names)]
-        self._hosts = {f"{it.lower()}:{port}" for it in named} | ({it.lower() for it in named} if port == 80 else set())
+        own = {f"{it.lower()}:{port}" for it in named} | ({it.lower() for it in named} if port == 80 else set())
+        self._origins: Dict[str, Set[str]] = {host: {f"http://{host}"} for host in own}  # which may come with a Host
+        self.public: str = public
+        if public:
+            scheme, host = urlsplit(public)[:2]
+            for origins in self._origins.values():
+                origins.add(public)
+            self._origins.update({it: {public} for it in (host, f"{host}:{PORTS[scheme]}")})
 
     def set_cookie(self) -> str:
         """The header that gives a browser its cookie."""
-        return f"{self.cookie_name}={self._cookie}; Path=/; HttpOnly; SameSite=Strict"
+        secure = "; Secure" if self.public.startswith("https:") else ""
+        return f"{self.cookie_name}={self._cookie}; Path=/; HttpOnly; SameSite=Strict{secure}"
 
     def is_token(self, given: str) -> bool:
         """Whether it is the token of the printed address."""
@@ -57,11 +73,11 @@ class Door:
 
     def refusal(self, headers: Message, is_entry: bool = False) -> Optional[Refusal]:
         """Why a request isn't let in, by its headers, or None. One for the page itself may come from a link."""
-        host = headers.get("Host", "")
-        if host.lower() not in self._hosts:
+        origins = self._origins.get(headers.get("Host", "").lower())
+        if origins is None:
             return Refusal(421, TEXTS["wrong_host"])
         origin = headers.get("Origin")
-        if origin is not None and urlsplit(origin)[:2] != ("http", host.lower()):
+        if origin is not None and origin not in origins:
             return Refusal(403, TEXTS["wrong_origin"])
         mode, dest = headers.get("Sec-Fetch-Mode"), headers.get("Sec-Fetch-Dest")
         is_link = is_entry and mode == "navigate" and dest == "document"
@@ -89,6 +105,20 @@ class Door:
         if not _same(headers.get("X-CF-Token", ""), self.post_token):
             return Refusal(403, TEXTS["no_post_token"])
         return None
+
+
+def origin_of(address: str) -> str:
+    """An address as a browser's Origin has it: in small letters, and without the port that its scheme has anyway.
+
+    Raises:
+        ValueError: It isn't http:// or https:// and a host, or has more than these and a port."""
+    parts = urlsplit(address)
+    if parts.scheme not in PORTS or not parts.hostname or parts.path.strip("/") or parts.query or parts.fragment or (
+            parts.username is not None):
+        raise ValueError(f"{address!r} is no public address: it is http:// or https://, a host, and perhaps a port")
+    host = f"[{parts.hostname}]" if ":" in parts.hostname else parts.hostname
+    port = "" if parts.port in (None, PORTS[parts.scheme]) else f":{parts.port}"
+    return f"{parts.scheme}://{host}{port}"
 
 
 def _same(given: str, wanted: str) -> bool:

@@ -1,5 +1,6 @@
 """The HTTP server: which address gives what, and how changes are sent on."""
 import base64
+import contextlib
 import hashlib
 import html
 import json
@@ -22,12 +23,14 @@ from .board import Board
 from .detail import Details
 from .lists import Filter
 from .reading import Readings
-from .safety import AROUND, COMMON, NOTHING, WITHIN, Door
+from .safety import AROUND, COMMON, NOTHING, WITHIN, Door, origin_of
 from .wording import PAGE, TEXTS
 
 LOGGER = logging.getLogger("cf.requests")
 LARGEST = 1_000_000  # bytes of an action
 MOST_LIVE = 64  # pages that are sent what changes
+MOST_CONNECTIONS = 256  # each has a thread
+PATIENCE = 10.0  # seconds in which a request has to be there as a whole
 BETWEEN = 0.1  # seconds between two sends of a list to a page, or so many times what the last took of a processor:
 SHARE = 4
 BETWEEN_ASKED = 0.25  # the same of what the store is asked for, or twice what the last one took by the clock
@@ -36,6 +39,8 @@ AT_FIRST = 0.02  # the same while nothing is known
 ALIVE = 10.0  # seconds after which a page is told that the server is there
 STILL = 1.0  # seconds after which a page is asked for anew even where nothing is known to have changed
 MOMENT = ("now", "rate")  # what is other at each moment, and isn't sent by itself
+BUSY = (b"HTTP/1.1 503 Service Unavailable\r\nContent-Type: text/plain; charset=utf-8\r\nConnection: close\r\n"
+        b"Retry-After: 1\r\n\r\n" + TEXTS["busy"].encode())
 Answer = Dict[str, Any]
 Asked = Mapping[str, str]
 
@@ -66,6 +71,7 @@ class Server(ThreadingHTTPServer):
         store: The store. Who made it closes it.
         host, port: Where it listens; port 0 for any that is free.
         names: By which it may be called besides.
+        public: The address at which a proxy serves it, such as https://ops.example.
         token: That of the printed address. By default one by chance.
         is_read_only: Whether nothing may be done.
         who: What whoever acts is called at first.
@@ -76,12 +82,15 @@ class Server(ThreadingHTTPServer):
     daemon_threads, request_queue_size = True, 64
 
     def __init__(self, store: Store, host: str = "127.0.0.1", port: int = 0, *, names: Tuple[str, ...] = (),
-                 token: Optional[str] = None, is_read_only: bool = False, who: str = "", cf_look: Optional[str] = None,
-                 lease: float = 10, title: str = "") -> None:
+                 public: str = "", token: Optional[str] = None, is_read_only: bool = False, who: str = "",
+                 cf_look: Optional[str] = None, lease: float = 10, title: str = "") -> None:
+        origin = origin_of(public) if public else ""
         self.board = Board(store, Readings(store), lease, is_read_only)
         self.address_family = socket.AF_INET6 if ":" in host else socket.AF_INET
+        self._reading: Dict[socket.socket, float] = {}  # which connections a request is awaited on, and since when
+        self._free = threading.BoundedSemaphore(MOST_CONNECTIONS)
         super().__init__((host, port), Handler)
-        self.door = Door(self.server_address[1], [host, *names], token)
+        self.door = Door(self.server_address[1], [host, *names], token, origin)
         # (with views of its own: the board doesn't wait while a long history is told)
         self.details = Details(self.board, Readings(store), cf_look)
         self.actions = Actions(store, self.board)
@@ -93,7 +102,8 @@ class Server(ThreadingHTTPServer):
     @property
     def address(self) -> str:
         """What a browser opens."""
-        return f"http://{self._host}:{self.server_address[1]}/?token={self.door.token}"
+        origin = self.door.public or f"http://{self._host}:{self.server_address[1]}"
+        return f"{origin}/?token={self.door.token}"
 
     def server_bind(self) -> None:
         """Takes the port. (HTTPServer's own asks for the machine's name then, which may take long.)"""
@@ -104,6 +114,47 @@ class Server(ThreadingHTTPServer):
         """Lets the port go, and looks at the store no more."""
         self.board.stop()
         super().server_close()
+
+    def process_request(self, request: Any, client_address: Any) -> None:
+        """Has a thread answer a connection, or refuses one too many."""
+        if not self._free.acquire(blocking=False):
+            with contextlib.suppress(OSError):
+                request.sendall(BUSY)
+            self.shutdown_request(request)
+            return
+        try:
+            self.awaits(request)
+            super().process_request(request, client_address)
+        except BaseException:  # no thread could be started
+            self._end(request)
+            raise
+
+    def process_request_thread(self, request: Any, client_address: Any) -> None:
+        """Answers a connection, and then has room for another."""
+        try:
+            super().process_request_thread(request, client_address)
+        finally:
+            self._end(request)
+
+    def _end(self, request: Any) -> None:
+        self.has_request(request)
+        self._free.release()
+
+    def awaits(self, request: socket.socket) -> None:
+        """Notes that a connection's next request is awaited from now on."""
+        self._reading[request] = time.monotonic()
+
+    def has_request(self, request: socket.socket) -> None:
+        """Notes that it is there, as a whole."""
+        self._reading.pop(request, None)
+
+    def service_actions(self) -> None:
+        """Ends the connections whose request isn't there in time, however slowly it comes. The server's loop calls it."""
+        before = time.monotonic() - PATIENCE
+        for request, since in list(self._reading.items()):
+            if since < before:
+                with contextlib.suppress(OSError):
+                    request.shutdown(socket.SHUT_RDWR)
 
     def handle_error(self, request: Any, client_address: Any) -> None:
         """A browser that has left is no fault."""
@@ -129,8 +180,14 @@ class Handler(BaseHTTPRequestHandler):
     protocol_version, timeout, disable_nagle_algorithm = "HTTP/1.1", 60, True
     server_version, sys_version = "cf", ""
 
+    def handle_one_request(self) -> None:
+        """Reads one request and answers it."""
+        self.server.awaits(self.connection)
+        super().handle_one_request()
+
     def do_GET(self) -> None:
         """A page, or what it shows."""
+        self.server.has_request(self.connection)
         url = urlsplit(self.path)
         given = {name: values[-1] for name, values in parse_qs(url.query, keep_blank_values=True).items()}
         refusal = self.server.door.refusal(self.headers, is_entry=url.path == "/")
@@ -158,7 +215,9 @@ class Handler(BaseHTTPRequestHandler):
         elif not length.isdecimal() or int(length) > LARGEST:
             self._say(413, TEXTS["too_large"])
         else:
-            self._act(self.rfile.read(int(length)))
+            body = self.rfile.read(int(length))
+            self.server.has_request(self.connection)
+            self._act(body)
 
     def _enter(self, token: str) -> None:
         """Changes the token for a cookie, together with the page. What the page asks for is its own, so that it has the
@@ -219,7 +278,7 @@ class Handler(BaseHTTPRequestHandler):
         def act() -> None:
             try:
                 asked = json.loads(body.decode())
-            except ValueError:
+            except (ValueError, RecursionError):
                 raise Misused(TEXTS["misused"]) from None
             if not isinstance(asked, dict):
                 raise Misused(TEXTS["misused"])
