@@ -11,7 +11,8 @@
                                 that doesn't answer is waited for. With --read-only nothing can be changed there.
                                 `serve --help` has more
 
-Status 0, 1 where a request isn't there or is broken, 2 where the words or the address are wrong. Nothing runs here.
+Status 0, 1 where a request isn't there or is broken, 2 where the words or the address are wrong, or no store is there
+yet. Control characters of names are printed as JSON writes them. Nothing runs here.
 """
 import argparse
 import getpass
@@ -24,6 +25,7 @@ from pathlib import Path
 from typing import Any, List, Optional
 from urllib.parse import urlsplit
 
+from .service.history import escaped
 from .service.words import CANCEL, IS_CLAIMED, IS_PENDING, IS_READY
 from .shared import Broken, RowView, Json, Store, StoreError, Unknown, connect, new_session
 from .shared.rows import Gone
@@ -38,14 +40,14 @@ def main(words: Optional[List[str]] = None) -> int:
     if at.command == "serve":
         return _serve(at)
     try:
-        store = connect(at.store)
+        store = connect(at.store, may_create=False)
     except (ValueError, StoreError, Unknown) as error:
         print(f"cf.requests: {error}", file=sys.stderr)
         return 2
     try:
         lines = {"list": _list, "show": _show, "end": _end, "drop": _drop}[at.command](store, at)
     except (StoreError, Unknown, OSError, subprocess.CalledProcessError) as error:
-        print(f"cf.requests: {error}", file=sys.stderr)
+        print(f"cf.requests: {escaped(str(error))}", file=sys.stderr)
         return 1
     finally:
         store.close()
@@ -70,6 +72,8 @@ def _parser() -> argparse.ArgumentParser:
     serve.add_argument("--port", type=int, default=0, help="by default one that is free")
     serve.add_argument("--listen", default="127.0.0.1", metavar="HOST", help="by default this machine alone")
     serve.add_argument("--name", action="append", default=[], help="another name that browsers may call it by")
+    serve.add_argument("--public", default="", metavar="URL",
+                       help="at which a proxy serves it to browsers, such as https://ops.example")
     serve.add_argument("--read-only", action="store_true", help="nothing can be changed")
     serve.add_argument("--who", default="", help="what the history calls who acts, unless they say otherwise")
     serve.add_argument("--token-file", type=Path, help="has the token of the address, in place of one by chance")
@@ -95,12 +99,12 @@ def _serve(at: argparse.Namespace) -> int:
         token = at.token_file.read_text(encoding="utf-8").strip() if at.token_file else None
         if token is not None and len(token) < LEAST_TOKEN:
             raise ValueError(f"{at.token_file}: a token has {LEAST_TOKEN} characters at least")
-        store = reached(at.store, ends)
+        store = reached(at.store, ends, may_create=False)
         if store is None:
             return 0
         title = _without_secrets(at.store)
-        server = Server(store, at.listen, at.port, names=tuple(at.name), token=token, is_read_only=at.read_only,
-                        who=at.who or _user(), cf_look=cf_look, lease=at.lease, title=title)
+        server = Server(store, at.listen, at.port, names=tuple(at.name), public=at.public, token=token,
+                        is_read_only=at.read_only, who=at.who or _user(), cf_look=cf_look, lease=at.lease, title=title)
     except (ValueError, StoreError, OSError, OverflowError) as error:
         print(f"cf.requests: {error}", file=sys.stderr)
         return 2
@@ -149,7 +153,7 @@ def _list(store: Store, at: argparse.Namespace) -> List[str]:
             continue
         except Broken as error:
             state = f"broken at place {error.place}: {error.why}"
-        lines.append(f"{it.name}  {now - it.opened:.0f} s  {it.words} words  {state}")
+        lines.append(f"{escaped(it.name)}  {now - it.opened:.0f} s  {it.words} words  {escaped(state)}")
     return lines
 
 
@@ -183,7 +187,7 @@ def _end(store: Store, at: argparse.Namespace) -> List[str]:
     store.end(at.name, words, found.number)
     if at.name in store.ends():
         raise StoreError(f"request {at.name!r} isn't closed: words were put meanwhile")
-    return [f"{at.name} is closed, {many} stages were cancelled"]
+    return [f"{escaped(at.name)} is closed, {many} stages were cancelled"]
 
 
 def _drop(store: Store, at: argparse.Namespace) -> List[str]:

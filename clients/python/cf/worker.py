@@ -17,11 +17,11 @@ from .shared import Carrier, Functions, Store, StoreError, Unknown, Worker, conn
 from .shared.worker import told_to_end
 
 
-def reached(address: str, ends: threading.Event) -> Optional[Store]:
-    """The store, once it can be reached; None where the process is told to end before."""
+def reached(address: str, ends: threading.Event, may_create: bool = True) -> Optional[Store]:
+    """The store, once it can be reached; None where the process is told to end before. It is made as `connect` says."""
     while not ends.is_set():
         try:
-            return connect(address)
+            return connect(address, may_create)
         except Unknown as error:
             logging.warning("the store doesn't answer: %s", error)
             ends.wait(0.5)

@@ -33,6 +33,7 @@ PUT_GROUP = ("insert into cf_word (request, at, word, token, payload) "
              "select id, v.* from cf_request, (values %s) v where id = ?")
 READ = "select at, word, token from cf_request left join cf_word on request = id and at >= ? where id = ? order by at"
 HAS = "(select coalesce(max(at) + 1, 0) from cf_word where request = id) = ?"  # so many words
+MAGIC = b"SQLite format 3\0"  # https://www.sqlite.org/fileformat.html
 MOST_AT_ONCE = 64  # words in one statement
 SMALL = 512  # bytes: a larger payload would make the words' own pages large
 BETWEEN_LOOKS = 0.001  # seconds between two looks at the file's version
@@ -53,8 +54,9 @@ class SQLite(TableStore):
     FIRST_OPEN = ("select id, (select count(*) from cf_request where closed is null) as many from "
                   f"(select id, name from cf_request where closed is null limit -1) order by name limit {FIRST}")
 
-    def __init__(self, path: str, is_unsafe: bool = False) -> None:
+    def __init__(self, path: str, is_unsafe: bool = False, may_create: bool = True) -> None:
         super().__init__()
+        _look_at(path, may_create)  # (before the line's file is made beside it)
         self._path, self._synchronous = path, "off" if is_unsafe else "full"
         self._local = threading.local()
         self._line = _Line(path)
@@ -347,6 +349,30 @@ class SQLite(TableStore):
             db.close()
             self._local.db = None
         self._line.close()
+
+
+def _look_at(path: str, may_create: bool) -> None:
+    """`StoreError` where the file can't be a store, or isn't one yet and may not become one."""
+    try:
+        with open(path, "rb") as file:
+            head = file.read(len(MAGIC))
+    except FileNotFoundError:
+        if may_create:
+            return
+        raise StoreError(f"{path}: there is no such file") from None
+    except OSError as error:
+        raise StoreError(f"{path}: {error}") from None
+    if head not in (b"", MAGIC):
+        raise StoreError(f"{path}: file is not a database")
+    if may_create:
+        return
+    try:
+        with contextlib.closing(sqlite3.connect(path, timeout=LONGEST_WAIT)) as db:
+            if head and db.execute("select 1 from sqlite_master where name = 'cf_request'").fetchall():
+                return
+    except sqlite3.Error as error:
+        raise StoreError(f"{path}: {error}") from None
+    raise StoreError(f"{path}: no requests were ever kept in this file")
 
 
 class _Within(threading.local):

@@ -5,19 +5,20 @@ from urllib.parse import parse_qs, urlsplit
 from .rows import Memory, Store, StoreError
 
 
-def connect(address: str) -> Store:
-    """The store of an address:
+def connect(address: str, may_create: bool = True) -> Store:
+    """The store of an address, which is made where it isn't there yet:
 
         memory://                                   in this process, for tests
         sqlite:///relative.db, sqlite:////at/a.db   a file
         postgresql://user@host:5432/database        a database, by psycopg2
         etcd://host:2379,host:2379                  a cluster, by its JSON gateway
 
-    `?unsafe=1` lets an engine answer before it has written, for tests that want losses.
+    `?unsafe=1` lets an engine answer before it has written, for tests that want losses. With `may_create=False` a
+    file has to have a store already, so that a mistyped path makes none.
 
     Raises:
         ValueError: The address is none of these.
-        StoreError: The engine isn't one that keeps words, or psycopg2 isn't there.
+        StoreError: The engine isn't one that keeps words, psycopg2 isn't there, or the file is no store.
         Unknown: The engine doesn't answer."""
     parts = urlsplit(address)
     options = parse_qs(parts.query)
@@ -27,7 +28,7 @@ def connect(address: str) -> Store:
     if parts.scheme == "sqlite" and parts.path[1:]:
         from .sqlite import SQLite
 
-        return SQLite(parts.path[1:], is_unsafe)
+        return SQLite(parts.path[1:], is_unsafe, may_create)
     if parts.scheme in ("postgresql", "postgres"):
         try:
             from .postgres import Postgres

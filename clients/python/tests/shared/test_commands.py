@@ -16,6 +16,7 @@ from pathlib import Path
 from case import Case, CLIENT, HERE
 import shared_functions as f
 from cf import requests
+from cf.shared import StoreError, connect
 
 
 class Commands(Case):
@@ -57,6 +58,33 @@ class Commands(Case):
         self.assertEqual(self.run_it("drop", "--days", "0")[1], "1 dropped\n")
         with self.assertRaises(SystemExit):
             self.run_it("what")
+
+    def test_names_forge_no_lines(self):
+        service = self.service()
+        for name in ("order 1\norder 2  5 s  9 words  0 of 3 stages wait", "\x1b[31mred\x1b[0m \x1b]0;title\x07", "\u202eevil"):
+            service.request(name).promise("a\nforged line")
+        for words in (["list"], ["show", "\u202eevil"], ["end", "\u202eevil"], ["list", "--closed"], ["show", "\x1b[1m"]):
+            _, out, err = self.run_it(*words)
+            self.assertEqual([it for it in (out + err).replace("\n", "") if not it.isprintable()], [], words)
+        self.assertEqual(len(self.run_it("list", "--closed")[1].splitlines()), 3)
+
+    def test_a_mistyped_path_makes_no_store(self):
+        folder = Path(self.folder.name)
+        (other := folder / "notes.txt").write_text("no store")
+        sqlite3.connect(folder / "other.db").execute("create table t (x)").connection.close()
+        (folder / "empty.db").touch()
+        before = sorted(folder.iterdir())
+        for path, why in ((folder / "nowhere.db", "there is no such file"), (folder, "Is a directory"),
+                          (other, "file is not a database"), (folder / "other.db", "no requests"),
+                          (folder / "empty.db", "no requests")):
+            for words in (["list"], ["serve"]):
+                with self.subTest(f"{path} {words}"):
+                    done = subprocess.run([sys.executable, "-m", "cf.requests", "--store", f"sqlite:///{path}", *words],
+                                          stderr=subprocess.PIPE, timeout=60, env=dict(os.environ, PYTHONPATH=str(CLIENT)))
+                    self.assertEqual((done.returncode, why in done.stderr.decode()), (2, True), done.stderr)
+        with self.assertRaisesRegex(StoreError, "not a database"):
+            connect(f"sqlite:///{other}")
+        self.assertEqual(sorted(folder.iterdir()), before)
 
     def test_the_worker_command(self):
         for words in (["--store", "nothing://", "shared_functions"], ["--store", self.address, "json"],
