@@ -92,13 +92,20 @@ class Run:
             return subprocess.Popen([*self.command(k), where, self.folder, str(self.rng.randrange(1 << 30))], stderr=errors, env=self.environment_of(k))
 
     def break_server(self):
-        rng = random.Random(self.rng.random())
-        while (self.most_breaks is None or len(self.broken) < self.most_breaks) and not self.stops.wait(self.breaks * (0.5 + rng.random())):
+        """Breaks it now and then, each time while words flow: the break of a server that nobody asks shows nothing."""
+        rng, before = random.Random(self.rng.random()), 0
+        while self.most_breaks is None or len(self.broken) < self.most_breaks:
+            if self.stops.wait(self.breaks * (0.5 + rng.random())):
+                return
+            while self.logged() <= before:
+                if self.stops.wait(0.02):
+                    return
             self.broken.append(self.server.breaks())
+            before = self.logged()
 
-    def works(self, process):
-        """Whether a worker was answered yet."""
-        return any(os.path.getsize(it) for it in glob.glob(f"{self.folder}/log-*-{process.pid}"))
+    def logged(self, process="*"):
+        """How many bytes of answers workers have written down, or one of them."""
+        return sum(os.path.getsize(it) for it in glob.glob(f"{self.folder}/log-*-{getattr(process, 'pid', process)}"))
 
     def kill_one(self, workers, paused):
         k = self.rng.randrange(len(workers))
@@ -112,7 +119,7 @@ class Run:
             self.counted("workers stopped for 2 s", k)
             return
         until = time.monotonic() + 10
-        while not self.works(workers[k]) and workers[k] not in paused and time.monotonic() < until:
+        while not self.logged(workers[k]) and workers[k] not in paused and time.monotonic() < until:
             time.sleep(0.01)
         if self.engine == "sqlite":  # half of the kills wait until it is writing
             until = time.monotonic() + (1 if self.done["kills"] % 2 else 0)

@@ -18,6 +18,7 @@ from cf.service.words import ATTACH, CLAIM, COMPLETE, FAIL, FINISH, FORMS, PENDI
 from cf.shared import Broken, connect
 
 CALLERS = 64
+UNFIT = (AssertionError, AttributeError, LookupError, TypeError, ValueError)  # of a word that can't be done where it stands
 
 
 class Judge:
@@ -74,6 +75,8 @@ class Judge:
                     out.write(self.request(name) + "\n")
                 except Broken as error:  # words are missing in it
                     self.wrong.append(str(error))
+                except UNFIT as error:
+                    self.wrong.append(f"{name}: its row can't be judged: {error!r}")
         self.count["lost words"] += 0
         self.count["misfits"] = len(self.wrong)
         return self.count, self.wrong

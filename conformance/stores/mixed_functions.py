@@ -7,7 +7,7 @@ import zlib
 
 import process  # noqa: F401 (for the path)
 
-from cf.shared import Functions
+from cf.shared import Functions, RemoteError
 
 functions = Functions()
 INSERT = "insert into effect values ('%s')"
@@ -15,7 +15,9 @@ note = print  # the process's own log
 
 
 def said_of(thing):
-    """A value, or an exception as a payload tells it."""
+    """A value, or an exception as a payload tells it: one of another language by its class there."""
+    if isinstance(thing, RemoteError):
+        return {"error": thing.kind, "text": thing.text}
     return {"error": type(thing).__name__, "text": str(thing)} if isinstance(thing, BaseException) else thing
 
 

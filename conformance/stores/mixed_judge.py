@@ -20,7 +20,7 @@ import sys
 import zlib
 
 from jobs import tables
-from judge import Judge
+from judge import UNFIT, Judge
 from mixed_functions import given_by, raises
 
 from cf.service.words import ATTACH, CANCEL, CLAIM, COMPLETE, FAIL, FAIL_AS, FINISH, LINKS
@@ -156,7 +156,7 @@ class MixedJudge(Judge):
                 elif key in self.rows:
                     try:
                         out.write(self.request(key) + "\n")
-                    except (AssertionError, AttributeError, LookupError, TypeError, ValueError) as error:  # as of a word that can't be done
+                    except UNFIT as error:
                         self.wrong.append(f"{key}: its row can't be judged: {error!r}")
                 elif key[0] not in dropped:
                     self.count["lost words"] += sum(it[0] == "did" for it in self.said[key])
