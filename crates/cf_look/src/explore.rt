@@ -1,6 +1,6 @@
 //! The search of all orders in which callers' steps can come.
 use crate::args::Exploring;
-use crate::input::json_in;
+use crate::input::{input_of, read_json};
 use anyhow::{Result, anyhow};
 use cf_explore::{Found, Search, Witness};
 use cf_question::{
@@ -44,11 +44,11 @@ pub(crate) fn explore_one<R: Input + Print + Eprint + AllocGlobal + Clock + File
     rt: &R,
     asked: &Exploring,
 ) -> Result<u8> {
-    let Ok(input) = std::io::read_to_string(rt.alloc(), rt.reader()) else {
+    let Ok(input) = input_of(rt) else {
         eprintln!(rt; "unreadable: standard input")?;
         return Ok(NO_QUESTION);
     };
-    explore_text(rt, input.as_bytes(), asked)
+    explore_text(rt, input.as_slice(), asked)
 }
 
 /// Searches the question of these bytes.
@@ -57,9 +57,13 @@ fn explore_text<R: Print + Eprint + AllocGlobal + Clock + Files>(
     text: &[u8],
     asked: &Exploring,
 ) -> Result<u8> {
-    match json_in(rt.alloc(), text)? {
-        Some(json) => explore_json(rt, &json, asked),
-        None => refuse(rt, &"fault 2 not json"),
+    match read_json(rt.alloc(), text)? {
+        Ok(json) => explore_json(rt, &json, asked),
+        Err(why) => {
+            let fault = refuse(rt, &"fault 2 not json")?;
+            eprintln!(rt; "question: {why}")?;
+            Ok(fault)
+        }
     }
 }
 

@@ -1,14 +1,22 @@
 //! Why what is on standard input can't be shown or judged, and where that stands in it.
-use cf_script_reading::ReadingFault;
+use cf_text::ScriptFault;
 use thiserror::Error;
+
+/// Where bytes stop being JSON: the line and the column, counted from 1.
+#[derive(Clone, Copy, Debug, Error)]
+#[error("invalid JSON at line {line} column {column}")]
+pub(crate) struct NotJson {
+    pub(crate) line: usize,
+    pub(crate) column: usize,
+}
 
 /// What is wrong with an account, or with what a script says for people. Each names the member that it is about, by its path.
 #[derive(Clone, Copy, Debug, Error)]
 pub(crate) enum Unreadable {
-    #[error("no JSON")]
-    Json,
+    #[error("{0}")]
+    Json(NotJson),
     #[error("plan: {0}")]
-    NoPlan(ReadingFault),
+    NoPlan(ScriptFault),
     #[error("plan: room")]
     Room,
     /// A member that isn't there or isn't right. Of some it says behind the path what it has to be.

@@ -3,7 +3,7 @@ ghost use Rattle.std.specs.Prelude.{◌≡◌, IfErr, IfOk, false, true};
 ghost use Rattle.cf_forms.specs.Plans.{has_place};
 
 use crate::fault::Unreadable;
-use crate::input::json_in;
+use crate::input::read_json;
 use crate::texts::{is_unknown, now, reply, settled};
 use anyhow::Result;
 use cf_event::decode;
@@ -15,6 +15,7 @@ use cf_model::{Ask, Told};
 use cf_outcome::Outcome;
 use cf_plan::Plan;
 use cf_script_reading::{script_of, u16_of, u32_of, value};
+use cf_text::ScriptFault;
 use serde_json::Value as Json;
 use std::alloc::{AllocError, Global};
 
@@ -67,7 +68,10 @@ pub(crate) fn check_room(plan: &Plan, room: u16) -> Result<(), Unreadable>
 
 /// The JSON of these bytes.
 fn json_of(alloc: Global, bytes: &[u8]) -> Result<Json> {
-    Ok(json_in(alloc, bytes)?.ok_or(Unreadable::Json)?)
+    match read_json(alloc, bytes)? {
+        Ok(json) => Ok(json),
+        Err(why) => Err(Unreadable::Json(why).into()),
+    }
 }
 
 /// What sessions say, with the plan and the room for it.
@@ -96,7 +100,7 @@ fn plan_of(alloc: Global, json: &Json) -> Result<(Plan, u16, u32)> {
     let said = json.get("plan").ok_or(Unreadable::Member("plan"))?;
     let script = match script_of(alloc, said) {
         Ok(script) => script,
-        Err(fault) => return Err(Unreadable::NoPlan(fault).into()),
+        Err(fault) => return Err(Unreadable::NoPlan(ScriptFault::from(fault)).into()),
     };
     let (plan, room, functions, steps) = script.into_parts();
     if !steps.is_empty() {

@@ -49,7 +49,7 @@ use cf_explain::Verdict as Said;
 use cf_history::Verdict;
 use explore::{explore_one, fault_of, is_question};
 use history::judge;
-use input::json_in;
+use input::{input_of, json_in};
 use page::{ReadInput, Shown, read_in, text_of, write_refusal};
 use script::{Drawn, draw, explain_script, script_in};
 use serde_json::Value as Json;
@@ -102,14 +102,14 @@ fn look<R: Env + Input + Print + Eprint + AllocGlobal + Clock + Files>(rt: &R) -
 
 /// Judges what is on standard input: a history, or one in each line.
 fn check_input<R: Input + Print + AllocGlobal>(rt: &R, lines: bool) -> Result<u8> {
-    let Ok(input) = std::io::read_to_string(rt.alloc(), rt.reader()) else {
+    let Ok(input) = input_of(rt) else {
         println!(rt; "unreadable: standard input")?;
         return Ok(UNREADABLE);
     };
     if lines {
-        check_lines(rt, &input)
+        check_lines(rt, input.as_slice())
     } else {
-        check_one(rt, &input)
+        check_one(rt, input.as_slice())
     }
 }
 
@@ -154,11 +154,11 @@ fn draw_one<R: Input + Print + Eprint + AllocGlobal>(rt: &R) -> Result<u8> {
 
 /// Shows the account or the script on standard input: all of it, or nothing.
 fn show_one<R: Input + Print + Eprint + AllocGlobal>(rt: &R, shape: Shape) -> Result<u8> {
-    let Ok(input) = std::io::read_to_string(rt.alloc(), rt.reader()) else {
+    let Ok(input) = input_of(rt) else {
         eprintln!(rt; "unreadable: standard input")?;
         return Ok(UNREADABLE);
     };
-    show_bytes(rt, shape, input.as_bytes())
+    show_bytes(rt, shape, input.as_slice())
 }
 
 /// Shows the account or the script of these bytes.
@@ -184,8 +184,8 @@ fn write_shown<R: Print + AllocGlobal>(rt: &R, shape: Shape, shown: &Shown) -> R
 }
 
 /// Judges a history, and writes the line of its verdict.
-fn check_one<R: Print + AllocGlobal>(rt: &R, text: &str) -> Result<u8> {
-    match judge(rt.alloc(), text.as_bytes()) {
+fn check_one<R: Print + AllocGlobal>(rt: &R, bytes: &[u8]) -> Result<u8> {
+    match judge(rt.alloc(), bytes) {
         Ok(verdict) => {
             let line = line_of(rt.alloc(), verdict)?;
             println!(rt; "{line}")?;
@@ -223,10 +223,14 @@ fn status_of_script(said: Said) -> u8
 }
 
 /// Judges the history in each line.
-fn check_lines<R: Print + AllocGlobal>(rt: &R, text: &str) -> Result<u8> {
+fn check_lines<R: Print + AllocGlobal>(rt: &R, bytes: &[u8]) -> Result<u8> {
+    let Ok(text) = str::from_utf8(bytes) else {
+        println!(rt; "unreadable: standard input isn't UTF-8")?;
+        return Ok(UNREADABLE);
+    };
     let mut worst = FITS;
     for line in text.lines() {
-        worst = worst.max(check_one(rt, line)?);
+        worst = worst.max(check_one(rt, line.as_bytes())?);
     }
     Ok(worst)
 }

@@ -9,7 +9,7 @@ use cf_explain::{Explanation, explain};
 use cf_history::Verdict;
 use cf_page::{page_of, scene_of, spans_of, trace_of, words_of};
 use cf_plan::Plan;
-use cf_script_reading::{Func, ReadingFault, Script, Step, read_script};
+use cf_script_reading::{Func, MAX_BYTES, ReadingFault, Script, Step, read_script};
 use cf_telling::People;
 use cf_text::ScriptFault;
 use serde_json::Value as Json;
@@ -35,11 +35,22 @@ pub(crate) enum ReadInput {
 
 /// The account or the script of these bytes.
 pub(crate) fn read_in(alloc: Global, bytes: &[u8]) -> Result<ReadInput> {
+    if bytes.len() > MAX_BYTES && !names_plan(bytes) {
+        return Ok(ReadInput::Refused(ReadingFault::TooLong));
+    }
     match json_in(alloc, bytes)? {
         Some(json) if json.get("plan").is_some() => Ok(ReadInput::Shown(shown_account(
             alloc, &json,
         )?)),
         json => read_in_script(alloc, bytes, json.as_ref()),
+    }
+}
+
+/// Whether an account's member may stand in these bytes. What is longer than a script may be, and is no account, isn't parsed.
+fn names_plan(bytes: &[u8]) -> bool {
+    match str::from_utf8(bytes) {
+        Ok(text) => text.contains("\"plan\""),
+        Err(_) => false,
     }
 }
 
