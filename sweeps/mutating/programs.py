@@ -11,18 +11,22 @@ class Program(NamedTuple):
 
     name: str
     words: Sequence[str]  # by which it is run
-    text: str  # its source
+    source: str  # below the client's folder
+    text: str  # of the source
     reaches: Sequence[str]  # files of the client that it may run
     folder: str = "."  # where it is run
 
 
 def nearness(program: Program, file: str) -> int:
-    """0 for tests that are named for a file, 1 for those that name it, 2 for the others. Names are compared without `test`, `_` and case."""
+    """0 for tests that are named for a file, 1 for those that name it, 2 for those whose folder has the name of its own, 3 for the others. Names
+    are compared without `test`, `_` and case."""
     stem = Path(file).stem.strip("_")
-    plain = Path(program.name).stem.lower().replace("test", "").replace("_", "")
+    plain = Path(program.source).stem.lower().replace("test", "").replace("_", "")
     if plain and plain in (stem.lower().replace("_", ""), stem.lower().replace("_", "") + "s"):
         return 0
-    return 1 if re.search(rf"\b{re.escape(stem)}\b", program.text) else 2
+    if re.search(rf"\b{re.escape(stem)}\b", program.text):
+        return 1
+    return 2 if Path(program.source).parent.name in Path(file).parent.parts else 3
 
 
 # Python
@@ -50,11 +54,13 @@ def programs_of_python(folder: Path, is_c: bool) -> List[Program]:
         if is_c:
             reaches = [it for it in ["native/_cf.c"] if "tests/service" in file and "cf/service/_core.py" in reaches]
         if reaches:
-            found.append(Program(file, ["-B", file], path.read_text(encoding="utf-8"), reaches))
+            found.append(Program(file, ["-B", file], file, path.read_text(encoding="utf-8"), reaches))
     return found
 
 
 # Java
+
+COMMENT = re.compile(r"/\*.*?\*/|//.*?$", re.M | re.S)
 
 
 def programs_of_java(folder: Path, has_junit: bool) -> List[Program]:
@@ -62,7 +68,7 @@ def programs_of_java(folder: Path, has_junit: bool) -> List[Program]:
     sources = {path.stem: path for part in ["src", "test"] for path in (folder / part).rglob("*.java") if path.stem != "AllTests"}
     if has_junit:
         sources.update((path.stem, path) for path in (folder / "junit").rglob("*.java"))
-    texts = {name: path.read_text(encoding="utf-8") for name, path in sources.items()}
+    texts = {name: COMMENT.sub("", path.read_text(encoding="utf-8")) for name, path in sources.items()}
     follow = {name: [it for it in set(re.findall(r"\b[A-Z]\w+", text)) if it in texts] for name, text in texts.items()}
     listed = (folder / "test/cf/service/AllTests.java").read_text(encoding="utf-8")
     names: Dict[str, List[str]] = {}
@@ -71,8 +77,8 @@ def programs_of_java(folder: Path, has_junit: bool) -> List[Program]:
     words = {test: ["cf.service.AllTests", *its] for test, its in sorted(names.items())}
     if has_junit:
         words["EveryOrderTest"] = ["cf.service.junit.EveryOrderTest"]
-    return [Program(test, its, texts[test], [str(sources[it].relative_to(folder)) for it in closure([test], follow)])
-            for test, its in words.items()]
+    paths = {name: str(path.relative_to(folder)) for name, path in sources.items()}
+    return [Program(test, its, paths[test], texts[test], [paths[it] for it in closure([test], follow)]) for test, its in words.items()]
 
 
 # Rust
@@ -86,7 +92,7 @@ def program_of_rust(folder: Path, crate: str, name: str, executable: str) -> Pro
     reaches = [str(path.relative_to(folder)) for it, above in ABOVE.items() if crate in above for path in (folder / it / "src").rglob("*.rs")]
     within = [folder / crate / "tests" / (name + ".rs"), *(folder / crate / "tests" / name).glob("*.rs")]
     text = "\n".join(path.read_text(encoding="utf-8") for path in within if path.is_file())
-    return Program(f"{crate} {name}", [executable, "-q"], text, reaches, crate)
+    return Program(f"{crate} {name}", [executable, "-q"], f"{crate}/tests/{name}.rs", text, reaches, crate)
 
 
 def is_of_crate(program: Program, file: str) -> bool:
