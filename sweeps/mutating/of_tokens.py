@@ -17,7 +17,7 @@ NO_VALUE = {"move", "return", "in", "else", "match", "if", "while", "=", "(", ",
 NOT_DROPPED = {"use", "fn", "struct", "enum", "impl", "const", "static", "type", "mod", "pub", "macro_rules", "extern", "#", "assert", "assert_eq",
                "assert_ne", "debug_assert", "debug_assert_eq", "debug_assert_ne", "unsafe", "trait", "case", "default", "goto", "typedef", "register"}
 BLOCKS = {"if", "while", "for", "loop", "match", "unsafe", "{", "do", "switch"}  # statements that end with a block
-DEFAULTS = r"(?:[ui](?:8|16|32|64|128|size)|f64|String|Duration|Vec<.*>|\(\))$"
+DEFAULTS = r"(?:[ui](?:8|16|32|64|128|size)|f64|String|Duration|Vec<.*>)$"
 
 
 class Function(NamedTuple):
@@ -187,7 +187,7 @@ class Finder:
             first = k
             k = self.end_of(first, closing)
             if tokens.word(k) == ";":
-                self.statement(first, k, function.is_drop and tokens.other[function.opening] == closing)
+                self.statement(first, k, function, function.is_drop and tokens.other[function.opening] == closing)
             k += 1
 
     def end_of(self, k: int, closing: int) -> int:
@@ -212,13 +212,13 @@ class Finder:
             k += 1
         return closing
 
-    def statement(self, first: int, last: int, is_last: bool) -> None:
+    def statement(self, first: int, last: int, function: Function, is_last: bool) -> None:
         tokens, word = self.tokens, self.tokens.word(first)
         if word == "return" and last > first + 1:
-            if not self.is_c and tokens.said(first + 1, last - 1) not in ("true", "false"):
-                self.replace("return", first, last, "return Default::default();")
-            elif self.is_c and tokens.said(first + 1, last - 1) not in ("0", "NULL"):
-                self.replace("return", first, last, "return 0;")
+            said = tokens.said(first + 1, last - 1)
+            for new in ["0"] if self.is_c else defaults(function.returns):
+                if said not in (new, "NULL", "true", "false"):  # (what is true or false is a constant)
+                    self.replace("return", first, last, f"return {new};")
             return
         if word == "let":
             if tokens.word(first + 1).startswith("_"):
@@ -233,19 +233,24 @@ class Finder:
 
     def early(self, function: Function) -> None:
         """The whole function does nothing, where it answers nothing or what any function of its type may answer."""
-        tokens, opening, returns = self.tokens, function.opening, function.returns
+        tokens, opening = self.tokens, function.opening
         closing = tokens.other[opening]
-        news = {"": ["return;"], "bool": ["return true;", "return false;"], "Result<(), E>": ["return Ok(());"]}.get(returns, [])
-        if returns.startswith("Option<"):
-            news = ["return None;"]
-        elif re.match(r"(\w+::)*Result<\(\)", returns):
-            news = ["return Ok(());"]
-        elif re.match(DEFAULTS, returns):
-            news = ["return Default::default();"]
-        if returns == "" and (tokens.next_of(";", opening + 1, closing) or closing) >= closing - 1:
+        if function.returns == "" and (tokens.next_of(";", opening + 1, closing) or closing) >= closing - 1:
             return  # one statement, which is dropped
+        news = [f" return {it};" for it in defaults(function.returns)] if function.returns else [" return;"]
         for new in news if closing > opening + 1 else []:
-            self.places.append(Place("early", tokens[opening].end, tokens[opening].end, " " + new))
+            self.places.append(Place("early", tokens[opening].end, tokens[opening].end, new))
+
+
+def defaults(returns: str) -> List[str]:
+    """What a function of Rust may answer that gives up."""
+    if returns == "bool":
+        return ["true", "false"]
+    if returns.startswith("Option<"):
+        return ["None"]
+    if re.match(r"(\w+::)*Result<\(\)", returns):
+        return ["Ok(())"]
+    return ["Default::default()"] if re.match(DEFAULTS, returns) else []
 
 
 def places(text: str, known: Signatures, is_c: bool) -> List[Place]:

@@ -247,8 +247,11 @@ class Rust(Client):
             raise Missing("no CF_LIBRARY_DIR")
         if not shutil.which("cargo"):
             raise Missing("no cargo")
+        target = Path(os.environ.get("CARGO_TARGET_DIR", made / "target")).resolve()
+        self.made = target / "mutants"  # (always the same, so that cargo knows what it has built)
+        shutil.rmtree(self.made, ignore_errors=True)
         self.folder = self.copy("rust")
-        self.environment.update(CARGO_TARGET_DIR=str(made / "target"), CARGO_PROFILE_DEV_DEBUG="0", RUSTFLAGS="--cap-lints allow",
+        self.environment.update(CARGO_TARGET_DIR=str(target), CARGO_PROFILE_DEV_DEBUG="0", RUSTFLAGS="--cap-lints allow",
                                 CF_HEADER=str(TOP / "crates/cf_c/include/cf.h"), CF_TOLD=str(TOP / "conformance/requests/told.json"),
                                 CF_PYTHON=str(TOP / "clients/python"))
         has_debians = bool(list(DEBIAN.glob("tokio-postgres-[0-9]*")))
