@@ -1,8 +1,8 @@
 """Many mutants of Rust in one build: a function that is mutated has its body once for each of its mutants, and a switch chooses one of them.
 
-    fn sum(..) -> u64 { if crate::is_mutant(1) { a body } else if crate::is_mutant(2) { another body } else { the body as it is } }
+    fn sum(..) -> u64 { if is_mutant(1) { a body } else if is_mutant(2) { another body } else { the body as it is } }
 
-The switch reads the variable CF_MUTANT once. Where rustc refuses one of the bodies, that mutant can't be built. Where it refuses something else
+The switch stands in each file, since some are parts of tests, too. It reads the variable CF_MUTANT once. Where rustc refuses one of the bodies, that mutant can't be built. Where it refuses something else
 of a function, as a `const fn` or bodies of several unnamed types, the function's mutants are built one at a time.
 """
 from typing import Any, Dict, Iterable, List, NamedTuple, Sequence, Tuple
@@ -12,8 +12,7 @@ from mutating.of_tokens import functions
 from mutating.tokens import Tokens
 
 SWITCH = """
-#[doc(hidden)]
-pub(crate) fn is_mutant(number: u32) -> bool {
+fn is_mutant(number: u32) -> bool {
     static CHOSEN: std::sync::OnceLock<u32> = std::sync::OnceLock::new();
     *CHOSEN.get_or_init(|| std::env::var("CF_MUTANT").ok().and_then(|it| it.parse().ok()).unwrap_or(0)) == number
 }
@@ -49,7 +48,7 @@ def made(text: str, mutants: Sequence[Mutant]) -> Made:
         for it in within:
             body = text[first : it.place.start] + it.place.new + text[it.place.end : last]
             line = out.count("\n") + 1
-            out += f"if crate::is_mutant(0x{it.number}) {body}\n"
+            out += f"if is_mutant(0x{it.number}) {body}\n"
             arms.append((line, out.count("\n"), it))
             out += "else "
         out += text[first:last] + " }"
@@ -64,14 +63,13 @@ def outside(files: Dict[str, str], mutants: Sequence[Mutant]) -> List[Mutant]:
 
 
 def texts(files: Dict[str, str], mutants: Sequence[Mutant]) -> Dict[str, Made]:
-    """The files that change: those with mutants, and the libraries of their crates, which get the switch."""
+    """The files that change."""
     found = {}
     for file, text in files.items():
         of_file = [it for it in mutants if it.file == file]
-        has_switch = file.endswith("/src/lib.rs") and any(it.file.startswith(file[: -len("lib.rs")]) for it in mutants)
-        if of_file or has_switch:
+        if of_file:
             it = made(text, of_file)
-            found[file] = it._replace(text=it.text + SWITCH) if has_switch else it
+            found[file] = it._replace(text=it.text + SWITCH)
     return found
 
 

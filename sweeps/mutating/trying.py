@@ -11,7 +11,7 @@ import threading
 import time
 from concurrent.futures import ThreadPoolExecutor
 from pathlib import Path
-from typing import Any, Callable, Dict, List, NamedTuple, Optional, Sequence, Tuple
+from typing import Any, Callable, Dict, List, NamedTuple, Optional, Sequence, Set, Tuple
 
 from checking.tools import DEBIAN, junit
 from mutating import schemata
@@ -20,8 +20,9 @@ from mutating.mutant import Mutant
 from mutating.programs import Program, is_of_crate, nearness, program_of_rust, programs_of_java, programs_of_python
 
 BUILDING = 1200  # seconds
-LONGEST = 120  # seconds that a test program may take where nothing is changed; a longer one is left out
+LONGEST = 400  # seconds for the first run of a test program
 SQLITE_JDBC = "/usr/share/java/sqlite-jdbc.jar"  # of Debian's libxerial-sqlite-jdbc-java, for tests of stores
+RUNNING: Set[int] = set()  # processes, each of which leads a group
 HIDDEN = shutil.ignore_patterns("target", "build", "__pycache__", "*.so", "out")
 
 
@@ -38,20 +39,33 @@ class Result(NamedTuple):
         return f"{self.mutant}: {'noticed by ' + self.noticed_by if self.noticed_by else 'NOT NOTICED'}, {self.seconds:.0f} s"
 
 
+def end(group: int) -> None:
+    """Ends a process and all that it started."""
+    try:
+        os.killpg(group, signal.SIGKILL)
+    except ProcessLookupError:
+        pass
+
+
+def end_all() -> None:
+    """Ends all that `run` has running."""
+    for group in list(RUNNING):
+        end(group)
+
+
 def run(command: Sequence[str], folder: Path, environment: Dict[str, str], seconds: float) -> Tuple[bool, str]:
     """Whether a command ends with status 0 in time, and what it printed. All that it started is ended."""
     with tempfile.TemporaryFile("w+", encoding="utf-8", errors="replace") as said:
         done = subprocess.Popen(command, cwd=str(folder), env=environment, stdin=subprocess.DEVNULL, stdout=said, stderr=subprocess.STDOUT,
                                 start_new_session=True)
+        RUNNING.add(done.pid)
         try:
             is_well = done.wait(seconds) == 0
         except subprocess.TimeoutExpired:
             is_well = False
         finally:
-            try:
-                os.killpg(done.pid, signal.SIGKILL)
-            except ProcessLookupError:
-                pass
+            RUNNING.discard(done.pid)
+            end(done.pid)
             done.wait()
         said.seek(0)
         return is_well, said.read()
@@ -64,7 +78,8 @@ class Client:
         self.language, self.made, self.say = language, made, say
         self.environment = dict(os.environ, PYTHONDONTWRITEBYTECODE="1", RUST_BACKTRACE="0")
         self.programs: List[Program] = []
-        self.seconds: Dict[str, float] = {}  # of each test program where nothing is changed
+        self.seconds: Dict[str, float] = {}  # that each test program took at its first run that passed
+        self.whole: Dict[str, bool] = {}  # of each that was asked, whether it passes over the code as it is
         self.apart: Dict[str, Callable[[], None]] = {}  # mutants that are built one at a time, once the others were tried
 
     def copy(self, name: str) -> Path:
@@ -94,35 +109,37 @@ class Client:
     def take_back(self, mutant: Mutant, seat: int) -> None:
         """Undoes what `put` did."""
 
-    def measure(self, seats: Sequence[int]) -> None:
-        """Runs each test program over the code as it is. Those that fail, or take too long, are left out."""
-        free = list(seats)
-
-        def measured(program: Program) -> None:
-            seat = free.pop()
-            began = time.monotonic()
-            is_well, said = run(*self.command(program, None, seat), LONGEST)
-            free.append(seat)
-            if is_well:
-                self.seconds[program.name] = time.monotonic() - began
-            else:
-                self.say(f"left out {program.name}: it fails over the code as it is\n{said[-2000:]}")
-
-        with ThreadPoolExecutor(len(free)) as pool:
-            list(pool.map(measured, self.programs))
-        self.programs = [it for it in self.programs if it.name in self.seconds]
-
     def nearest(self, file: str) -> List[Program]:
         """The test programs that may reach a file, in the order in which they are run."""
-        reaching = [it for it in self.programs if file in it.reaches]
-        return sorted(reaching, key=lambda it: (nearness(it, file), not is_of_crate(it, file), self.seconds[it.name]))
+        reaching = [it for it in self.programs if file in it.reaches and self.whole.get(it.name, True)]
+        return sorted(reaching, key=lambda it: (nearness(it, file), not is_of_crate(it, file), self.seconds.get(it.name, len(it.text) / 1000)))
+
+    def passes(self, program: Program, mutant: Optional[Mutant], seat: int) -> bool:
+        """Whether a test program passes in time."""
+        began = time.monotonic()
+        limit = 20 + 4 * self.seconds[program.name] if program.name in self.seconds else LONGEST
+        is_well, said = run(*self.command(program, mutant, seat), limit)
+        if is_well:
+            self.seconds.setdefault(program.name, time.monotonic() - began)
+        elif not mutant:
+            self.say(f"left out {program.name}: it fails over the code as it is\n{said[-2000:]}")
+        return is_well
+
+    def is_sound(self, program: Program, mutant: Mutant, seat: int) -> bool:
+        """Whether a test program passes over the code as it is. It is asked once one has failed over a mutant. That of a mutant which was built
+        by itself isn't asked, since the others aren't there any more."""
+        if program.name not in self.whole and mutant.number not in self.apart:
+            self.take_back(mutant, seat)
+            self.whole[program.name] = self.passes(program, None, seat)
+            self.put(mutant, seat)
+        return self.whole.get(program.name, True)
 
     def tried(self, mutant: Mutant, seat: int) -> Result:
         began = time.monotonic()
         self.put(mutant, seat)
         try:
             for program in self.nearest(mutant.file):
-                if not run(*self.command(program, mutant, seat), 20 + 4 * self.seconds[program.name])[0]:
+                if not self.passes(program, mutant, seat) and self.is_sound(program, mutant, seat):
                     return Result(mutant, program.name, time.monotonic() - began)
             return Result(mutant, "", time.monotonic() - began)
         finally:
@@ -315,8 +332,7 @@ class Rust(Client):
             target = it.get("target")
             if it.get("executable") and isinstance(target, dict) and {"lib", "test"} & set(target["kind"]):
                 made.append((Path(str(it["manifest_path"])).parent.name, target["name"], str(it["executable"])))
-        self.programs = [program_of_rust(self.language.folder, *it) for it in sorted(made)
-                         if not self.seconds or f"{it[0]} {it[1]}" in self.seconds]
+        self.programs = [program_of_rust(self.language.folder, *it) for it in sorted(made)]
 
     def command(self, program: Program, mutant: Optional[Mutant], seat: int) -> Tuple[List[str], Path, Dict[str, str]]:
         environment = dict(self.environment, CF_MUTANT=str(int(mutant.number, 16)) if mutant else "0")
@@ -328,7 +344,6 @@ CLIENTS: Dict[str, Callable[[Language, Path, Callable[[str], None], int], Client
 
 def try_all(client: Client, mutants: Sequence[Mutant], seats: int) -> List[Result]:
     """Tries mutants that are built, as many at a time as there are seats."""
-    client.measure(range(seats))
     free, lock = list(range(seats)), threading.Lock()
     results: List[Result] = []
 
