@@ -187,6 +187,17 @@ def rows_of_languages(tools: Tools, made: Path) -> List[Row]:
         ["env", *workers, python, "conformance/stores/engines", "languages", str(made / "languages/run"), tools["cf_look"]]])]
 
 
+def rows_of_mutants(tools: Tools, made: Path) -> List[Row]:
+    """The rules by which sweeps/mutants changes the clients. It isn't run over them."""
+    typed = [tools["mypy"], "--strict", "--follow-imports=silent", "--cache-dir", str(made / "mypy-mutants")]
+    return [
+        Row("the mutants of the examples", ["python3", "JDK of 17 or later"], [["sweeps/mutants", "--examples"]]),
+        Row("the exceptions of mutants, read", ["python3", "JDK of 17 or later"], [["sweeps/mutants", "--read"]]),
+        Row("the types of what makes mutants", ["mypy", "python3"], 
+            [["env", "MYPYPATH=sweeps:.", *typed, *its] for its in [["sweeps/mutants", "sweeps/mutating"], ["sweeps/spoilt"]]]),
+    ]
+
+
 def edited() -> List[str]:
     """The crates whose wrong bodies are tried together."""
     return sorted(path.name for path in (TOP / "sweeps/must-fail").iterdir())
@@ -205,6 +216,7 @@ def rows(tools: Tools, made: Path, is_gate: bool) -> List[Row]:
         *(rows_of_edits() if is_gate else []),
         Row("the edits of the crates, read", ["python3"], [["sweeps/edits", "--read"]]),
         Row("the edits that spoil the clients, read", ["python3"], [["sweeps/spoilt", "--read"]]),
+        *rows_of_mutants(tools, made),
         Row("what a program can check of the pages", ["python3"], [["sweeps/pages"]]),
         Row("where want of memory is told, and that nothing is kept from being freed", ["python3"], [["sweeps/memory"]]),
         Row("what of sweeps and conformance waits for a run", ["python3", "git"], [["sweeps/runs"]], is_shown=True),

@@ -1,0 +1,366 @@
+"""Builds mutants of a client and tries them: its test programs run over each, the nearest first, until one fails."""
+import json
+import os
+import shutil
+import signal
+import subprocess
+import sys
+import sysconfig
+import tempfile
+import threading
+import time
+from concurrent.futures import ThreadPoolExecutor
+from pathlib import Path
+from typing import Any, Callable, Dict, List, NamedTuple, Optional, Sequence, Set, Tuple
+
+from checking.tools import DEBIAN, junit
+from mutating import schemata
+from mutating.languages import JAVA, RULES_OF_JAVA, TOP, Language
+from mutating.mutant import Mutant
+from mutating.programs import Program, is_of_crate, nearness, program_of_rust, programs_of_java, programs_of_python
+
+BUILDING = 1200  # seconds
+LONGEST = 400  # seconds for the first run of a test program
+SQLITE_JDBC = "/usr/share/java/sqlite-jdbc.jar"  # of Debian's libxerial-sqlite-jdbc-java, for tests of stores
+RUNNING: Set[int] = set()  # processes, each of which leads a group
+HIDDEN = shutil.ignore_patterns("target", "build", "__pycache__", "*.so", "out")
+
+
+class Missing(Exception):
+    """What isn't there to try mutants with."""
+
+
+class Result(NamedTuple):
+    mutant: Mutant
+    noticed_by: str  # a test program, or nothing
+    seconds: float
+
+    def __str__(self) -> str:
+        return f"{self.mutant}: {'noticed by ' + self.noticed_by if self.noticed_by else 'NOT NOTICED'}, {self.seconds:.0f} s"
+
+
+def end(group: int) -> None:
+    """Ends a process and all that it started."""
+    try:
+        os.killpg(group, signal.SIGKILL)
+    except ProcessLookupError:
+        pass
+
+
+def end_all() -> None:
+    """Ends all that `run` has running."""
+    for group in list(RUNNING):
+        end(group)
+
+
+def run(command: Sequence[str], folder: Path, environment: Dict[str, str], seconds: float) -> Tuple[bool, str]:
+    """Whether a command ends with status 0 in time, and what it printed. All that it started is ended."""
+    with tempfile.TemporaryFile("w+", encoding="utf-8", errors="replace") as said:
+        done = subprocess.Popen(command, cwd=str(folder), env=environment, stdin=subprocess.DEVNULL, stdout=said, stderr=subprocess.STDOUT,
+                                start_new_session=True)
+        RUNNING.add(done.pid)
+        try:
+            is_well = done.wait(seconds) == 0
+        except subprocess.TimeoutExpired:
+            is_well = False
+        finally:
+            RUNNING.discard(done.pid)
+            end(done.pid)
+            done.wait()
+        said.seek(0)
+        return is_well, said.read()
+
+
+class Client:
+    """A copy of a client, its test programs, and mutants built in it."""
+
+    def __init__(self, language: Language, made: Path, say: Callable[[str], None]) -> None:
+        self.language, self.made, self.say = language, made, say
+        self.environment = dict(os.environ, PYTHONDONTWRITEBYTECODE="1", RUST_BACKTRACE="0")
+        self.programs: List[Program] = []
+        self.seconds: Dict[str, float] = {}  # that each test program took at its first run that passed
+        self.whole: Dict[str, bool] = {}  # of each that was asked, whether it passes over the code as it is
+        self.apart: Dict[str, Callable[[], None]] = {}  # mutants that are built one at a time, once the others were tried
+
+    def copy(self, name: str) -> Path:
+        """A copy of the client in a folder of this name, with what its tests read beside it."""
+        folder = self.made / name / "clients" / self.language.client
+        shutil.copytree(self.language.folder, folder, ignore=HIDDEN)
+        for beside in [path for path in (TOP / "clients").iterdir() if path.name != self.language.client]:
+            (folder.parent / beside.name).symlink_to(beside)
+        for beside in [TOP / it for it in ["crates", "conformance", "examples"]]:
+            (self.made / name / beside.name).symlink_to(beside)
+        return folder
+
+    def text(self, file: str) -> str:
+        return (self.language.folder / file).read_text(encoding="utf-8")
+
+    def build(self, mutants: Sequence[Mutant]) -> List[Mutant]:
+        """Builds mutants; answers those that can be built."""
+        raise NotImplementedError
+
+    def command(self, program: Program, mutant: Optional[Mutant], seat: int) -> Tuple[List[str], Path, Dict[str, str]]:
+        """How a test program is run over a mutant, or over the code as it is, where no other process of this seat is at work."""
+        raise NotImplementedError
+
+    def put(self, mutant: Mutant, seat: int) -> None:
+        """Puts a mutant where the programs of a seat run."""
+
+    def take_back(self, mutant: Mutant, seat: int) -> None:
+        """Undoes what `put` did."""
+
+    def nearest(self, file: str) -> List[Program]:
+        """The test programs that may reach a file, in the order in which they are run."""
+        reaching = [it for it in self.programs if file in it.reaches and self.whole.get(it.name, True)]
+        return sorted(reaching, key=lambda it: (nearness(it, file), not is_of_crate(it, file), self.seconds.get(it.name, len(it.text) / 1000)))
+
+    def passes(self, program: Program, mutant: Optional[Mutant], seat: int) -> bool:
+        """Whether a test program passes in time."""
+        began = time.monotonic()
+        limit = 20 + 4 * self.seconds[program.name] if program.name in self.seconds else LONGEST
+        is_well, said = run(*self.command(program, mutant, seat), limit)
+        if is_well:
+            self.seconds.setdefault(program.name, time.monotonic() - began)
+        elif not mutant:
+            self.say(f"left out {program.name}: it fails over the code as it is\n{said[-2000:]}")
+        return is_well
+
+    def is_sound(self, program: Program, mutant: Mutant, seat: int) -> bool:
+        """Whether a test program passes over the code as it is. It is asked once one has failed over a mutant. That of a mutant which was built
+        by itself isn't asked, since the others aren't there any more."""
+        if program.name not in self.whole and mutant.number not in self.apart:
+            self.take_back(mutant, seat)
+            self.whole[program.name] = self.passes(program, None, seat)
+            self.put(mutant, seat)
+        return self.whole.get(program.name, True)
+
+    def tried(self, mutant: Mutant, seat: int) -> Result:
+        began = time.monotonic()
+        self.put(mutant, seat)
+        try:
+            for program in self.nearest(mutant.file):
+                if not self.passes(program, mutant, seat) and self.is_sound(program, mutant, seat):
+                    return Result(mutant, program.name, time.monotonic() - began)
+            return Result(mutant, "", time.monotonic() - began)
+        finally:
+            self.take_back(mutant, seat)
+
+
+class Python(Client):
+    """Each seat has a copy, in which a mutant stands while it is tried."""
+
+    def __init__(self, language: Language, made: Path, say: Callable[[str], None], seats: int) -> None:
+        super().__init__(language, made, say)
+        if not os.environ.get("CF_LIBRARY"):
+            raise Missing("no CF_LIBRARY")
+        self.folders = [self.copy(str(seat)) for seat in range(seats)]
+        self.environment.update(CF_NO_MODULE="1", CF_REQUESTS="2000")
+        self.programs = programs_of_python(language.folder, False)
+
+    def build(self, mutants: Sequence[Mutant]) -> List[Mutant]:
+        return [it for it in mutants if self.is_python(it.put_into(self.text(it.file)))]
+
+    @staticmethod
+    def is_python(text: str) -> bool:
+        try:
+            compile(text, "mutant", "exec")
+        except SyntaxError:
+            return False
+        return True
+
+    def command(self, program: Program, mutant: Optional[Mutant], seat: int) -> Tuple[List[str], Path, Dict[str, str]]:
+        return [sys.executable, *program.words], self.folders[seat], self.environment
+
+    def put(self, mutant: Mutant, seat: int) -> None:
+        (self.folders[seat] / mutant.file).write_text(mutant.put_into(self.text(mutant.file)), encoding="utf-8")
+
+    def take_back(self, mutant: Mutant, seat: int) -> None:
+        shutil.copy2(self.language.folder / mutant.file, self.folders[seat] / mutant.file)
+
+
+class CModule(Python):
+    """The C module of Python: each mutant is compiled, and its module stands in a seat's copy while it is tried."""
+
+    def __init__(self, language: Language, made: Path, say: Callable[[str], None], seats: int) -> None:
+        super().__init__(language, made, say, seats)
+        if not os.environ.get("CF_LIBRARY_DIR"):
+            raise Missing("no CF_LIBRARY_DIR")
+        self.environment["CF_NO_MODULE"] = ""
+        self.programs = programs_of_python(language.folder, True)
+        self.module = "_cf" + sysconfig.get_config_var("EXT_SUFFIX")
+        (made / "modules").mkdir()
+        if not self.compiled("whole", language.folder / "native/_cf.c"):
+            raise Missing("a C compiler with Python's headers")
+        for folder in self.folders:
+            shutil.copy2(made / "modules/whole", folder / "cf" / self.module)
+
+    def compiled(self, name: str, source: Path) -> bool:
+        folder = os.environ["CF_LIBRARY_DIR"]
+        command = ["cc", "-O1", "-w", "-fPIC", "-shared", f"-I{sysconfig.get_paths()['include']}", f"-I{TOP}/crates/cf_c/include", str(source),
+                   "-Wl,--whole-archive", f"{folder}/libcf.a", "-Wl,--no-whole-archive", "-pthread", "-o", str(self.made / "modules" / name)]
+        return run(command, self.made, self.environment, BUILDING)[0]
+
+    def build(self, mutants: Sequence[Mutant]) -> List[Mutant]:
+        built = []
+        for it in mutants:
+            source = self.made / "modules" / f"{it.number}.c"
+            source.write_text(it.put_into(self.text(it.file)), encoding="utf-8")
+            built += [it] if self.compiled(it.number, source) else []
+        return built
+
+    def put(self, mutant: Mutant, seat: int) -> None:
+        shutil.copy2(self.made / "modules" / mutant.number, self.folders[seat] / "cf" / self.module)
+
+    def take_back(self, mutant: Mutant, seat: int) -> None:
+        shutil.copy2(self.made / "modules/whole", self.folders[seat] / "cf" / self.module)
+
+
+class Java(Client):
+    """All mutants are compiled by one process. The classes of a mutant stand before all others on the class path."""
+
+    def __init__(self, language: Language, made: Path, say: Callable[[str], None], seats: int) -> None:
+        super().__init__(language, made, say)
+        if not os.environ.get("CF_LIBRARY_DIR"):
+            raise Missing("no CF_LIBRARY_DIR")
+        if not shutil.which("javac"):
+            raise Missing("no javac")
+        libraries = junit() or ""
+        self.folder = self.copy("java")
+        self.environment["CF_JUNIT"] = libraries
+        jars, tests = made / "jars", made / "tests"
+        self.path = f"{jars}/cf-service.jar:{jars}/cf-service-junit.jar:{tests}:{libraries}:{SQLITE_JDBC}"
+        sources = [str(path) for part in ["test", "opentelemetry", *["junit/test"][: bool(libraries)]] for path in (self.folder / part).rglob("*.java")]
+        for command in [["sh", "build", "--quick", str(jars)], ["javac", "-nowarn", "-encoding", "UTF-8", "-cp", self.path, "-d", str(tests), *sources]]:
+            is_built, said = run(command, self.folder, self.environment, BUILDING)
+            if not is_built:
+                raise Missing(f"the copy can't be built:\n{said}")
+        self.programs = programs_of_java(language.folder, bool(libraries))
+
+    def build(self, mutants: Sequence[Mutant]) -> List[Mutant]:
+        made = self.made / "mutants"
+        made.mkdir(exist_ok=True)
+        asked = []
+        for it in mutants:
+            (made / (it.number + ".java")).write_text(it.put_into(self.text(it.file)), encoding="utf-8")
+            asked.append(f"{it.number}\t{made}/{it.number}.java\t{it.file}\n")
+        command = [*JAVA, str(RULES_OF_JAVA), "--compile", self.path, str(made)]
+        said = subprocess.run(command, input="".join(asked).encode(), stdout=subprocess.PIPE, check=True).stdout.decode()
+        built = {line.partition("\t")[0] for line in said.splitlines() if line.endswith("\tbuilt")}
+        return [it for it in mutants if it.number in built]
+
+    def command(self, program: Program, mutant: Optional[Mutant], seat: int) -> Tuple[List[str], Path, Dict[str, str]]:
+        path = f"{self.made}/mutants/{mutant.number}:{self.path}" if mutant else self.path
+        java = ["java", "-Xmx64m", "-XX:+UseSerialGC", "-XX:TieredStopAtLevel=1", "-cp", path]
+        return [*java, *program.words], TOP, self.environment
+
+
+class Rust(Client):
+    """The crates are built once with all mutants, of which a variable of the environment chooses one. One that can't stand beside the others
+    is built by itself."""
+
+    def __init__(self, language: Language, made: Path, say: Callable[[str], None], seats: int) -> None:
+        super().__init__(language, made, say)
+        if not os.environ.get("CF_LIBRARY_DIR"):
+            raise Missing("no CF_LIBRARY_DIR")
+        if not shutil.which("cargo"):
+            raise Missing("no cargo")
+        target = Path(os.environ.get("CARGO_TARGET_DIR", made / "target")).resolve()
+        self.made = target / "mutants"  # (always the same, so that cargo knows what it has built)
+        shutil.rmtree(self.made, ignore_errors=True)
+        self.folder = self.copy("rust")
+        self.environment.update(CARGO_TARGET_DIR=str(target), CARGO_PROFILE_DEV_DEBUG="0", RUSTFLAGS="--cap-lints allow",
+                                CF_HEADER=str(TOP / "crates/cf_c/include/cf.h"), CF_TOLD=str(TOP / "conformance/requests/told.json"),
+                                CF_PYTHON=str(TOP / "clients/python"))
+        has_debians = bool(list(DEBIAN.glob("tokio-postgres-[0-9]*")))
+        self.words = ["--config", "debian.toml", "--offline", "--workspace", *(["--all-features"] if has_debians else ["--features", "cf/testing"])]
+        if not has_debians:
+            say("left out cf-store's stores and what tokio, rayon, serde and tracing have part in: Debian's crates aren't there")
+            self.words = self.words[2:]
+
+    def cargo(self, *words: str) -> Tuple[bool, List[Dict[str, Any]]]:
+        """Runs cargo; whether it went well, and its messages."""
+        is_well, said = run(["cargo", words[0], *self.words, *words[1:], "--message-format=json"], self.folder, self.environment, BUILDING)
+        return is_well, [json.loads(line) for line in said.splitlines() if line.startswith("{")]
+
+    def put_texts(self, texts: Dict[str, str]) -> None:
+        """Lets files have these texts. A file that stays as it is keeps its time, by which cargo goes."""
+        for file in self.language.files():
+            path, text = self.folder / file, texts.get(file) or self.text(file)
+            if path.read_text(encoding="utf-8") != text:
+                path.write_text(text, encoding="utf-8")
+
+    def build(self, mutants: Sequence[Mutant]) -> List[Mutant]:
+        wrong: List[Mutant] = []  # that can't be built, as far as is known
+        whole = {file: self.text(file) for file in self.language.files()}
+        apart = schemata.outside(whole, mutants)  # those that can't stand beside others
+        while True:
+            chosen = [it for it in mutants if it not in wrong and it not in apart]
+            texts = schemata.texts(whole, chosen)
+            self.put_texts({file: it.text for file, it in texts.items()})
+            is_well, messages = self.cargo("check", "--lib")
+            if is_well:
+                break
+            blamed = schemata.blamed(texts, messages)
+            wrong += blamed.arms
+            apart += [] if blamed.arms else blamed.functions
+            if not blamed.arms and not blamed.functions:
+                raise Missing("the crates can't be built with mutants:\n" + "\n".join(schemata.errors(messages)))
+        self.link()
+        for it in [it for it in apart if self.is_built_apart(it)]:
+            self.apart[it.number] = lambda it=it: self.build_apart(it)  # type: ignore[misc]
+        return [it for it in mutants if it not in wrong and (it not in apart or it.number in self.apart)]
+
+    def is_built_apart(self, mutant: Mutant) -> bool:
+        """Whether cargo takes a mutant without the others. What was built stays."""
+        kept = {file: (self.folder / file).read_text(encoding="utf-8") for file in self.language.files()}
+        self.put_texts({mutant.file: mutant.put_into(self.text(mutant.file))})
+        is_well = self.cargo("check", "--lib")[0]
+        self.put_texts(kept)
+        return is_well
+
+    def build_apart(self, mutant: Mutant) -> None:
+        self.put_texts({mutant.file: mutant.put_into(self.text(mutant.file))})
+        self.link()
+
+    def link(self) -> None:
+        """Builds the test programs."""
+        is_well, messages = self.cargo("test", "--no-run", "--lib", "--tests")
+        if not is_well:
+            raise Missing("the tests can't be built:\n" + "\n".join(schemata.errors(messages)))
+        made = []
+        for it in messages:
+            target = it.get("target")
+            if it.get("executable") and isinstance(target, dict) and {"lib", "test"} & set(target["kind"]):
+                made.append((Path(str(it["manifest_path"])).parent.name, target["name"], str(it["executable"])))
+        self.programs = [program_of_rust(self.language.folder, *it) for it in sorted(made)]
+
+    def command(self, program: Program, mutant: Optional[Mutant], seat: int) -> Tuple[List[str], Path, Dict[str, str]]:
+        environment = dict(self.environment, CF_MUTANT=str(int(mutant.number, 16)) if mutant else "0")
+        return list(program.words), self.folder / program.folder, environment
+
+
+CLIENTS: Dict[str, Callable[[Language, Path, Callable[[str], None], int], Client]] = {"python": Python, "c": CModule, "java": Java, "rust": Rust}
+
+
+def try_all(client: Client, mutants: Sequence[Mutant], seats: int) -> List[Result]:
+    """Tries mutants that are built, as many at a time as there are seats."""
+    free, lock = list(range(seats)), threading.Lock()
+    results: List[Result] = []
+
+    def tried(mutant: Mutant) -> None:
+        with lock:
+            seat = free.pop()
+        result = client.tried(mutant, seat)
+        with lock:
+            free.append(seat)
+            results.append(result)
+            client.say(str(result))
+
+    together = [it for it in mutants if it.number not in client.apart]
+    with ThreadPoolExecutor(seats) as pool:
+        list(pool.map(tried, together))
+    for mutant in mutants:
+        if mutant.number in client.apart:
+            client.apart[mutant.number]()
+            tried(mutant)
+    return results
