@@ -39,17 +39,21 @@ SET_UP = 6_318_042  # the number of the lock under which tables are made
 # it, so that the next one sees all that stands by then: who closes it sees the words of all that have opened it again,
 # and who opens it again sees that it was closed.
 CLOSING = 6_318_043
-PREPARED = """
+# Who puts has the request's row until the put stands, so that nobody drops it meanwhile, and finds none where another
+# has dropped it. Whoever else puts, or closes the request, isn't kept waiting by that.
+THERE = "(select id from cf_request where id = {} for key share) as there"
+PREPARED = f"""
     prepare cf_put(bigint, int, bigint, bigint, bytea) as
-        insert into cf_word select id, $2, $3, $4, $5 from cf_request where id = $1 on conflict do nothing;
+        insert into cf_word select id, $2, $3, $4, $5 from {THERE.format("$1")} on conflict do nothing;
     prepare cf_two(bigint, int, bigint, bigint, bytea, bigint, bigint, bytea) as insert into cf_word
-        select id, v.* from cf_request, (values ($2, $3, $4, $5), ($2 + 1, $6, $7, $8)) as v where id = $1;
+        select id, v.* from {THERE.format("$1")}, (values ($2, $3, $4, $5), ($2 + 1, $6, $7, $8)) as v;
     prepare cf_read(bigint, int) as select at, word, token from cf_request
         left join cf_word on request = id and at >= $2 where id = $1 order by at;
 """
 HAS = "(select coalesce(max(at) + 1, 0) from cf_word where request = id) = %s"  # so many words
-PUT_ALL = ("insert into cf_word select id, at, word, token, payload "
-           "from (values %s) as v(request, at, word, token, payload) join cf_request on id = request")
+PUT_ALL = ("insert into cf_word select id, at, word, token, payload from (select v.*, id "
+           "from (values %s) as v(request, at, word, token, payload) join cf_request on id = request "
+           "for key share of cf_request) as there")
 SMALL = 512  # bytes of a payload that comes along with its word
 ROWS = ("select r.id, null::int, null::bigint, null::bigint, null::bytea, name, opened, "
         "case when v.at = 0 then plan end from unnest(%s::bigint[], %s::int[]) as v(id, at) "
@@ -239,14 +243,16 @@ class Postgres(TableStore):
             raise self._gone(name)
 
     def drop(self, name: str, at: Optional[int] = None) -> bool:
-        is_so = "" if at is None else f" and closed is not null and {HAS}"
-        dropped = bool(self._ask(f"with gone as (delete from cf_request where id = %s{is_so} returning id), "
+        is_so, number = "" if at is None else f" and closed is not null and {HAS}", self._id(name)
+        # (The row is locked by a statement of its own, so that the next one sees all that was put until then.)
+        dropped = bool(self._ask("select 1 from cf_request where id = %s for update; "
+                                 f"with gone as (delete from cf_request where id = %s{is_so} returning id), "
                                  "words as (delete from cf_word where request in (select id from gone)), "
                                  "timers as (delete from cf_timer where request in (select id from gone)), "
                                  "glances as (delete from cf_glance where request in (select id from gone)), "
                                  "names as (delete from cf_name where request in (select id from gone)) "
                                  "select id from gone",
-                                 self._id(name), *(() if at is None else (at,))))
+                                 number, number, *(() if at is None else (at,))))
         if dropped:
             self._ids.pop(name, None)
         return dropped
@@ -408,7 +414,7 @@ class Postgres(TableStore):
 
     def name_session(self, session: int, said: str, request: str = "", number: int = 0) -> None:
         if not self._do(f"insert into cf_name select {'id' if request else '0'}, %s, %s "
-                        f"{'from cf_request where id = %s' if request else ''} "
+                        f"{'from ' + THERE.format('%s') if request else ''} "
                         "on conflict (request, session) do update set name = excluded.name",
                         (session, said, *([number or self._id(request)] if request else [])))[0]:
             raise self._gone(request)
@@ -417,7 +423,7 @@ class Postgres(TableStore):
         return float(self._ask(f"select {NOW}")[0][0])
 
     def set_timer(self, timer: Timer) -> None:
-        if not self._do("insert into cf_timer select id, %s, %s, %s from cf_request where id = %s "
+        if not self._do(f"insert into cf_timer select id, %s, %s, %s from {THERE.format('%s')} "
                         "on conflict (request, stage) do update set due = excluded.due, payload = excluded.payload",
                         (*timer[1:4], timer.number or self._id(timer.request)))[0]:
             raise self._gone(timer.request)
@@ -436,9 +442,9 @@ class Postgres(TableStore):
     def keep_glances(self, glances: Sequence[Glance]) -> None:
         rows = sorted((it.number, it.words, it.said) for it in glances)  # (two in one order don't wait in a ring)
         if rows:
-            self._ask("insert into cf_glance select id, v.words, v.said from "
+            self._ask("insert into cf_glance select id, words, said from (select v.*, id from "
                       f"(values {','.join(['(%s::bigint, %s, %s)'] * len(rows))}) as v(request, words, said) "
-                      "join cf_request on id = v.request where closed is null "
+                      "join cf_request on id = v.request where closed is null for key share of cf_request) as there "
                       "on conflict (request) do update set words = excluded.words, said = excluded.said",
                       *(it for row in rows for it in row))
 
@@ -509,7 +515,7 @@ class _Transaction(Transaction):
             except (errors.InvalidSavepointSpecification, errors.NoActiveSqlTransaction):
                 raise StoreError("the function has ended its transaction") from None
             for k, entry in enumerate(put.entries):
-                self.connection.execute("insert into cf_word select id, %s, %s, %s, %s from cf_request where id = %s "
+                self.connection.execute(f"insert into cf_word select id, %s, %s, %s, %s from {THERE.format('%s')} "
                                         "on conflict do nothing",
                                         (put.at + k, *entry, put.payloads.get(put.at + 1 + k), number))
                 if self.connection.rowcount != 1:
