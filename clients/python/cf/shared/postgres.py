@@ -45,11 +45,17 @@ THERE = "(select id from cf_request where id = {} for key share) as there"
 PREPARED = f"""
     prepare cf_put(bigint, int, bigint, bigint, bytea) as
         insert into cf_word select id, $2, $3, $4, $5 from {THERE.format("$1")} on conflict do nothing;
+    prepare cf_one(bigint, int, bigint, bigint, bytea) as
+        insert into cf_word select id, $2, $3, $4, $5 from {THERE.format("$1")};
     prepare cf_two(bigint, int, bigint, bigint, bytea, bigint, bigint, bytea) as insert into cf_word
         select id, v.* from {THERE.format("$1")}, (values ($2, $3, $4, $5), ($2 + 1, $6, $7, $8)) as v;
     prepare cf_read(bigint, int) as select at, word, token from cf_request
         left join cf_word on request = id and at >= $2 where id = $1 order by at;
+    prepare cf_closing(int) as select pg_advisory_xact_lock({CLOSING}, $1);
+    prepare cf_open(bigint) as with opened as (update cf_request set closed = null, made_by = pg_current_xact_id()
+        where id = $1 and closed is not null) select 1 from cf_request where id = $1;
 """
+PUT_ONE, PUT_TWO = "execute cf_one(%s, %s, %s, %s, %s)", "execute cf_two(%s, %s, %s, %s, %s, %s, %s, %s)"
 HAS = "(select coalesce(max(at) + 1, 0) from cf_word where request = id) = %s"  # so many words
 PUT_ALL = ("insert into cf_word select id, at, word, token, payload from (select v.*, id "
            "from (values %s) as v(request, at, word, token, payload) join cf_request on id = request "
@@ -223,7 +229,7 @@ class Postgres(TableStore):
 
     def end(self, name: str, at: int, number: int = 0) -> bool:
         number = number or self._id(name)
-        told = self._ask(f"select pg_advisory_xact_lock({CLOSING}, %s); "
+        told = self._ask("execute cf_closing(%s); "
                          f"with closed as (update cf_request set closed = {NOW} "
                          f"where id = %s and closed is null and {HAS} returning id), "
                          "timers as (delete from cf_timer where request in (select id from closed)), "
@@ -236,10 +242,7 @@ class Postgres(TableStore):
 
     def reopen(self, name: str, number: int = 0) -> None:
         number = number or self._id(name)
-        if not self._ask(f"select pg_advisory_xact_lock({CLOSING}, %s); "
-                         "with opened as (update cf_request set closed = null, made_by = pg_current_xact_id() "
-                         "where id = %s and closed is not null returning id) select 1 from cf_request where id = %s",
-                         number % 2**31, number, number):
+        if not self._ask("execute cf_closing(%s); execute cf_open(%s)", number % 2**31, number):
             raise self._gone(name)
 
     def drop(self, name: str, at: Optional[int] = None) -> bool:
@@ -260,17 +263,35 @@ class Postgres(TableStore):
     # Words.
 
     def append_groups(self, puts: Sequence[Put]) -> List[Optional[List[Entry]]]:
-        puts, order = sorted(puts, key=lambda put: put.request), list(puts)
-        ids = {put.request: self._id_of(put) for put in puts}
-        rows = [(ids[put.request], put.at + k, *entry, put.payloads.get(put.at + 1 + k)) for put in puts
-                for k, entry in enumerate(put.entries)]
+        order = list(puts)
+        told = {put.request: self._append_opening(put) for put in puts if put.opens}
+        puts = sorted((put for put in puts if not put.opens), key=lambda put: put.request)
+        rows = [row for put in puts for row in self._rows_of(put)]
         if len(rows) == 1:
-            told = [self._append_one(puts[0], rows[0])]
-        else:
-            told = self._append_all(puts, rows)
+            told[puts[0].request] = self._append_one(puts[0], rows[0])
+        elif rows:
+            told.update(zip((put.request for put in puts), self._append_all(puts, rows)))
         self._notify()
-        by_name = {put.request: it for put, it in zip(puts, told)}
-        return [by_name[put.request] for put in order]
+        return [told[put.request] for put in order]
+
+    def _rows_of(self, put: Put) -> List[Tuple[Any, ...]]:
+        """The rows of a put's words."""
+        number = self._id_of(put)
+        return [(number, put.at + k, *entry, put.payloads.get(put.at + 1 + k)) for k, entry in enumerate(put.entries)]
+
+    def _append_opening(self, put: Put) -> Optional[List[Entry]]:
+        """All or none, and with that the request is open: where a place is taken nothing of it stands."""
+        rows = self._rows_of(put)
+        number = rows[0][0]
+        words = (PUT_ONE if len(rows) == 1 else PUT_TWO if len(rows) == 2 else
+                 PUT_ALL % ",".join(["(%s,%s,%s,%s,%s::bytea)"] * len(rows)))
+        values = (*rows[0], *rows[1][2:]) if len(rows) == 2 else [it for row in rows for it in row]
+        try:
+            if self._ask(f"execute cf_closing(%s); {words}; execute cf_open(%s)", number % 2**31, *values, number):
+                return None
+        except errors.UniqueViolation:
+            pass
+        return self._stands(put)
 
     def _append_one(self, put: Put, row: Tuple[Any, ...]) -> Optional[List[Entry]]:
         return None if self._do("execute cf_put(%s, %s, %s, %s, %s)", row)[0] == 1 else self._stands(put)
@@ -285,7 +306,7 @@ class Postgres(TableStore):
         """All or none: where one place is taken nothing of the statement stands, and each is put by itself."""
         try:
             if len(rows) == 2 and len(puts) == 1:
-                many, _ = self._do("execute cf_two(%s, %s, %s, %s, %s, %s, %s, %s)", (*rows[0], *rows[1][2:]))
+                many, _ = self._do(PUT_TWO, (*rows[0], *rows[1][2:]))
             else:
                 many, _ = self._do(PUT_ALL % ",".join(["(%s,%s,%s,%s,%s::bytea)"] * len(rows)),
                                    [it for row in rows for it in row])
@@ -295,8 +316,7 @@ class Postgres(TableStore):
             pass
         if len(puts) == 1:
             return [self._stands(puts[0])]
-        return [self._append_all([put], [(self._id(put.request), put.at + k, *entry, put.payloads.get(put.at + 1 + k))
-                                         for k, entry in enumerate(put.entries)])[0] for put in puts]
+        return [self._append_all([put], self._rows_of(put))[0] for put in puts]
 
     def read(self, name: str, at: int = 0, number: int = 0) -> List[Entry]:
         rows = self._ask("execute cf_read(%s, %s)", number or self._id(name), at)

@@ -95,13 +95,15 @@ class Put(NamedTuple):
         at: After how many words they are to stand.
         entries: Each a word and its token.
         payloads: Of the words that have one, by their places.
-        number: The request's own number, or 0 for whichever has the name."""
+        number: The request's own number, or 0 for whichever has the name.
+        opens: Whether the request is opened again with that, in one step, where it is closed."""
 
     request: str
     at: int
     entries: Sequence[Entry]
     payloads: Mapping[int, bytes]
     number: int = 0
+    opens: bool = False
 
 
 class Wanted(NamedTuple):
@@ -458,6 +460,8 @@ class Memory(Store):
             return row[put.at:]
         row.extend(put.entries)
         self._payloads.update(((put.request, place), payload) for place, payload in put.payloads.items())
+        if put.opens:
+            self._closed.pop(put.request, None)
         return None
 
     def read(self, name: str, at: int = 0, number: int = 0) -> List[Entry]:

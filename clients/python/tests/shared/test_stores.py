@@ -252,8 +252,7 @@ class Stores(Case):
                 closing = threading.Thread(target=closes)
                 closing.start()
                 both.wait()
-                store.append(Put(name, 1, [(2, 12)], {}))
-                store.reopen(name, number)
+                store.append(Put(name, 1, [(2, 12)], {}, number, True))
                 closing.join()
                 self.assertEqual(store.ends().get(name), 2, store)
                 store.drop(name)
@@ -261,6 +260,23 @@ class Stores(Case):
 
     def test_waiting(self):
         for store in self.stores():
+    def test_a_word_that_opens_a_request_again(self):
+        """It does so in one step with its put, and where its place is taken it does nothing."""
+        for store in self.stores():
+            with self.subTest(type(store).__name__):
+                number = store.open(self.name, "plan").number
+                store.append(Put(self.name, 0, [(1, 11)], {}))
+                for at, words in ((1, [(2, 12)]), (2, [(3, 13), (4, 14)])):
+                    store.end(self.name, at)
+                    self.assertEqual(store.append(Put(self.name, at - 1, words, {}, number, True))[0], (at, at + 10))
+                    self.assertNotIn(self.name, store.ends())
+                    self.assertIsNone(store.append(Put(self.name, at, words, {at + 1: b"x" * 5000}, number, True)))
+                    self.assertEqual(store.ends()[self.name], at + len(words))
+                store.drop(self.name)
+                with self.assertRaises(Broken):
+                    store.append(Put(self.name, 4, [(5, 15)], {}, number, True))
+                store.close()
+
             with self.subTest(type(store).__name__):
                 store.open(self.name, "plan")
                 self.assertFalse(store.wait(self.name, 0, 0.05))
