@@ -194,14 +194,15 @@ class Postgres(TableStore):
             return self.ends(), at
         rows = self._ask(f"select null, ({MARK}) union all "
                          "select name, 0 from cf_request where closed is null and made_by >= %s::text::xid8 union all "
-                         "select name, max(at) + 1 from cf_word w join cf_request on id = request "
-                         "where closed is null and w.made_by >= %s::text::xid8 group by name", str(mark), str(mark))
+                         "select name, case when closed is null then max(at) + 1 else -1 end from cf_word w "
+                         "join cf_request on id = request where w.made_by >= %s::text::xid8 group by name, closed",
+                         str(mark), str(mark))
         told: Dict[str, int] = {}
         for name, many in rows:
             if name is None:
                 mark = int(many)
             else:
-                told[str(name)] = max(int(many), told.get(str(name), 0))
+                told[str(name)] = int(many) or told.get(str(name), 0)
         return told, mark
 
     def _mark(self) -> int:

@@ -185,7 +185,7 @@ class SQLite(TableStore):
         number = number or self._id(name)
 
         def act(db: sqlite3.Connection) -> bool:
-            db.execute("update cf_request set closed = null where id = ? and closed is not null", (number,))
+            db.execute(OPEN_AGAIN, (number,))
             return _is_there(db, number)
         if not self._in_turn(act):
             raise self._gone(name)
