@@ -41,6 +41,11 @@ class SharedPlan:
         except (ValueError, KeyError, TypeError, Refused) as error:
             raise Broken(name, 0, f"its plan can't be read: {error!r}") from None
 
+    def is_of(self, flow: Flow) -> bool:
+        """Whether it is a flow's: it has the flow's name and steps, be their functions of another version."""
+        its = [(int(form), of, name) for form, of, _, name in self.rows]
+        return self.flow == flow.name and its == [(int(form), of, name) for form, of, _, name in flow._rows]
+
     def replica(self, room: int, session: int, first: int) -> Replica:
         """What a session has seen of a row of it before the first word, with room for so many stages more. Its tokens
         count from `first` on."""

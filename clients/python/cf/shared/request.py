@@ -72,6 +72,7 @@ from typing import (TYPE_CHECKING, Any, Callable, ContextManager, Dict, Generato
 
 from ..service.flow import Again, Step, _alone
 from ..service.history import Describe, History, escaped
+from ..service.stage import ASYNCIOS
 from ..service.words import (ANSWER, ATTACH, CANCEL, CANCELLED, COMPLETE, FAIL, FAIL_AS, FAILURES, GIVES, MOST_STAGES,
                              NUMBER, THROWN, TIMED_OUT, VALUE, RequestFull, Told)
 from ..values import BadAnswer, Form
@@ -232,8 +233,31 @@ class DurableStage(_Future[T]):
             raise InvalidStateError(f"{self._state}: {self!r}")
 
     def __await__(self) -> Generator[Any, None, T]:
-        """Awaits it on the running loop."""
-        return asyncio.wrap_future(self).__await__()
+        """Awaits it on the running loop. Who gives that up, as by `asyncio.wait_for`, leaves the stage as it is: others
+        may wait for it, also in other processes. `cancel` cancels it."""
+        if not self.done():
+            yield from self._waited_for(asyncio.get_running_loop())
+        if self.cancelled():
+            raise asyncio.CancelledError
+        error = self.exception()
+        if error is not None and type(error) in ASYNCIOS:
+            raise ASYNCIOS[type(error)](*error.args)
+        return self.result()
+
+    def _waited_for(self, loop: asyncio.AbstractEventLoop) -> Generator[Any, None, None]:
+        """Waits on a loop until it is done. Nothing is left of that in the stage where it is given up."""
+        shown = loop.create_future()
+
+        def wake(_: object) -> None:
+            with contextlib.suppress(RuntimeError):  # the loop is closed
+                loop.call_soon_threadsafe(lambda: None if shown.done() else shown.set_result(None))
+        self.add_done_callback(wake)
+        try:
+            yield from shown
+        finally:
+            with self._condition:
+                if not self.done():  # (else the callbacks are being called)
+                    self._done_callbacks.remove(wake)
 
     @property
     def _ended(self) -> int:
@@ -342,8 +366,11 @@ class DurableRequest:
         return row[0]
 
     def __getitem__(self, which: "Step[T] | int | str") -> "DurableStage[T]":
-        """The stage of a flow's step, the one of a number, or the first one of a name. `KeyError` if there is none."""
+        """The stage of a flow's step, the one of a number, or the first one of a name. `KeyError` if there is none, or
+        if the request wasn't begun with the step's flow: one of its name, with these steps."""
         self._catch_up()
+        if isinstance(which, Step) and not self._view.plan.is_of(which.flow):
+            raise KeyError(f"{which.name} is a step of another flow")
         many = len(self._view.forms)
         if isinstance(which, str):
             which = next((k for k in range(many) if self._view.said(k)["name"] == which), many)

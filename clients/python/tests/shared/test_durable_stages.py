@@ -272,6 +272,54 @@ class DurableStages(Case):
             return await service.request().supply(f.load, 1)
         self.assertEqual(asyncio.run(main())["number"], 1)
 
+    def test_an_await_that_is_given_up(self):
+        """It leaves the stage as it is, for whoever else waits, and nothing of itself there."""
+        async def given_up(stage):
+            waits = [asyncio.ensure_future(stage) for _ in range(3)]
+            await asyncio.sleep(0)
+            waits[0].cancel()
+            with self.assertRaises(asyncio.TimeoutError):
+                await asyncio.wait_for(stage, 0.001)
+            many = len(stage._done_callbacks)
+            self.assertTrue(waits[0].cancelled() and not stage.done())
+            stage.complete(17)
+            return many, await waits[1], await waits[2], await stage
+        for service, name in self.each():
+            self.assertEqual(asyncio.run(given_up(service.request(name).promise())), (2, 17, 17, 17))
+
+    def test_an_await_of_what_fails_or_is_cancelled(self):
+        """As asyncio's own futures: also where the stage is settled already."""
+        async def kinds(stages):
+            waits = [asyncio.ensure_future(stage) for stage in stages]
+            await asyncio.sleep(0)
+            stages[0].cancel(), stages[1].fail(CancelledError()), stages[2].fail(TimeoutError("late"))
+            stages[3].fail(PermissionError("no"))
+            told = await asyncio.gather(*waits, return_exceptions=True)
+            return told, await asyncio.gather(*stages, return_exceptions=True)
+        durable = self.service().request("r")
+        for told in asyncio.run(kinds([durable.promise() for _ in range(4)])):
+            self.assertEqual([type(it) for it in told], [asyncio.CancelledError, asyncio.CancelledError,
+                                                         TimeoutError, PermissionError])
+
+    def test_a_step_of_another_flow(self):
+        """It names no stage of the request, whatever stands at its place; the same flow built again does."""
+        def built(*names, name="order"):
+            flow = Flow(name)
+            return flow, [flow.promise(it) for it in names]
+        for service, name in self.each():
+            flow, (order, approval) = built("order", "approval")
+            durable = service.start(flow, 17, name=name)
+            again = built("order", "approval")[1]
+            self.assertEqual(durable[again[1]], durable[approval])
+            for _, steps in (built("order", "fraud score", "approval"), built("order", "fraud score"), built("order"),
+                             built("order", "approval", "more"), built("order", "approval", name="other")):
+                for step in steps:
+                    with self.assertRaises(KeyError) as told:
+                        durable[step]
+                    self.assertIn("is a step of another flow", str(told.exception))
+            with self.assertRaises(KeyError):
+                service.request(name + "?")[order]
+
     def test_a_full_request(self):
         service = DurableService(Memory(), 0, functions=f.functions)
         self.services.append(service)
