@@ -6,6 +6,7 @@ from ..plan import Plan
 from ..service.flow import Flow
 from ..service.words import COMPOSE_FORMS, FORMS, FORMS_WITHOUT_FUNCTION, Told
 from ..values import Form, Refused
+from .codec import json_of
 from .contexts import Carrier, captured
 from .functions import Functions, said_of
 from .replica import Replica
@@ -78,8 +79,8 @@ def text_of(flow: Optional[Flow], functions: Functions, carriers: Sequence[Carri
         if form in COMPOSE_FORMS:
             raise TypeError(f"{name}: a flow in a store has no compose; a stage of a request has")
         stages.append({"form": FORMS[form], "of": list(of), "name": name, **said_of(functions, call, (), {})})
-    return json.dumps({"cf": FORMAT, "flow": "" if flow is None else flow.name, "stages": stages,
-                       **captured(carriers)}, separators=(",", ":"))
+    return json_of({"cf": FORMAT, "flow": "" if flow is None else flow.name, "stages": stages, **captured(carriers)},
+                   separators=(",", ":"))
 
 
 def are_alike(text: str, other: str) -> bool:
