@@ -56,12 +56,12 @@ class SharedPlan:
 def said_in(read: Any, number: int) -> Dict[str, Any]:
     """What was read of a stage of this number, if it is something of the kind: its name, its function's name,
     version and arguments, and the lower stages that it speaks of."""
-    kinds = {"name": str, "fn": str, "version": int, "args": list, "kwargs": dict, "again": int, "to": int,
+    kinds = {"name": str, "fn": str, "version": int, "args": list, "kwargs": dict, "again": int, "to": int, "by": int,
              "context": dict}
     if not isinstance(read, dict) or "name" not in read or any(name in read and not isinstance(read[name], kind)
                                                                for name, kind in kinds.items()):
         raise ValueError(f"it says nothing of a stage: {str(read)[:80]}")
-    if any(not 0 <= read.get(name, 0) < max(number, 1) for name in ("again", "to")):
+    if any(not 0 <= read.get(name, 0) < max(number, 1) for name in ("again", "to", "by")):
         raise ValueError(f"it names a stage that isn't lower: {str(read)[:80]}")
     return read
 
@@ -96,9 +96,6 @@ def _bare(text: str) -> Any:
     return {name: it for name, it in read.items() if name != "context"} if isinstance(read, dict) else read
 
 
-def tried_again(said: Dict[str, Any]) -> Optional[int]:
-    """The stage whose function a further try calls, or None."""
-    again = said.get("again")
-    return int(again) if again is not None else None
-
-
+def alike_in(said: Dict[str, Any]) -> Dict[str, Any]:
+    """What is said of a stage that is the same where its function is to do the same."""
+    return {name: it for name, it in said.items() if name not in ("context", "to")}

@@ -23,9 +23,10 @@ from .replica import NO_VALUE, Ended
 from .view import SESSION_BITS, Done, RowView, Watcher
 from .functions import F, Functions, Known
 from .host import HOST, Host
-from .plans import are_alike, text_of, tried_again
-from .request import DurableRequest, DurableStage
-from .rows import Broken, Glance, Gone, Grouped, Opened, Store, StoreError, Timer, Transaction, Unknown, sure
+from .plans import are_alike, text_of
+from .request import Composing, DurableRequest, DurableStage
+from .rows import (COUNT_BITS, Broken, Glance, Gone, Grouped, Opened, Store, StoreError, Timer, Transaction, Unknown,
+                   sure)
 
 T = TypeVar("T")
 LOGGER = logging.getLogger("cf.shared")
@@ -370,14 +371,18 @@ class DurableService(concurrent.futures.Executor):
                     if not self._submit(timer.request, self._fire, timer):
                         self._firing.remove(timer[:3])
         # (before the store is asked: what is opened meanwhile, or again, isn't in its answer)
-        known = [(request, request.kept) for request in list(self._requests.values())]
+        kept = {name: request.kept for name, request in list(self._requests.items())}
         ends, mark = self.store.news(None if looks else self._mark)
-        for request, kept in known if looks else ():
-            if request.name not in ends and not request.is_leaving:
+        closed = kept.keys() - ends.keys() if looks else [name for name, end in ends.items() if end < 0]
+        for name in closed:
+            request = self._requests.get(name) or self._left.get(name)
+            if request is not None and not request.is_leaving:
                 request.is_leaving = True
-                if not self._submit(request.name, self._let_go, request, kept):
+                if not self._submit(name, self._let_go, request, kept.get(name, -1)):
                     request.is_leaving = False
         for name, end in ends.items():
+            if end < 0:
+                continue
             taken = self._taken(name) if self._takes_all else self._known_again(name)
             if taken is not None and (end > taken.seen or (looks or not end)
                                       and (end < taken.seen or self._needs(taken))):
@@ -421,7 +426,7 @@ class DurableService(concurrent.futures.Executor):
         """Whether something is to do in a request without a new word."""
         view = request._view
         gone = [self._is_gone(session) for session in view.open_claims().values()]
-        is_due = view.ready or view.links or view.unlinked or view.found or request._unshown or request.reopens
+        is_due = view.ready or view.links or view.unlinked or view.found or request._unshown
         return bool(is_due) or any(gone) or request._is_over()
 
     def _is_gone(self, session: int) -> bool:
@@ -432,12 +437,10 @@ class DurableService(concurrent.futures.Executor):
         asked."""
         try:
             request._catch_up()
-            request._reopen()
             with self._lock:
                 if request.kept == kept and self._requests.get(request.name) is request:
                     del self._requests[request.name]
                     self._left[request.name] = request
-                    request.is_closed = True
         finally:
             request.is_leaving = False
 
@@ -501,7 +504,6 @@ class DurableService(concurrent.futures.Executor):
     def _work(self, request: DurableRequest) -> None:
         request.is_queued = False
         request._catch_up()
-        request._reopen()
         self._abandon(request)
         request._relay()
         claimed = self._found(request) or self._next(request, None)
@@ -586,12 +588,10 @@ class DurableService(concurrent.futures.Executor):
 
     def _known(self, request: DurableRequest, stage: int) -> Optional[Known]:
         """The function of a stage, or None where it isn't registered here: others may have it."""
-        said = request._view.said(stage)
-        again = tried_again(said)
-        if again is not None:
-            said = request._view.said(again)
+        said = request._view.calls(stage)
         known = self.functions.named(str(said.get("fn")), int(said.get("version", 0)))
-        if known is not None and request._view.forms[stage][0] in COMPOSE_FORMS and "to" not in said:
+        composes = request._view.forms[stage][0] in COMPOSE_FORMS
+        if known is not None and composes and "to" not in request._view.said(stage):
             raise Broken(request.name, request._view.attached.get(stage, 0),
                          f"stage {stage} composes, and no promise is named for what comes")
         if known is None and request.name not in self._unknown:
@@ -611,7 +611,7 @@ class DurableService(concurrent.futures.Executor):
         view, known = request._view, self._known(request, stage)
         assert known is not None
         said, args = view.said(stage), self._args(request, stage, done.reply)
-        again = tried_again(said)
+        again = view.tried_again(stage)
         if again is not None:
             # Wrapped, it is a source's: what hangs on an abandoned stage fails, too. A try whose process is gone is done
             # once more. The sources of what is tried again may be open: it was settled by hand.
@@ -660,8 +660,12 @@ class DurableService(concurrent.futures.Executor):
         return self._next(request, self._called(claimed))
 
     def _composed(self, request: DurableRequest, claimed: Claimed) -> Finish:
+        """What a function came to that attaches stages. What an earlier try of it has attached isn't attached once
+        more."""
+        again = request._view.tried_again(claimed.stage)
         try:
-            given = self._call(claimed, request)
+            with request._composing(Composing(claimed.stage, again)):
+                given = self._call(claimed, request)
             if not isinstance(given, DurableStage) or given.request._view is not request._view:
                 raise TypeError(f"{claimed.known.name} has to give a stage of the request")
             return Finish(claimed.stage, LINKS, self.codec.write({"stage": given.number}))

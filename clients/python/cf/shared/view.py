@@ -190,12 +190,14 @@ class RowView:
             entries = self.sure(lambda: self.store.read(self.name, self.seen, self.opened.number))
         return [self._take(*entry) for entry in entries]
 
-    def act(self, decide: "Callable[[RowView], Optional[Wanted]]") -> Tuple[Optional[List[Done]], List[Done]]:
+    def act(self, decide: "Callable[[RowView], Optional[Wanted]]",
+            opens: bool = False) -> Tuple[Optional[List[Done]], List[Done]]:
         """Puts words at the end of what is seen, and does them.
 
         Args:
             decide: Says by this view which words are wanted, each with its payload, or None if none is. It is asked
                 again each time another session's words came first.
+            opens: Whether they open the request again, where it is closed.
 
         Returns:
             What the words did, or None if none was wanted; and what other sessions' words had done before.
@@ -209,7 +211,7 @@ class RowView:
             wanted = decide(self)
             if not wanted:
                 return None, others
-            put = self.put_of(wanted)
+            put = self.put_of(wanted)._replace(opens=opens)
             stands = self._append(put) or put.entries
             done = self.landed(put, stands)
             others += [self._take(*entry) for entry in stands[len(done or []):]]
@@ -384,6 +386,18 @@ class RowView:
             self._said[stage] = self.read(self.attached[stage],
                                           lambda given: said_in(json.loads(given.decode()), stage))
         return self._said[stage]
+
+    def tried_again(self, stage: int) -> Optional[int]:
+        """The stage whose function a further try calls, or None where a stage isn't one."""
+        first: Optional[int] = self.said(stage).get("again")
+        before = None if first is None else self.tried_again(first)
+        return first if before is None else before
+
+    def calls(self, stage: int) -> Dict[str, Any]:
+        """What is said of the stage whose function a stage calls: of itself, or of that of which it is a further
+        try."""
+        first = self.tried_again(stage)
+        return self.said(stage if first is None else first)
 
     def carried(self, stage: int) -> Dict[str, Any]:
         """What of the context of the place where a stage was attached goes along with its function."""
