@@ -705,6 +705,7 @@ class DurableRequest:
         return stage
 
     def _show(self, news: List[Done]) -> None:
+        self._service._heard(news)
         self._show_these([*self._unshown, *(number for done in news for number in done.settled)])
 
     def _show_settled(self) -> None:

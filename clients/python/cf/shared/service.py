@@ -479,6 +479,11 @@ class DurableService(concurrent.futures.Executor):
                 LOGGER.warning("request %r: %s", name, error)
             return False
 
+    def _heard(self, news: Sequence[Done]) -> None:
+        """Words that came behind others that were seen here are signs of life of who put them."""
+        if news and news[0].place > 1:
+            self._watcher.heard({done.token >> COUNT_BITS for done in news} - {self.session})
+
     def _raise(self, error: BaseException) -> None:
         """Tells what a callback raised: who called, or the log where that is a thread of the pool, which has more to
         do."""

@@ -516,27 +516,43 @@ def _names_error(word: int) -> bool:
 
 
 class Watcher:
-    """Which sessions are gone, by this process's own clock: those whose beat stood still for some seconds in which
-    the engine answered. A pause between two looks counts for half of these seconds at most, since this process, or
-    the machine, stood still then, and others may have, too."""
+    """Which sessions are gone, by this process's own clock: those of which no sign of life came for some seconds in
+    which the engine answered, be it a beat or a word.
+
+    Time counts from an answer of the engine to the next question alone, so that who has beaten just before a slow
+    answer has the whole time from then on. A pause between the two counts for half of these seconds at most, since this
+    process, or the machine, stood still then, and others may have, too."""
 
     def __init__(self, store: Store, seconds: float, host: Host = HOST) -> None:
         self._store, self._seconds, self._host = store, seconds, host
+        # by session: its beats, and when the last sign of life of it was seen
         self._seen: Dict[int, Tuple[Optional[int], float]] = {}
-        self._time, self._last = 0.0, host.monotonic()
+        self._time = 0.0
+        self._answered: Optional[float] = None  # the moment of the last answer, where no question came to nothing since
 
-    def look(self, beats: Optional[Mapping[int, int]] = None) -> None:
-        """Reads all beats, but where they were read just now."""
-        now = self._host.monotonic()
-        self._time, self._last = self._time + min(now - self._last, self._seconds / 2), now
+    def look(self, beats: Optional[Mapping[int, int]] = None, asked: Optional[float] = None) -> None:
+        """Reads all beats, but where they were read just now, by a question of the moment `asked`."""
+        self._time = self._counted(self._host.monotonic() if asked is None else asked)
+        self._answered = None
         try:
             beats = self._store.beats() if beats is None else beats
         except Unknown:
             self._seen.clear()  # while the engine was away nobody could beat
             return
+        self._answered = self._host.monotonic()
         for session, count in beats.items():
             if self._seen.get(session, (None, 0))[0] != count:
                 self._seen[session] = (count, self._time)
+
+    def _counted(self, now: float) -> float:
+        """The time that has counted until a moment."""
+        return self._time if self._answered is None else self._time + min(now - self._answered, self._seconds / 2)
+
+    def heard(self, sessions: Iterable[int]) -> None:
+        """Words of these sessions were read that weren't there before."""
+        now = self._counted(self._host.monotonic())
+        for session in sessions:
+            self._seen[session] = (self._seen.get(session, (None, 0))[0], now)
 
     def forget(self) -> None:
         """Drops the beats of sessions that are long gone: nobody needs them, and one that comes back beats anew."""
@@ -548,13 +564,13 @@ class Watcher:
 
     def silences(self) -> Dict[int, float]:
         """For how many seconds the beat of each session has stood still, as far as this one has looked."""
-        return {session: self._time - since for session, (count, since) in self._seen.items() if count is not None}
+        return {session: max(self._time - since, 0.0)
+                for session, (count, since) in self._seen.items() if count is not None}
 
     def is_gone(self, session: int) -> bool:
-        """Whether a session's beat stood still for so long."""
+        """Whether no sign of life of a session came for so long."""
         known = self._seen.get(session)
         if known is None:
-            self._seen[session] = (None, self._time)  # one that never beat counts from now on
+            self._seen[session] = (None, self._counted(self._host.monotonic()))  # one that never beat counts from now on
             return False
         return self._time - known[1] > self._seconds
-
