@@ -221,8 +221,23 @@ class RowView:
 
     def _append(self, put: Put) -> Optional[Sequence[Entry]]:
         """None where a put stands now, else what stands from its first place on."""
+        before = self.unknown
+
+        def append() -> Optional[List[Entry]]:
+            try:
+                return self.store.append(put)
+            except (Unknown, Broken):
+                raise
+            except Exception as error:
+                if self.unknown == before:
+                    raise
+                # behind a missing answer: what is refused now may stand
+                stands = self.store.read(put.request, put.at, put.number)
+                if not stands:
+                    raise Unknown(str(error)) from error
+                return stands
         try:
-            stands: Optional[List[Entry]] = self.sure(lambda: self.store.append(put))
+            stands: Optional[List[Entry]] = self.sure(append)
             if stands == []:
                 raise Gone(self.name)
             return stands

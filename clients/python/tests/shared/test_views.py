@@ -16,7 +16,7 @@ from case import Case, EMPTY
 from cf.service import RequestFull
 from cf.service.words import ATTACH, CANCEL, CLAIM, COMPLETE, FAIL, FINISH
 from cf.shared.host import Host
-from cf.shared import Broken, Json, Memory, new_session, Put, RowView, Unknown, Watcher
+from cf.shared import (Broken, DurableService, Json, Memory, new_session, Put, RowView, StoreError, Unknown, Watcher)
 
 
 class Silent(Memory):
@@ -188,6 +188,30 @@ class Views(Case):
                 self.assertEqual(list(view.found), [0] if lands else [])
                 done, _ = view.act(lambda view: [(FINISH << 56 | view.who << 48, None)])
                 self.assertEqual((done[0].reply[0], view.who, other.who), (1, 0, 1) if lands else (2, 1, 0))
+
+    def test_a_refusal_behind_a_lost_reply(self):
+        """What is refused then may stand. Where it does, that is told; else it isn't known."""
+        for lands in (True, False):
+            with self.subTest(lands=lands):
+                store = Silent(lands)
+                view, append = self.view(store), store.append
+                view._patience = 0.02
+
+                def refuses(put, store=store, append=append):
+                    if store.lands is None:
+                        raise StoreError("it takes nothing now")
+                    append(put)
+                store.append = refuses
+                if lands:
+                    self.assertTrue(self.claim(view))
+                else:
+                    with self.assertRaises(Unknown) as told:
+                        self.claim(view)
+                    self.assertIn("it takes nothing now", str(told.exception))
+                self.assertEqual(len(store.read("r")), int(lands))
+                with self.assertRaises(StoreError) as told:  # (without a lost reply it is a refusal)
+                    view.act(lambda view: [(COMPLETE << 56 | view.who << 48, None)])
+                self.assertNotIsInstance(told.exception, Unknown)
 
     def silent(self):
         raise Unknown("silent")
