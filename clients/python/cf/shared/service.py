@@ -139,6 +139,11 @@ class DurableService(concurrent.futures.Executor):
         self._unknown: Dict[str, Tuple[str, int]] = {}
         self.broken: Dict[str, BaseException] = {}  # requests that can't be gone on with here, and why
         self._lock, self._stops, self._process = threading.Lock(), threading.Event(), os.getpid()
+        self._is_idle = threading.Event()  # set once nothing runs any more
+        self._last_put = math.inf  # until when a value is put that a function came to, once the service stops
+        self._busy: Set[int] = set()  # the threads of the pool that have something to do
+        self._runs: Dict[Tuple[str, int], Tuple[str, float]] = {}  # which functions run here, and since when
+        self._next_told = 0.0  # when functions that run for long are told of
         self._watcher, self._next_beat, self._next_look = Watcher(self.store, lease, host), 0.0, 0.0
         self._mark: Any = None
         self._is_named = False
@@ -247,9 +252,11 @@ class DurableService(concurrent.futures.Executor):
                 request._cancel_all()
             except (Unknown, StoreError) as error:
                 LOGGER.warning("request %r: %s", request.name, error)
+        self._last_put = min(self._last_put, self._host.monotonic() + PATIENCE)
         self._stops.set()
         self._pool.shutdown(wait)
         if wait and threading.current_thread() is not self._pump:
+            self._is_idle.set()
             self._pump.join()
             if self._ends is not None:
                 self._ends.end_all()
@@ -354,9 +361,13 @@ class DurableService(concurrent.futures.Executor):
                 self._stops.wait(0.2)
             except BaseException:
                 if self._stops.is_set():
-                    return
+                    break
                 LOGGER.critical("cf.shared", exc_info=True)
                 self._stops.wait(0.2)
+        # what runs is finished: until then others have to see that this session is there
+        while self._busy and not self._is_idle.wait(min(0.2, self._lease / 5)):
+            with contextlib.suppress(Exception):
+                self._beat()
 
     def _round(self) -> None:
         now, looks = self._host.monotonic(), self._beat()
@@ -493,6 +504,7 @@ class DurableService(concurrent.futures.Executor):
 
     def _guarded(self, name: str, call: Callable[..., None], *given: Any) -> None:
         self._works.is_here = True
+        self._busy.add(threading.get_ident())
         try:
             call(*given)
         except self._host.leaves:
@@ -503,6 +515,8 @@ class DurableService(concurrent.futures.Executor):
             self._host.warns(f"request {name!r}: {error}", name)
         except BaseException as error:
             self._host.raised(f"request {name!r}", error)
+        finally:
+            self._busy.discard(threading.get_ident())
 
     # Work.
 
@@ -541,32 +555,44 @@ class DurableService(concurrent.futures.Executor):
             chosen[:] = self._choice(request, view, told if made is not None else None)
             words: List[Tuple[int, Optional[bytes]]] = [] if made is None else [made]
             return words + [(CLAIM << 56 | view.who << 48 | stage << 36, None) for stage in chosen[:1]]
+        refused = 0  # times in a row that the value was, while the store took something else
         while True:
             try:
                 done = request._act(decide)
                 break
-            except Unknown as error:
-                if finish is None or self._stops.is_set():
-                    raise
-                self._host.warns(str(error), request.name)
             except Broken:
                 raise
             except Exception as error:
-                if finish is None or told is not finish and self._stops.is_set():
+                if finish is None or self._host.monotonic() > self._last_put:
+                    if finish is not None:
+                        LOGGER.error("request %r, stage %d: what its function came to is lost: %s", request.name,
+                                     finish.stage, error)
                     raise
-                if told is finish:  # it is too large, say
+                if isinstance(error, Unknown):
+                    self._host.warns(str(error), request.name)
+                    continue
+                refused = refused + 1 if told is finish and self._takes_beats() else 0
+                told = finish
+                if refused > 1:  # it is too large, say
                     told = Finish(finish.stage, THROWS,
                                   self._error(RemoteError(type(error).__name__, str(error)[:LONGEST_WHY])))
-                else:  # nothing is taken now, so that it wasn't the value
-                    told = finish
+                elif not refused:  # nothing is taken now, so that it wasn't the value
                     self._host.warns(f"request {request.name!r}, stage {finish.stage}: nothing can be put: {error}",
                                      request.name)
-                    self._host.rest(self._stops, 0.5)
+                    self._host.sleep(0.5)
         if len(chosen) > 1:
             self._serve(request)
         if done and chosen and not done[-1].reply[ANSWER]:
             return self._claimed(request, chosen[0], done[-1])
         return None
+
+    def _takes_beats(self) -> bool:
+        """Whether the store can write now."""
+        try:
+            self.store.beat(self.session)
+            return True
+        except Exception:
+            return False
 
     def _found(self, request: DurableRequest) -> Optional[Claimed]:
         """A claim of this session's that was granted without its being told, or one that was put with the end of
