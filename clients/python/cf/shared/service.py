@@ -32,8 +32,22 @@ T = TypeVar("T")
 LOGGER = logging.getLogger("cf.shared")
 PATIENCE = 60  # seconds
 MOST_GLANCES = 500  # that a beat keeps
+LONG = 60  # seconds of a function, from which on it is told of
+MOST_TOLD = 5  # such functions in a line
 LONGEST_WHY = 500  # characters of what a store says that takes no value
 ONLY_FAULT = (int(Form.EXCEPTIONALLY), int(Form.EXCEPTIONALLY_COMPOSE))
+
+
+class Running(NamedTuple):
+    """A function that runs: of which stage of which request, and for how many seconds."""
+
+    request: str
+    stage: int
+    function: str
+    seconds: float
+
+    def __str__(self) -> str:
+        return f"{self.function} (request {self.request!r}, stage {self.stage}) for {self.seconds:.0f} s"
 
 
 class Claimed(NamedTuple):
@@ -48,11 +62,12 @@ class Claimed(NamedTuple):
 
 
 class Finish(NamedTuple):
-    """What a stage's function came to."""
+    """What a stage's function came to: `raised` is what it has raised itself, for the log."""
 
     stage: int
     kind: int
     payload: Optional[bytes]
+    raised: Optional[BaseException] = None
 
     def ended(self, view: RowView) -> Ended:
         """It at the end of what is seen: what it gives or throws is named by its own place."""
@@ -238,6 +253,12 @@ class DurableService(concurrent.futures.Executor):
                 self._serve(request)
         return [request for request in resumed if request is not None]
 
+    def running(self) -> List[Running]:
+        """The functions that run here now, those first that have run for longest."""
+        now = self._host.monotonic()
+        return sorted((Running(name, stage, function, now - since)
+                       for (name, stage), (function, since) in list(self._runs.items())), key=lambda it: -it.seconds)
+
     def shutdown(self, wait: bool = True, *, cancel_futures: bool = False) -> None:
         """Begins no more functions. Those that run are finished. What is open stays in the store, and others go on with
         it.
@@ -408,6 +429,7 @@ class DurableService(concurrent.futures.Executor):
             return False
         self._next_beat = now + self._lease / 5
         self.store.beat(self.session)
+        self._tell_long()
         if not self._is_named:
             self.store.name_session(self.session, f"{socket.gethostname()} {os.getpid()}")
             self._is_named = True
@@ -432,6 +454,19 @@ class DurableService(concurrent.futures.Executor):
                 self.store.keep_glances([glance for _, glance in made])
                 for request, glance in made:
                     request.glanced = glance.words
+
+    def _tell_long(self) -> None:
+        """Warns, once a minute, of functions that have run for longer: where all threads have such, nothing else is
+        begun."""
+        now = self._host.monotonic()
+        if now < self._next_told:
+            return
+        long = [it for it in self.running() if it.seconds > LONG]
+        if long:
+            self._next_told = now + LONG
+            said = ", ".join(map(str, long[:MOST_TOLD])) + (", .." if long[MOST_TOLD:] else "")
+            LOGGER.warning("%d of %d threads run a function for longer than %s s: %s", len(long), self._workers, LONG,
+                           said)
 
     def _needs(self, request: DurableRequest) -> bool:
         """Whether something is to do in a request without a new word."""
@@ -549,6 +584,9 @@ class DurableService(concurrent.futures.Executor):
         the store takes that."""
         chosen: List[int] = []
         told = finish
+        if finish is not None and finish.raised is not None:
+            self._host.fails(f"request {request.name!r}, stage {finish.stage}: "
+                             f"{request._view.calls(finish.stage).get('fn')} has raised", finish.raised)
 
         def decide(view: RowView) -> Any:
             made = None if told is None else told.word(view)
@@ -684,7 +722,14 @@ class DurableService(concurrent.futures.Executor):
 
     def _run(self, request: DurableRequest, claimed: Claimed) -> Optional[Claimed]:
         """Calls a function and puts its finish; what was claimed with it."""
-        if request._view.forms[claimed.stage][0] == Form.COMPOSE:
+        self._runs[request.name, claimed.stage] = (claimed.known.name, self._host.monotonic())
+        try:
+            return self._ran(request, claimed)
+        finally:
+            self._runs.pop((request.name, claimed.stage), None)
+
+    def _ran(self, request: DurableRequest, claimed: Claimed) -> Optional[Claimed]:
+        if claimed.error is None and request._view.forms[claimed.stage][0] in COMPOSE_FORMS:
             return self._next(request, self._composed(request, claimed))
         if claimed.error is None and claimed.known.is_transactional:
             return self._in_transaction(request, claimed)
@@ -703,7 +748,7 @@ class DurableService(concurrent.futures.Executor):
         except self._host.leaves:
             raise
         except BaseException as error:
-            return Finish(claimed.stage, THROWS, self._error(error))
+            return Finish(claimed.stage, THROWS, self._error(error), error)
 
     def _called(self, claimed: Claimed, *first: Any) -> Finish:
         try:
@@ -714,7 +759,7 @@ class DurableService(concurrent.futures.Executor):
         except self._host.leaves:
             raise
         except BaseException as error:
-            return Finish(claimed.stage, THROWS, self._error(error))
+            return Finish(claimed.stage, THROWS, self._error(error), None if error is claimed.error else error)
 
     def _call(self, claimed: Claimed, *first: Any) -> Any:
         """Calls a function, in a context of its own where contexts go along."""
@@ -760,7 +805,7 @@ class DurableService(concurrent.futures.Executor):
             except Exception as error:  # what the function did to the connection lets no word be put, say
                 if not is_open and self._stops.is_set():
                     raise
-                finish = Finish(claimed.stage, THROWS, self._error(error)) if is_open else LOST
+                finish = Finish(claimed.stage, THROWS, self._error(error), error) if is_open else LOST
                 if not is_open:  # it was the store, and no function was called
                     self._host.warns(f"request {request.name!r}, stage {claimed.stage}: {error}", request.name)
                     self._host.rest(self._stops, 0.5)
