@@ -480,10 +480,9 @@ class Postgres(TableStore):
             db = self._connected()
             db.autocommit = False
         try:
-            with db.cursor() as cursor:
-                with self._telling():
-                    cursor.execute("savepoint cf_function")
-                yield _Transaction(self, db, cursor)
+            with self._telling(), db.cursor() as cursor:
+                cursor.execute("savepoint cf_function")
+            yield _Transaction(self, db)
         finally:
             db.close()  # what wasn't committed is undone by that
 
@@ -513,9 +512,54 @@ def _tell(error: Any) -> NoReturn:
     raise (Unknown if _is_lost(error) else StoreError)(str(error).strip()) from None
 
 
+MARKS = re.compile(r"""('(?:[^']|'')*'|"[^"]*")|\?""")  # texts and names, and what stands for a value
+
+
+def _marked(statement: str, many: int) -> str:
+    """A statement with so many `?` for values, outside of its texts and names, as psycopg2 has it. Any other stays as it
+    is."""
+    marks = [found[0] for found in MARKS.finditer(statement)].count("?")
+    if marks != many or not many or "%s" in statement:
+        return statement
+    return MARKS.sub(lambda found: found[1] or "%s", statement.replace("%", "%%"))
+
+
+class _Connection:
+    """What a transactional function is called with: it has `execute`, `executemany` and `cursor`, as
+    `sqlite3.Connection` has, where `?` stands for a value; psycopg2's marks do, too. For all else it is psycopg2's cursor
+    of the last statement."""
+
+    def __init__(self, db: Any) -> None:
+        self._db, self._last, self.is_closed = db, db.cursor(), False
+
+    def execute(self, statement: str, values: Any = None) -> Any:
+        """Does a statement: a cursor that has its rows."""
+        self._last = self._db.cursor()
+        self._last.execute(statement if isinstance(values, Mapping) else _marked(statement, len(values or ())), values)
+        return self._last
+
+    def executemany(self, statement: str, rows: Sequence[Any]) -> Any:
+        """Does a statement for each of these."""
+        self._last = self._db.cursor()
+        for values in rows:
+            self._last.execute(_marked(statement, len(values)), values)
+        return self._last
+
+    def cursor(self, *given: Any, **named: Any) -> Any:
+        """A cursor of psycopg2's."""
+        return self._db.cursor(*given, **named)
+
+    def close(self) -> None:
+        """Ends the transaction without effect, and fails the stage."""
+        self.is_closed = True
+
+    def __getattr__(self, name: str) -> Any:
+        return getattr(self._last, name)
+
+
 class _Transaction(Transaction):
-    def __init__(self, store: Postgres, db: Any, cursor: Any) -> None:
-        self.connection, self._store, self._db = cursor, store, db
+    def __init__(self, store: Postgres, db: Any) -> None:
+        self.connection, self._store, self._db = _Connection(db), store, db
 
     def is_away(self) -> bool:
         try:
@@ -528,18 +572,17 @@ class _Transaction(Transaction):
 
     def append(self, put: Put) -> bool:
         number = self._store._id_of(put)
-        if self.connection.closed and not self._db.closed:
-            raise StoreError("the function has closed its cursor")
-        with self._store._telling():
+        if self.connection.is_closed:
+            raise StoreError("the function has closed its connection")
+        with self._store._telling(), self._db.cursor() as cursor:
             try:
-                self.connection.execute("release savepoint cf_function")
+                cursor.execute("release savepoint cf_function")
             except (errors.InvalidSavepointSpecification, errors.NoActiveSqlTransaction):
                 raise StoreError("the function has ended its transaction") from None
             for k, entry in enumerate(put.entries):
-                self.connection.execute(f"insert into cf_word select id, %s, %s, %s, %s from {THERE.format('%s')} "
-                                        "on conflict do nothing",
-                                        (put.at + k, *entry, put.payloads.get(put.at + 1 + k), number))
-                if self.connection.rowcount != 1:
+                cursor.execute(f"insert into cf_word select id, %s, %s, %s, %s from {THERE.format('%s')} "
+                               "on conflict do nothing", (put.at + k, *entry, put.payloads.get(put.at + 1 + k), number))
+                if cursor.rowcount != 1:
                     return False
         return True
 
