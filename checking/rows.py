@@ -61,6 +61,8 @@ def rows_of_python(tools: Tools, made: Path) -> List[Row]:
         Row("Python's example", ["library", "python3"], [[python, "clients/python/example.py"]], ("clients/python", "example.py")),
         Row("Python's first program", ["library", "python3"], [[python, "clients/python/first.py"]], ("clients/python", "first.py")),
         Row("Python's spans in a file", ["library", "python3"], [[python, "clients/python/traced.py"]], ("clients/python", "traced.py")),
+        Row("Python's order whose bank is away", ["library", "python3"], [[python, "clients/python/retry.py"]], ("clients/python", "retry.py")),
+        Row("Python's orders in an event loop", ["library", "python3"], [[python, "clients/python/handler.py"]], ("clients/python", "handler.py")),
         Row("Python's order of three processes", ["library", "python3"], [[python, "clients/python/order.py"]], ("clients/python", "order.py")),
         Row("Python's order that charges twice", ["library", "python3"], [[python, "clients/python/twice.py"]], ("docs/TESTING.md", "twice.py")),
         Row("Python's orders that charge once", ["library", "python3"], [[python, "clients/python/once.py"]], ("docs/TESTING.md", "once.py")),
