@@ -4,7 +4,7 @@ from pathlib import Path
 from typing import List, NamedTuple, Optional, Sequence, Tuple
 
 from checking.crates import TOP
-from checking.tools import DEBIANS, JUNIT, Tools
+from checking.tools import DEBIANS, JUNIT, POSTGRES, Tools
 
 HEADER = "crates/cf_c/include"
 WARNED = ["-Wall", "-Wextra", "-pedantic", "-Werror"]
@@ -49,6 +49,9 @@ def freed(tools: Tools, made: Path, program: str, word: str, given: str) -> Row:
     return Row(f"{program} {word} under valgrind", [program, "valgrind", "binutils"], [["objcopy", "--strip-debug", tools[program], bare], under])
 
 
+OVER_STORES = ["test_stores", "test_transactions", "test_durable_stages", "test_closing"]  # Python's tests of whichever store there is
+
+
 def rows_of_python(tools: Tools, made: Path) -> List[Row]:
     """The wheel is built and installed once, with the C module. What runs over the module runs there, and the same by ctypes in the tree."""
     python, builds, tested = tools["python3"], "setuptools and wheel for Python", "Python's own tests"
@@ -61,6 +64,7 @@ def rows_of_python(tools: Tools, made: Path) -> List[Row]:
     return [
         example("Python's example", "example.py"), example("Python's first program", "first.py"),
         example("Python's spans in a file", "traced.py"), example("Python's order of three processes", "order.py"),
+        example("Python's order whose bank is away", "retry.py"), example("Python's orders in an event loop", "handler.py"),
         example("Python's order that charges twice", "twice.py", "docs/TESTING.md"),
         example("Python's orders that charge once", "once.py", "docs/TESTING.md"),
         example("Python's order over a store that charges twice", "killed.py", "docs/TESTING.md"),
@@ -80,6 +84,8 @@ def rows_of_python(tools: Tools, made: Path) -> List[Row]:
         Row("random requests of Python's service over the C module", ["library", builds, "cf", "cf_look"],
             [[*by_module, "conformance/clients/python-service", "0", "1000", *programs]]),
         Row("Python's requests in SQLite", ["library", "python3"], [[python, "-m", "unittest", "discover", "-s", "clients/python/tests/shared"]]),
+        Row("Python's requests in PostgreSQL", ["library", "python3", POSTGRES],
+            [["env", "PYTHONPATH=clients/python/tests/shared", tools[POSTGRES], "conformance/stores/over", "python3", "-m", "unittest", *OVER_STORES]]),
         Row("requests in SQLite whose processes are killed", ["library", "python3", "cf_look"],
             [[python, "conformance/stores/engines", "short", str(made / "engines"), tools["cf_look"]]]),
         Row("some of CPython's tests over Python's service", ["library", tested],

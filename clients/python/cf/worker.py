@@ -1,19 +1,27 @@
-"""A worker of a store: python3 -m cf.worker --store ADDRESS MODULE.. [--threads N] [--lease SECONDS] [--spans FILE]
+"""A worker of a store: python3 -m cf.worker --store ADDRESS MODULE.. [--threads N] [--lease SECONDS] [--grace SECONDS]
+[--codec MODULE:NAME] [--spans FILE]
 
 It runs the functions of these modules, each of which has a member `functions`, a cf.shared.Functions, in all requests
 that are open in the store, until it is told to end by SIGTERM or SIGINT; a store that doesn't answer is waited for. A
-module may have a member `contexts`, a list of cf.shared.Carrier: what goes along with functions. With --spans the spans
-of each request that this worker closes go to OpenTelemetry, where `opentelemetry-api` is installed, and else to the
-file. Status 2 where the address or a module is wrong.
+module may have a member `contexts`, a list of cf.shared.Carrier: what goes along with functions. Values and exceptions
+are read and written by --codec, a member of a module, where the processes that share the store have one of their own.
+With --spans the spans of each request that this worker closes go to OpenTelemetry, where `opentelemetry-api` is
+installed, and else to the file.
+
+Told to end it begins nothing more, finishes what runs, and logs what it waits for: as long as it takes, or for --grace
+seconds, or until it is told once more. Status 1 where functions were still running then, and 2 where the address, a
+module or the codec is wrong.
 """
 import argparse
+import importlib
 import logging
+import os
 import sys
 import threading
 from typing import List, Optional
 
 from .service import spans_to
-from .shared import Carrier, Functions, Store, StoreError, Unknown, Worker, connect
+from .shared import Carrier, Functions, Json, Store, StoreError, Unknown, Worker, connect
 from .shared.worker import told_to_end
 
 
@@ -28,6 +36,15 @@ def reached(address: str, ends: threading.Event, may_create: bool = True) -> Opt
     return None
 
 
+def codec_of(name: str) -> Json:
+    """The codec that MODULE:NAME names."""
+    module, _, member = name.partition(":")
+    found = getattr(importlib.import_module(module), member, None)
+    if not isinstance(found, Json):
+        raise StoreError(f"{name} is no codec, a cf.shared.Json")
+    return found
+
+
 def main(words: Optional[List[str]] = None) -> int:
     """Runs a worker."""
     parser = argparse.ArgumentParser(prog="python3 -m cf.worker", description="Works on the requests of a store.")
@@ -35,6 +52,9 @@ def main(words: Optional[List[str]] = None) -> int:
     parser.add_argument("--threads", type=int, default=4)
     parser.add_argument("--lease", type=float, default=10,
                         help="after how many seconds without a sign of life a process is gone")
+    parser.add_argument("--grace", type=float, metavar="SECONDS",
+                        help="for how long it waits for functions that run once it is told to end")
+    parser.add_argument("--codec", metavar="MODULE:NAME", help="makes bytes of values and exceptions")
     parser.add_argument("--spans", metavar="FILE", help="where spans go without OpenTelemetry")
     parser.add_argument("modules", nargs="+")
     at = parser.parse_args(words)
@@ -46,15 +66,18 @@ def main(words: Optional[List[str]] = None) -> int:
         for name in at.modules:
             functions.add(Functions.of_module(name))
             contexts += getattr(sys.modules[name], "contexts", [])
+        codec = codec_of(at.codec) if at.codec else None
         store = reached(at.store, ends)
         if store is None:
             return 0
-        worker = Worker(store, functions, at.threads, lease=at.lease, contexts=contexts,
+        worker = Worker(store, functions, at.threads, lease=at.lease, contexts=contexts, codec=codec,
                         on_end=spans_to(at.spans) if at.spans else None)
     except (ImportError, ValueError, StoreError) as error:
         print(f"cf.worker: {error}", file=sys.stderr)
         return 2
-    worker.run(ends)
+    if not worker.run(ends, at.grace):
+        logging.shutdown()
+        os._exit(1)  # (the threads of functions that run would be waited for)
     return 0
 
 

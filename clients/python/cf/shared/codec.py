@@ -21,10 +21,19 @@ class RemoteError(RuntimeError):
         return f"{self.kind}: {self.text}"
 
 
+def json_of(value: Any, **style: Any) -> str:
+    """The JSON of a value, as `json.dumps`. What JSON hasn't raises `TypeError`, also NaN and infinities, which other
+    languages can't read."""
+    try:
+        return json.dumps(value, allow_nan=False, **style)
+    except ValueError as error:
+        raise TypeError(f"JSON has nothing for it: {error}") from None
+
+
 class Json:
     """Makes bytes of values and exceptions, and reads them back.
 
-    Values are what JSON has. A tuple comes back as a list; what JSON hasn't raises `TypeError`. An exception comes
+    Values are what JSON has. A tuple comes back as a list; what JSON hasn't, such as NaN, raises `TypeError`. An exception comes
     back as its class if that is one of Python's own or was added, with its arguments if JSON has these. Any other
     exception comes back as a `RemoteError`."""
 
@@ -39,11 +48,11 @@ class Json:
 
     def write(self, value: Any) -> bytes:
         """The bytes of a value."""
-        text = json.dumps(value, separators=(",", ":"), ensure_ascii=False)
+        text = json_of(value, separators=(",", ":"), ensure_ascii=False)
         try:
             return text.encode()
         except UnicodeEncodeError:  # half of a pair, as in the name of a file that isn't UTF-8
-            return json.dumps(value, separators=(",", ":")).encode()
+            return json_of(value, separators=(",", ":")).encode()
 
     def read(self, given: bytes) -> Any:
         """The value of some bytes."""

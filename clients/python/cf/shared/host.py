@@ -63,6 +63,10 @@ class Host:
         """Says that something can't be done now in a request."""
         LOGGER.warning("%s", text)
 
+    def fails(self, text: str, error: BaseException) -> None:
+        """Says that a function has raised. Its stage fails with that."""
+        LOGGER.warning("%s", text, exc_info=error)
+
     def breaks(self, error: BaseException) -> None:
         """Says that a request can't be gone on with."""
         LOGGER.error("%s", error)

@@ -6,6 +6,7 @@ from ..plan import Plan
 from ..service.flow import Flow
 from ..service.words import COMPOSE_FORMS, FORMS, FORMS_WITHOUT_FUNCTION, Told
 from ..values import Form, Refused
+from .codec import json_of
 from .contexts import Carrier, captured
 from .functions import Functions, said_of
 from .replica import Replica
@@ -41,6 +42,11 @@ class SharedPlan:
         except (ValueError, KeyError, TypeError, Refused) as error:
             raise Broken(name, 0, f"its plan can't be read: {error!r}") from None
 
+    def is_of(self, flow: Flow) -> bool:
+        """Whether it is a flow's: it has the flow's name and steps, be their functions of another version."""
+        its = [(int(form), of, name) for form, of, _, name in self.rows]
+        return self.flow == flow.name and its == [(int(form), of, name) for form, of, _, name in flow._rows]
+
     def replica(self, room: int, session: int, first: int) -> Replica:
         """What a session has seen of a row of it before the first word, with room for so many stages more. Its tokens
         count from `first` on."""
@@ -50,12 +56,12 @@ class SharedPlan:
 def said_in(read: Any, number: int) -> Dict[str, Any]:
     """What was read of a stage of this number, if it is something of the kind: its name, its function's name,
     version and arguments, and the lower stages that it speaks of."""
-    kinds = {"name": str, "fn": str, "version": int, "args": list, "kwargs": dict, "again": int, "to": int,
+    kinds = {"name": str, "fn": str, "version": int, "args": list, "kwargs": dict, "again": int, "to": int, "by": int,
              "context": dict}
     if not isinstance(read, dict) or "name" not in read or any(name in read and not isinstance(read[name], kind)
                                                                for name, kind in kinds.items()):
         raise ValueError(f"it says nothing of a stage: {str(read)[:80]}")
-    if any(not 0 <= read.get(name, 0) < max(number, 1) for name in ("again", "to")):
+    if any(not 0 <= read.get(name, 0) < max(number, 1) for name in ("again", "to", "by")):
         raise ValueError(f"it names a stage that isn't lower: {str(read)[:80]}")
     return read
 
@@ -73,8 +79,8 @@ def text_of(flow: Optional[Flow], functions: Functions, carriers: Sequence[Carri
         if form in COMPOSE_FORMS:
             raise TypeError(f"{name}: a flow in a store has no compose; a stage of a request has")
         stages.append({"form": FORMS[form], "of": list(of), "name": name, **said_of(functions, call, (), {})})
-    return json.dumps({"cf": FORMAT, "flow": "" if flow is None else flow.name, "stages": stages,
-                       **captured(carriers)}, separators=(",", ":"))
+    return json_of({"cf": FORMAT, "flow": "" if flow is None else flow.name, "stages": stages, **captured(carriers)},
+                   separators=(",", ":"))
 
 
 def are_alike(text: str, other: str) -> bool:
@@ -90,9 +96,6 @@ def _bare(text: str) -> Any:
     return {name: it for name, it in read.items() if name != "context"} if isinstance(read, dict) else read
 
 
-def tried_again(said: Dict[str, Any]) -> Optional[int]:
-    """The stage whose function a further try calls, or None."""
-    again = said.get("again")
-    return int(again) if again is not None else None
-
-
+def alike_in(said: Dict[str, Any]) -> Dict[str, Any]:
+    """What is said of a stage that is the same where its function is to do the same."""
+    return {name: it for name, it in said.items() if name not in ("context", "to")}

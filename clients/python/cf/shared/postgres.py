@@ -39,17 +39,27 @@ SET_UP = 6_318_042  # the number of the lock under which tables are made
 # it, so that the next one sees all that stands by then: who closes it sees the words of all that have opened it again,
 # and who opens it again sees that it was closed.
 CLOSING = 6_318_043
-PREPARED = """
+# Who puts has the request's row until the put stands, so that nobody drops it meanwhile, and finds none where another
+# has dropped it. Whoever else puts, or closes the request, isn't kept waiting by that.
+THERE = "(select id from cf_request where id = {} for key share) as there"
+PREPARED = f"""
     prepare cf_put(bigint, int, bigint, bigint, bytea) as
-        insert into cf_word select id, $2, $3, $4, $5 from cf_request where id = $1 on conflict do nothing;
+        insert into cf_word select id, $2, $3, $4, $5 from {THERE.format("$1")} on conflict do nothing;
+    prepare cf_one(bigint, int, bigint, bigint, bytea) as
+        insert into cf_word select id, $2, $3, $4, $5 from {THERE.format("$1")};
     prepare cf_two(bigint, int, bigint, bigint, bytea, bigint, bigint, bytea) as insert into cf_word
-        select id, v.* from cf_request, (values ($2, $3, $4, $5), ($2 + 1, $6, $7, $8)) as v where id = $1;
+        select id, v.* from {THERE.format("$1")}, (values ($2, $3, $4, $5), ($2 + 1, $6, $7, $8)) as v;
     prepare cf_read(bigint, int) as select at, word, token from cf_request
         left join cf_word on request = id and at >= $2 where id = $1 order by at;
+    prepare cf_closing(int) as select pg_advisory_xact_lock({CLOSING}, $1);
+    prepare cf_open(bigint) as with opened as (update cf_request set closed = null, made_by = pg_current_xact_id()
+        where id = $1 and closed is not null) select 1 from cf_request where id = $1;
 """
+PUT_ONE, PUT_TWO = "execute cf_one(%s, %s, %s, %s, %s)", "execute cf_two(%s, %s, %s, %s, %s, %s, %s, %s)"
 HAS = "(select coalesce(max(at) + 1, 0) from cf_word where request = id) = %s"  # so many words
-PUT_ALL = ("insert into cf_word select id, at, word, token, payload "
-           "from (values %s) as v(request, at, word, token, payload) join cf_request on id = request")
+PUT_ALL = ("insert into cf_word select id, at, word, token, payload from (select v.*, id "
+           "from (values %s) as v(request, at, word, token, payload) join cf_request on id = request "
+           "for key share of cf_request) as there")
 SMALL = 512  # bytes of a payload that comes along with its word
 ROWS = ("select r.id, null::int, null::bigint, null::bigint, null::bytea, name, opened, "
         "case when v.at = 0 then plan end from unnest(%s::bigint[], %s::int[]) as v(id, at) "
@@ -184,14 +194,15 @@ class Postgres(TableStore):
             return self.ends(), at
         rows = self._ask(f"select null, ({MARK}) union all "
                          "select name, 0 from cf_request where closed is null and made_by >= %s::text::xid8 union all "
-                         "select name, max(at) + 1 from cf_word w join cf_request on id = request "
-                         "where closed is null and w.made_by >= %s::text::xid8 group by name", str(mark), str(mark))
+                         "select name, case when closed is null then max(at) + 1 else -1 end from cf_word w "
+                         "join cf_request on id = request where w.made_by >= %s::text::xid8 group by name, closed",
+                         str(mark), str(mark))
         told: Dict[str, int] = {}
         for name, many in rows:
             if name is None:
                 mark = int(many)
             else:
-                told[str(name)] = max(int(many), told.get(str(name), 0))
+                told[str(name)] = int(many) or told.get(str(name), 0)
         return told, mark
 
     def _mark(self) -> int:
@@ -219,7 +230,7 @@ class Postgres(TableStore):
 
     def end(self, name: str, at: int, number: int = 0) -> bool:
         number = number or self._id(name)
-        told = self._ask(f"select pg_advisory_xact_lock({CLOSING}, %s); "
+        told = self._ask("execute cf_closing(%s); "
                          f"with closed as (update cf_request set closed = {NOW} "
                          f"where id = %s and closed is null and {HAS} returning id), "
                          "timers as (delete from cf_timer where request in (select id from closed)), "
@@ -232,21 +243,20 @@ class Postgres(TableStore):
 
     def reopen(self, name: str, number: int = 0) -> None:
         number = number or self._id(name)
-        if not self._ask(f"select pg_advisory_xact_lock({CLOSING}, %s); "
-                         "with opened as (update cf_request set closed = null, made_by = pg_current_xact_id() "
-                         "where id = %s and closed is not null returning id) select 1 from cf_request where id = %s",
-                         number % 2**31, number, number):
+        if not self._ask("execute cf_closing(%s); execute cf_open(%s)", number % 2**31, number):
             raise self._gone(name)
 
     def drop(self, name: str, at: Optional[int] = None) -> bool:
-        is_so = "" if at is None else f" and closed is not null and {HAS}"
-        dropped = bool(self._ask(f"with gone as (delete from cf_request where id = %s{is_so} returning id), "
+        is_so, number = "" if at is None else f" and closed is not null and {HAS}", self._id(name)
+        # (The row is locked by a statement of its own, so that the next one sees all that was put until then.)
+        dropped = bool(self._ask("select 1 from cf_request where id = %s for update; "
+                                 f"with gone as (delete from cf_request where id = %s{is_so} returning id), "
                                  "words as (delete from cf_word where request in (select id from gone)), "
                                  "timers as (delete from cf_timer where request in (select id from gone)), "
                                  "glances as (delete from cf_glance where request in (select id from gone)), "
                                  "names as (delete from cf_name where request in (select id from gone)) "
                                  "select id from gone",
-                                 self._id(name), *(() if at is None else (at,))))
+                                 number, number, *(() if at is None else (at,))))
         if dropped:
             self._ids.pop(name, None)
         return dropped
@@ -254,17 +264,35 @@ class Postgres(TableStore):
     # Words.
 
     def append_groups(self, puts: Sequence[Put]) -> List[Optional[List[Entry]]]:
-        puts, order = sorted(puts, key=lambda put: put.request), list(puts)
-        ids = {put.request: self._id_of(put) for put in puts}
-        rows = [(ids[put.request], put.at + k, *entry, put.payloads.get(put.at + 1 + k)) for put in puts
-                for k, entry in enumerate(put.entries)]
+        order = list(puts)
+        told = {put.request: self._append_opening(put) for put in puts if put.opens}
+        puts = sorted((put for put in puts if not put.opens), key=lambda put: put.request)
+        rows = [row for put in puts for row in self._rows_of(put)]
         if len(rows) == 1:
-            told = [self._append_one(puts[0], rows[0])]
-        else:
-            told = self._append_all(puts, rows)
+            told[puts[0].request] = self._append_one(puts[0], rows[0])
+        elif rows:
+            told.update(zip((put.request for put in puts), self._append_all(puts, rows)))
         self._notify()
-        by_name = {put.request: it for put, it in zip(puts, told)}
-        return [by_name[put.request] for put in order]
+        return [told[put.request] for put in order]
+
+    def _rows_of(self, put: Put) -> List[Tuple[Any, ...]]:
+        """The rows of a put's words."""
+        number = self._id_of(put)
+        return [(number, put.at + k, *entry, put.payloads.get(put.at + 1 + k)) for k, entry in enumerate(put.entries)]
+
+    def _append_opening(self, put: Put) -> Optional[List[Entry]]:
+        """All or none, and with that the request is open: where a place is taken nothing of it stands."""
+        rows = self._rows_of(put)
+        number = rows[0][0]
+        words = (PUT_ONE if len(rows) == 1 else PUT_TWO if len(rows) == 2 else
+                 PUT_ALL % ",".join(["(%s,%s,%s,%s,%s::bytea)"] * len(rows)))
+        values = (*rows[0], *rows[1][2:]) if len(rows) == 2 else [it for row in rows for it in row]
+        try:
+            if self._ask(f"execute cf_closing(%s); {words}; execute cf_open(%s)", number % 2**31, *values, number):
+                return None
+        except errors.UniqueViolation:
+            pass
+        return self._stands(put)
 
     def _append_one(self, put: Put, row: Tuple[Any, ...]) -> Optional[List[Entry]]:
         return None if self._do("execute cf_put(%s, %s, %s, %s, %s)", row)[0] == 1 else self._stands(put)
@@ -279,7 +307,7 @@ class Postgres(TableStore):
         """All or none: where one place is taken nothing of the statement stands, and each is put by itself."""
         try:
             if len(rows) == 2 and len(puts) == 1:
-                many, _ = self._do("execute cf_two(%s, %s, %s, %s, %s, %s, %s, %s)", (*rows[0], *rows[1][2:]))
+                many, _ = self._do(PUT_TWO, (*rows[0], *rows[1][2:]))
             else:
                 many, _ = self._do(PUT_ALL % ",".join(["(%s,%s,%s,%s,%s::bytea)"] * len(rows)),
                                    [it for row in rows for it in row])
@@ -289,8 +317,7 @@ class Postgres(TableStore):
             pass
         if len(puts) == 1:
             return [self._stands(puts[0])]
-        return [self._append_all([put], [(self._id(put.request), put.at + k, *entry, put.payloads.get(put.at + 1 + k))
-                                         for k, entry in enumerate(put.entries)])[0] for put in puts]
+        return [self._append_all([put], self._rows_of(put))[0] for put in puts]
 
     def read(self, name: str, at: int = 0, number: int = 0) -> List[Entry]:
         rows = self._ask("execute cf_read(%s, %s)", number or self._id(name), at)
@@ -408,7 +435,7 @@ class Postgres(TableStore):
 
     def name_session(self, session: int, said: str, request: str = "", number: int = 0) -> None:
         if not self._do(f"insert into cf_name select {'id' if request else '0'}, %s, %s "
-                        f"{'from cf_request where id = %s' if request else ''} "
+                        f"{'from ' + THERE.format('%s') if request else ''} "
                         "on conflict (request, session) do update set name = excluded.name",
                         (session, said, *([number or self._id(request)] if request else [])))[0]:
             raise self._gone(request)
@@ -417,7 +444,7 @@ class Postgres(TableStore):
         return float(self._ask(f"select {NOW}")[0][0])
 
     def set_timer(self, timer: Timer) -> None:
-        if not self._do("insert into cf_timer select id, %s, %s, %s from cf_request where id = %s "
+        if not self._do(f"insert into cf_timer select id, %s, %s, %s from {THERE.format('%s')} "
                         "on conflict (request, stage) do update set due = excluded.due, payload = excluded.payload",
                         (*timer[1:4], timer.number or self._id(timer.request)))[0]:
             raise self._gone(timer.request)
@@ -436,9 +463,9 @@ class Postgres(TableStore):
     def keep_glances(self, glances: Sequence[Glance]) -> None:
         rows = sorted((it.number, it.words, it.said) for it in glances)  # (two in one order don't wait in a ring)
         if rows:
-            self._ask("insert into cf_glance select id, v.words, v.said from "
+            self._ask("insert into cf_glance select id, words, said from (select v.*, id from "
                       f"(values {','.join(['(%s::bigint, %s, %s)'] * len(rows))}) as v(request, words, said) "
-                      "join cf_request on id = v.request where closed is null "
+                      "join cf_request on id = v.request where closed is null for key share of cf_request) as there "
                       "on conflict (request) do update set words = excluded.words, said = excluded.said",
                       *(it for row in rows for it in row))
 
@@ -453,10 +480,9 @@ class Postgres(TableStore):
             db = self._connected()
             db.autocommit = False
         try:
-            with db.cursor() as cursor:
-                with self._telling():
-                    cursor.execute("savepoint cf_function")
-                yield _Transaction(self, db, cursor)
+            with self._telling(), db.cursor() as cursor:
+                cursor.execute("savepoint cf_function")
+            yield _Transaction(self, db)
         finally:
             db.close()  # what wasn't committed is undone by that
 
@@ -486,9 +512,54 @@ def _tell(error: Any) -> NoReturn:
     raise (Unknown if _is_lost(error) else StoreError)(str(error).strip()) from None
 
 
+MARKS = re.compile(r"""('(?:[^']|'')*'|"[^"]*")|\?""")  # texts and names, and what stands for a value
+
+
+def _marked(statement: str, many: int) -> str:
+    """A statement with so many `?` for values, outside of its texts and names, as psycopg2 has it. Any other stays as it
+    is."""
+    marks = [found[0] for found in MARKS.finditer(statement)].count("?")
+    if marks != many or not many or "%s" in statement:
+        return statement
+    return MARKS.sub(lambda found: found[1] or "%s", statement.replace("%", "%%"))
+
+
+class _Connection:
+    """What a transactional function is called with: it has `execute`, `executemany` and `cursor`, as
+    `sqlite3.Connection` has, where `?` stands for a value; psycopg2's marks do, too. For all else it is psycopg2's cursor
+    of the last statement."""
+
+    def __init__(self, db: Any) -> None:
+        self._db, self._last, self.is_closed = db, db.cursor(), False
+
+    def execute(self, statement: str, values: Any = None) -> Any:
+        """Does a statement: a cursor that has its rows."""
+        self._last = self._db.cursor()
+        self._last.execute(statement if isinstance(values, Mapping) else _marked(statement, len(values or ())), values)
+        return self._last
+
+    def executemany(self, statement: str, rows: Sequence[Any]) -> Any:
+        """Does a statement for each of these."""
+        self._last = self._db.cursor()
+        for values in rows:
+            self._last.execute(_marked(statement, len(values)), values)
+        return self._last
+
+    def cursor(self, *given: Any, **named: Any) -> Any:
+        """A cursor of psycopg2's."""
+        return self._db.cursor(*given, **named)
+
+    def close(self) -> None:
+        """Ends the transaction without effect, and fails the stage."""
+        self.is_closed = True
+
+    def __getattr__(self, name: str) -> Any:
+        return getattr(self._last, name)
+
+
 class _Transaction(Transaction):
-    def __init__(self, store: Postgres, db: Any, cursor: Any) -> None:
-        self.connection, self._store, self._db = cursor, store, db
+    def __init__(self, store: Postgres, db: Any) -> None:
+        self.connection, self._store, self._db = _Connection(db), store, db
 
     def is_away(self) -> bool:
         try:
@@ -501,18 +572,17 @@ class _Transaction(Transaction):
 
     def append(self, put: Put) -> bool:
         number = self._store._id_of(put)
-        if self.connection.closed and not self._db.closed:
-            raise StoreError("the function has closed its cursor")
-        with self._store._telling():
+        if self.connection.is_closed:
+            raise StoreError("the function has closed its connection")
+        with self._store._telling(), self._db.cursor() as cursor:
             try:
-                self.connection.execute("release savepoint cf_function")
+                cursor.execute("release savepoint cf_function")
             except (errors.InvalidSavepointSpecification, errors.NoActiveSqlTransaction):
                 raise StoreError("the function has ended its transaction") from None
             for k, entry in enumerate(put.entries):
-                self.connection.execute("insert into cf_word select id, %s, %s, %s, %s from cf_request where id = %s "
-                                        "on conflict do nothing",
-                                        (put.at + k, *entry, put.payloads.get(put.at + 1 + k), number))
-                if self.connection.rowcount != 1:
+                cursor.execute(f"insert into cf_word select id, %s, %s, %s, %s from {THERE.format('%s')} "
+                               "on conflict do nothing", (put.at + k, *entry, put.payloads.get(put.at + 1 + k), number))
+                if cursor.rowcount != 1:
                     return False
         return True
 

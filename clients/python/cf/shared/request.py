@@ -72,12 +72,15 @@ from typing import (TYPE_CHECKING, Any, Callable, ContextManager, Dict, Generato
 
 from ..service.flow import Again, Step, _alone
 from ..service.history import Describe, History, escaped
+from ..service.stage import ASYNCIOS
 from ..service.words import (ANSWER, ATTACH, CANCEL, CANCELLED, COMPLETE, FAIL, FAIL_AS, FAILURES, GIVES, MOST_STAGES,
                              NUMBER, THROWN, TIMED_OUT, VALUE, RequestFull, Told)
 from ..values import BadAnswer, Form
 from .view import Done, RowView
+from .codec import Abandoned, json_of
 from .contexts import captured
 from .functions import said_of
+from .plans import alike_in
 from .glances import Seen, glance_of
 from .glances import read as read_glance
 from .rows import Glance, Put, StoreError, Timer, Transaction, Unknown
@@ -168,21 +171,22 @@ class DurableStage(_Future[T]):
 
     def again(self, times: int = 1) -> "DurableStage[T]":
         """Plans further tries, for the case that the process that runs this stage's function dies. A function that
-        isn't transactional may have done its work before, and does it once more with each try.
+        isn't transactional may have done its work before, and does it once more with each try. One that attaches
+        stages, for `compose`, attaches what is missing: a stage that an earlier try has attached isn't attached once
+        more, if the function attaches the same on its own thread, by kind, name, function, arguments and sources.
 
         Args:
-            times: How many further tries, each of which is a stage of its own.
+            times: How many further tries, each of which is a stage of its own, or two behind `compose`.
 
         Returns:
-            The last try. It passes on the value of an earlier one.
-
-        Raises:
-            TypeError: The stage composes. The stages that its function attaches may have further tries."""
-        if "to" in self.request._view.said(self.number):
-            raise TypeError("a stage that composes has no further tries; those that its function attaches may")
+            The last try. It passes on the value of an earlier one."""
         stage, name = self, f"{self.name} again"
+        composes = "to" in self.request._view.said(self.number)
         for _ in range(times):
-            stage = self.request._attach(Form.EXCEPTIONALLY, (stage,), Again(self.number), name=name)
+            if composes:
+                stage = self.request._compose(stage, Again(self.number), name)
+            else:
+                stage = self.request._attach(Form.EXCEPTIONALLY, (stage,), Again(self.number), name=name)
         return stage
 
     def complete(self, value: T) -> bool:
@@ -232,8 +236,31 @@ class DurableStage(_Future[T]):
             raise InvalidStateError(f"{self._state}: {self!r}")
 
     def __await__(self) -> Generator[Any, None, T]:
-        """Awaits it on the running loop."""
-        return asyncio.wrap_future(self).__await__()
+        """Awaits it on the running loop. Who gives that up, as by `asyncio.wait_for`, leaves the stage as it is: others
+        may wait for it, also in other processes. `cancel` cancels it."""
+        if not self.done():
+            yield from self._waited_for(asyncio.get_running_loop())
+        if self.cancelled():
+            raise asyncio.CancelledError
+        error = self.exception()
+        if error is not None and type(error) in ASYNCIOS:
+            raise ASYNCIOS[type(error)](*error.args)
+        return self.result()
+
+    def _waited_for(self, loop: asyncio.AbstractEventLoop) -> Generator[Any, None, None]:
+        """Waits on a loop until it is done. Nothing is left of that in the stage where it is given up."""
+        shown = loop.create_future()
+
+        def wake(_: object) -> None:
+            with contextlib.suppress(RuntimeError):  # the loop is closed
+                loop.call_soon_threadsafe(lambda: None if shown.done() else shown.set_result(None))
+        self.add_done_callback(wake)
+        try:
+            yield from shown
+        finally:
+            with self._condition:
+                if not self.done():  # (else the callbacks are being called)
+                    self._done_callbacks.remove(wake)
 
     @property
     def _ended(self) -> int:
@@ -270,6 +297,32 @@ class DurableStage(_Future[T]):
             raise ended
 
 
+class Composing:
+    """A stage whose function runs, and attaches stages.
+
+    Attributes:
+        stage: The stage.
+        first: The one whose function it is: the same, or that of which this is a further try.
+        taken: What was attached, and what of an earlier try was found in the place of that."""
+
+    def __init__(self, stage: int, first: Optional[int]) -> None:
+        self.stage, self.first = stage, stage if first is None else first
+        self.taken: Set[int] = set()
+
+    def goes_on(self, view: RowView) -> None:
+        """`Abandoned` where the stage isn't the session's any more: another try attaches stages."""
+        if view.is_settled(self.stage) or view.holder(self.stage) != view.session:
+            raise Abandoned(f"{view.said(self.first)['name']} is settled, and its function attaches nothing any more")
+
+    def attached(self, view: RowView, form: Tuple[int, Tuple[int, ...]], said: Dict[str, Any]) -> List[int]:
+        """The stages that earlier tries have attached, that are such ones, and that weren't taken yet."""
+        if self.first == self.stage:
+            return []
+        wanted = alike_in(json.loads(json.dumps(said)))
+        return [number for number in view.attached if view.forms[number] == form and number not in self.taken
+                and alike_in(view.said(number)) == wanted]
+
+
 class DurableRequest:
     """A request in a store. `DurableService.request`, `start` and `open` give one. Any thread may use it, and processes
     share it.
@@ -285,12 +338,11 @@ class DurableRequest:
         self._transacts: Set[int] = set()  # the threads that run a transactional function of it
         self._stages: Dict[int, DurableStage[Any]] = {}
         self.is_queued = self.is_leaving = False
-        self.is_closed = False  # in the store, as far as is known
-        self.reopens: bool = False  # whether that has yet to be taken back
         self.kept = 0  # how often it was asked for again
         self._rested = -1  # how many words were seen at the last beat
         self.glanced: int = -1  # how many the glance has seen that was kept
         self._glance_seen: Optional[Seen] = None  # what the last glance says
+        self._composed_by: Dict[int, Composing] = {}  # by threads, the stages whose functions attach stages
         self._unshown: Set[int] = set()  # settled stages whose payload couldn't be read yet
         self._describe: Describe = service._describe
 
@@ -342,8 +394,11 @@ class DurableRequest:
         return row[0]
 
     def __getitem__(self, which: "Step[T] | int | str") -> "DurableStage[T]":
-        """The stage of a flow's step, the one of a number, or the first one of a name. `KeyError` if there is none."""
+        """The stage of a flow's step, the one of a number, or the first one of a name. `KeyError` if there is none, or
+        if the request wasn't begun with the step's flow: one of its name, with these steps."""
         self._catch_up()
+        if isinstance(which, Step) and not self._view.plan.is_of(which.flow):
+            raise KeyError(f"{which.name} is a step of another flow")
         many = len(self._view.forms)
         if isinstance(which, str):
             which = next((k for k in range(many) if self._view.said(k)["name"] == which), many)
@@ -369,17 +424,16 @@ class DurableRequest:
         self._catch_up()
         if self._view.sure(lambda: self._service.store.end(self.name, self.seen, self.number)):
             self._service._tell_end(self)
-        self.is_closed = True
 
     # Acting on the row.
 
-    def _act(self, decide: Callable[[RowView], Any]) -> Optional[List[Done]]:
+    def _act(self, decide: Callable[[RowView], Any], opens: bool = False) -> Optional[List[Done]]:
         if threading.get_ident() in self._transacts:
             raise StoreError(f"request {self.name!r}: its transactional function can't put to it: "
                              "that takes the place of its finish")
         try:
             with self._writes, self._lock:
-                done, others = self._view.act(decide)
+                done, others = self._view.act(decide, opens)
         except BaseException:
             self._show_settled()
             raise
@@ -400,54 +454,79 @@ class DurableRequest:
                 name: str = "") -> "DurableStage[Any]":
         if any(stage.request._view is not self._view for stage in of):
             raise TypeError("no stage of this request")
-        said = said_of(self._service.functions, call, args, kwargs or {})
-        said.update(captured(self._service.contexts) if call is not None else {})
-        payload = json.dumps({"name": name or said.get("fn", form.name.lower()), **said}).encode()
+        said = self._said_of(call, args, kwargs or {})
+        said = {"name": name or said.get("fn", form.name.lower()), **said}
+        payload = json_of(said).encode()
         sources = tuple(stage.number for stage in of)
 
-        def decide(view: RowView) -> Any:
+        def words(view: RowView) -> Any:
             view.make_room(1)
             number, (first, second) = len(view.forms), (*sources, 0, 0)[:2]
             low = form << 24 | second << 12 | (0 if call is None else number)
             return [(ATTACH << 56 | view.who << 48 | first << 36 | len(sources) << 32 | low, payload)]
-        return self._attached(decide)
+        return self._attached(form, sources, said, words)
 
-    def _compose(self, source: "DurableStage[Any]", call: Callable[..., Any]) -> "DurableStage[Any]":
+    def _compose(self, source: "DurableStage[Any]", call: Callable[..., Any], name: str = "") -> "DurableStage[Any]":
+        """A stage that composes, with the promise for what comes; or a further try of one, by `Again`."""
         if source.request._view is not self._view:
             raise TypeError("no stage of this request")
-        said = {**said_of(self._service.functions, call, (), {}), **captured(self._service.contexts)}
+        form = Form.EXCEPTIONALLY_COMPOSE if isinstance(call, Again) else Form.COMPOSE
+        said = self._said_of(call, (), {})
+        said = {"name": name or said["fn"], **said}
 
-        def decide(view: RowView) -> Any:
+        def words(view: RowView) -> Any:
             view.make_room(2)
             number, head = len(view.forms), ATTACH << 56 | view.who << 48
-            promise = json.dumps({"name": f"what {said['fn']} gives"}).encode()
-            own = json.dumps({"name": said["fn"], "to": number, **said}).encode()
-            return [(head | Form.SOURCE << 24, promise),
-                    (head | source.number << 36 | 1 << 32 | Form.COMPOSE << 24 | number + 1, own)]
-        return self._attached(decide)
+            promise = json.dumps({"name": f"what {said['name']} gives"}).encode()
+            return [(head | Form.SOURCE << 24, promise), (head | source.number << 36 | 1 << 32 | form << 24 | number + 1,
+                                                          json_of({**said, "to": number}).encode())]
+        return self._attached(form, (source.number,), said, words)
 
-    def _attached(self, decide: Callable[[RowView], Any]) -> "DurableStage[Any]":
-        """Puts words that attach stages, and gives the last of these. A request that may be closed in the store is
-        opened again after that, by a worker where this call fails."""
-        may_be_closed = bool(self._view.plan.rows) or self.is_closed
-        if may_be_closed:
-            self.reopens = True
-            self._service._keep(self)
+    def _said_of(self, call: Optional[Callable[..., Any]], args: Tuple[Any, ...],
+                 kwargs: Dict[str, Any]) -> Dict[str, Any]:
+        """What is said of a stage that is attached: its function, and which function of a stage attaches it."""
+        said = said_of(self._service.functions, call, args, kwargs)
+        said.update(captured(self._service.contexts) if call is not None else {})
+        composing = self._composes()
+        return said if composing is None else {**said, "by": composing.first}
+
+    def _composes(self) -> "Optional[Composing]":
+        """The stage whose function runs on this thread and attaches stages to this request, or None."""
+        return self._composed_by.get(threading.get_ident())
+
+    @contextlib.contextmanager
+    def _composing(self, composing: "Composing") -> Generator[None, None, None]:
+        """While a function runs that attaches stages."""
+        self._composed_by[threading.get_ident()] = composing
         try:
-            done = self._act(decide)
-            self.reopens = may_be_closed
-            self._reopen()
+            yield
+        finally:
+            del self._composed_by[threading.get_ident()]
+
+    def _attached(self, form: Form, sources: Tuple[int, ...], said: Dict[str, Any],
+                  words: Callable[[RowView], Any]) -> "DurableStage[Any]":
+        """Puts words that attach stages, and gives the last of these, which is of this form, or gives the one that an
+        earlier try of the function has attached. A request that is closed in the store is opened again with that."""
+        composing = self._composes()
+        found: List[int] = []
+
+        def decide(view: RowView) -> Any:
+            if composing is not None:
+                composing.goes_on(view)
+                found[:] = composing.attached(view, (int(form), sources), said)[:1]
+            return None if found else words(view)
+        try:
+            done = self._act(decide, opens=True)
+        except Unknown:  # it may stand
+            self._service._keep(self)
+            raise
         finally:
             self._service._serve(self)
-        assert done is not None
-        return self._stage(done[-1].reply[NUMBER])
-
-    def _reopen(self) -> None:
-        """Opens it again in the store, where it may be closed and stages were attached."""
-        if self.reopens:
-            self._view.sure(lambda: self._service.store.reopen(self.name, self.number))
-            self.reopens = self.is_closed = False
-            self._service._keep(self)  # (behind that: who thought it closed before doesn't forget it)
+        self._service._keep(self)  # (behind that: who thought it closed before doesn't forget it)
+        number = done[-1].reply[NUMBER] if done else found[0]
+        if composing is not None:
+            composing.taken.add(number)
+        return self._stage(number)
 
     def _relay(self) -> None:
         """Settles the promises of stages that composed as the stages are that their functions gave, where those are
@@ -626,6 +705,7 @@ class DurableRequest:
         return stage
 
     def _show(self, news: List[Done]) -> None:
+        self._service._heard(news)
         self._show_these([*self._unshown, *(number for done in news for number in done.settled)])
 
     def _show_settled(self) -> None:

@@ -95,13 +95,15 @@ class Put(NamedTuple):
         at: After how many words they are to stand.
         entries: Each a word and its token.
         payloads: Of the words that have one, by their places.
-        number: The request's own number, or 0 for whichever has the name."""
+        number: The request's own number, or 0 for whichever has the name.
+        opens: Whether the request is opened again with that, in one step, where it is closed."""
 
     request: str
     at: int
     entries: Sequence[Entry]
     payloads: Mapping[int, bytes]
     number: int = 0
+    opens: bool = False
 
 
 class Wanted(NamedTuple):
@@ -268,8 +270,9 @@ class Store(abc.ABC):
 
     def news(self, mark: Any) -> Tuple[Dict[str, int], Any]:
         """How many words those open requests have that may have changed since a mark, and the next mark; since None,
-        all of them, and none is missing then. A request that was opened again is only told since None. A store that
-        can't tell them apart gives all."""
+        all of them, and none is missing then. A request that was opened again is only told since None. One that is
+        closed, and to which words were put since the mark, may be told, too, with -1. A store that can't tell them
+        apart gives all that are open."""
         return self.ends(), None
 
     @abc.abstractmethod
@@ -457,6 +460,8 @@ class Memory(Store):
         if len(row) > put.at:
             return row[put.at:]
         row.extend(put.entries)
+        if put.opens:
+            self._closed.pop(put.request, None)
         self._payloads.update(((put.request, place), payload) for place, payload in put.payloads.items())
         return None
 
@@ -475,9 +480,11 @@ class Memory(Store):
             return {name: len(self._rows.get(name, [])) for name in self._opened if name not in self._closed}
 
     def news(self, mark: Any) -> Tuple[Dict[str, int], Any]:
-        puts, ends = self._puts, self.ends()  # (the mark first: what comes between is told once more)
-        return ends if mark is None else {name: many for name, many in ends.items()
-                                          if self._last.get(name, 0) > mark}, puts
+        with self._change:
+            ends = self.ends()
+            news = ends if mark is None else {name: ends.get(name, -1) for name in self._opened
+                                              if self._last.get(name, 0) > mark}
+            return news, self._puts
 
     def changed(self, seconds: float) -> None:
         with self._change:

@@ -23,16 +23,31 @@ from .replica import NO_VALUE, Ended
 from .view import SESSION_BITS, Done, RowView, Watcher
 from .functions import F, Functions, Known
 from .host import HOST, Host
-from .plans import are_alike, text_of, tried_again
-from .request import DurableRequest, DurableStage
-from .rows import Broken, Glance, Gone, Grouped, Opened, Store, StoreError, Timer, Transaction, Unknown, sure
+from .plans import are_alike, text_of
+from .request import Composing, DurableRequest, DurableStage
+from .rows import (COUNT_BITS, Broken, Glance, Gone, Grouped, Opened, Store, StoreError, Timer, Transaction, Unknown,
+                   sure)
 
 T = TypeVar("T")
 LOGGER = logging.getLogger("cf.shared")
 PATIENCE = 60  # seconds
 MOST_GLANCES = 500  # that a beat keeps
+LONG = 60  # seconds of a function, from which on it is told of
+MOST_TOLD = 5  # such functions in a line
 LONGEST_WHY = 500  # characters of what a store says that takes no value
 ONLY_FAULT = (int(Form.EXCEPTIONALLY), int(Form.EXCEPTIONALLY_COMPOSE))
+
+
+class Running(NamedTuple):
+    """A function that runs: of which stage of which request, and for how many seconds."""
+
+    request: str
+    stage: int
+    function: str
+    seconds: float
+
+    def __str__(self) -> str:
+        return f"{self.function} (request {self.request!r}, stage {self.stage}) for {self.seconds:.0f} s"
 
 
 class Claimed(NamedTuple):
@@ -47,11 +62,12 @@ class Claimed(NamedTuple):
 
 
 class Finish(NamedTuple):
-    """What a stage's function came to."""
+    """What a stage's function came to: `raised` is what it has raised itself, for the log."""
 
     stage: int
     kind: int
     payload: Optional[bytes]
+    raised: Optional[BaseException] = None
 
     def ended(self, view: RowView) -> Ended:
         """It at the end of what is seen: what it gives or throws is named by its own place."""
@@ -138,6 +154,11 @@ class DurableService(concurrent.futures.Executor):
         self._unknown: Dict[str, Tuple[str, int]] = {}
         self.broken: Dict[str, BaseException] = {}  # requests that can't be gone on with here, and why
         self._lock, self._stops, self._process = threading.Lock(), threading.Event(), os.getpid()
+        self._is_idle = threading.Event()  # set once nothing runs any more
+        self._last_put = math.inf  # until when a value is put that a function came to, once the service stops
+        self._busy: Set[int] = set()  # the threads of the pool that have something to do
+        self._runs: Dict[Tuple[str, int], Tuple[str, float]] = {}  # which functions run here, and since when
+        self._next_told = 0.0  # when functions that run for long are told of
         self._watcher, self._next_beat, self._next_look = Watcher(self.store, lease, host), 0.0, 0.0
         self._mark: Any = None
         self._is_named = False
@@ -232,6 +253,12 @@ class DurableService(concurrent.futures.Executor):
                 self._serve(request)
         return [request for request in resumed if request is not None]
 
+    def running(self) -> List[Running]:
+        """The functions that run here now, those first that have run for longest."""
+        now = self._host.monotonic()
+        return sorted((Running(name, stage, function, now - since)
+                       for (name, stage), (function, since) in list(self._runs.items())), key=lambda it: -it.seconds)
+
     def shutdown(self, wait: bool = True, *, cancel_futures: bool = False) -> None:
         """Begins no more functions. Those that run are finished. What is open stays in the store, and others go on with
         it.
@@ -246,9 +273,11 @@ class DurableService(concurrent.futures.Executor):
                 request._cancel_all()
             except (Unknown, StoreError) as error:
                 LOGGER.warning("request %r: %s", request.name, error)
+        self._last_put = min(self._last_put, self._host.monotonic() + PATIENCE)
         self._stops.set()
         self._pool.shutdown(wait)
         if wait and threading.current_thread() is not self._pump:
+            self._is_idle.set()
             self._pump.join()
             if self._ends is not None:
                 self._ends.end_all()
@@ -353,9 +382,13 @@ class DurableService(concurrent.futures.Executor):
                 self._stops.wait(0.2)
             except BaseException:
                 if self._stops.is_set():
-                    return
+                    break
                 LOGGER.critical("cf.shared", exc_info=True)
                 self._stops.wait(0.2)
+        # what runs is finished: until then others have to see that this session is there
+        while self._busy and not self._is_idle.wait(min(0.2, self._lease / 5)):
+            with contextlib.suppress(Exception):
+                self._beat()
 
     def _round(self) -> None:
         now, looks = self._host.monotonic(), self._beat()
@@ -370,14 +403,18 @@ class DurableService(concurrent.futures.Executor):
                     if not self._submit(timer.request, self._fire, timer):
                         self._firing.remove(timer[:3])
         # (before the store is asked: what is opened meanwhile, or again, isn't in its answer)
-        known = [(request, request.kept) for request in list(self._requests.values())]
+        kept = {name: request.kept for name, request in list(self._requests.items())}
         ends, mark = self.store.news(None if looks else self._mark)
-        for request, kept in known if looks else ():
-            if request.name not in ends and not request.is_leaving:
+        closed = kept.keys() - ends.keys() if looks else [name for name, end in ends.items() if end < 0]
+        for name in closed:
+            request = self._requests.get(name) or self._left.get(name)
+            if request is not None and not request.is_leaving:
                 request.is_leaving = True
-                if not self._submit(request.name, self._let_go, request, kept):
+                if not self._submit(name, self._let_go, request, kept.get(name, -1)):
                     request.is_leaving = False
         for name, end in ends.items():
+            if end < 0:
+                continue
             taken = self._taken(name) if self._takes_all else self._known_again(name)
             if taken is not None and (end > taken.seen or (looks or not end)
                                       and (end < taken.seen or self._needs(taken))):
@@ -392,6 +429,7 @@ class DurableService(concurrent.futures.Executor):
             return False
         self._next_beat = now + self._lease / 5
         self.store.beat(self.session)
+        self._tell_long()
         if not self._is_named:
             self.store.name_session(self.session, f"{socket.gethostname()} {os.getpid()}")
             self._is_named = True
@@ -417,11 +455,24 @@ class DurableService(concurrent.futures.Executor):
                 for request, glance in made:
                     request.glanced = glance.words
 
+    def _tell_long(self) -> None:
+        """Warns, once a minute, of functions that have run for longer: where all threads have such, nothing else is
+        begun."""
+        now = self._host.monotonic()
+        if now < self._next_told:
+            return
+        long = [it for it in self.running() if it.seconds > LONG]
+        if long:
+            self._next_told = now + LONG
+            said = ", ".join(map(str, long[:MOST_TOLD])) + (", .." if long[MOST_TOLD:] else "")
+            LOGGER.warning("%d of %d threads run a function for longer than %s s: %s", len(long), self._workers, LONG,
+                           said)
+
     def _needs(self, request: DurableRequest) -> bool:
         """Whether something is to do in a request without a new word."""
         view = request._view
         gone = [self._is_gone(session) for session in view.open_claims().values()]
-        is_due = view.ready or view.links or view.unlinked or view.found or request._unshown or request.reopens
+        is_due = view.ready or view.links or view.unlinked or view.found or request._unshown
         return bool(is_due) or any(gone) or request._is_over()
 
     def _is_gone(self, session: int) -> bool:
@@ -432,12 +483,10 @@ class DurableService(concurrent.futures.Executor):
         asked."""
         try:
             request._catch_up()
-            request._reopen()
             with self._lock:
                 if request.kept == kept and self._requests.get(request.name) is request:
                     del self._requests[request.name]
                     self._left[request.name] = request
-                    request.is_closed = True
         finally:
             request.is_leaving = False
 
@@ -476,6 +525,11 @@ class DurableService(concurrent.futures.Executor):
                 LOGGER.warning("request %r: %s", name, error)
             return False
 
+    def _heard(self, news: Sequence[Done]) -> None:
+        """Words that came behind others that were seen here are signs of life of who put them."""
+        if news and news[0].place > 1:
+            self._watcher.heard({done.token >> COUNT_BITS for done in news} - {self.session})
+
     def _raise(self, error: BaseException) -> None:
         """Tells what a callback raised: who called, or the log where that is a thread of the pool, which has more to
         do."""
@@ -485,6 +539,7 @@ class DurableService(concurrent.futures.Executor):
 
     def _guarded(self, name: str, call: Callable[..., None], *given: Any) -> None:
         self._works.is_here = True
+        self._busy.add(threading.get_ident())
         try:
             call(*given)
         except self._host.leaves:
@@ -495,13 +550,14 @@ class DurableService(concurrent.futures.Executor):
             self._host.warns(f"request {name!r}: {error}", name)
         except BaseException as error:
             self._host.raised(f"request {name!r}", error)
+        finally:
+            self._busy.discard(threading.get_ident())
 
     # Work.
 
     def _work(self, request: DurableRequest) -> None:
         request.is_queued = False
         request._catch_up()
-        request._reopen()
         self._abandon(request)
         request._relay()
         claimed = self._found(request) or self._next(request, None)
@@ -528,38 +584,53 @@ class DurableService(concurrent.futures.Executor):
         the store takes that."""
         chosen: List[int] = []
         told = finish
+        if finish is not None and finish.raised is not None:
+            self._host.fails(f"request {request.name!r}, stage {finish.stage}: "
+                             f"{request._view.calls(finish.stage).get('fn')} has raised", finish.raised)
 
         def decide(view: RowView) -> Any:
             made = None if told is None else told.word(view)
             chosen[:] = self._choice(request, view, told if made is not None else None)
             words: List[Tuple[int, Optional[bytes]]] = [] if made is None else [made]
             return words + [(CLAIM << 56 | view.who << 48 | stage << 36, None) for stage in chosen[:1]]
+        refused = 0  # times in a row that the value was, while the store took something else
         while True:
             try:
                 done = request._act(decide)
                 break
-            except Unknown as error:
-                if finish is None or self._stops.is_set():
-                    raise
-                self._host.warns(str(error), request.name)
             except Broken:
                 raise
             except Exception as error:
-                if finish is None or told is not finish and self._stops.is_set():
+                if finish is None or self._host.monotonic() > self._last_put:
+                    if finish is not None:
+                        LOGGER.error("request %r, stage %d: what its function came to is lost: %s", request.name,
+                                     finish.stage, error)
                     raise
-                if told is finish:  # it is too large, say
+                if isinstance(error, Unknown):
+                    self._host.warns(str(error), request.name)
+                    continue
+                refused = refused + 1 if told is finish and self._takes_beats() else 0
+                told = finish
+                if refused > 1:  # it is too large, say
                     told = Finish(finish.stage, THROWS,
                                   self._error(RemoteError(type(error).__name__, str(error)[:LONGEST_WHY])))
-                else:  # nothing is taken now, so that it wasn't the value
-                    told = finish
+                elif not refused:  # nothing is taken now, so that it wasn't the value
                     self._host.warns(f"request {request.name!r}, stage {finish.stage}: nothing can be put: {error}",
                                      request.name)
-                    self._host.rest(self._stops, 0.5)
+                    self._host.sleep(0.5)
         if len(chosen) > 1:
             self._serve(request)
         if done and chosen and not done[-1].reply[ANSWER]:
             return self._claimed(request, chosen[0], done[-1])
         return None
+
+    def _takes_beats(self) -> bool:
+        """Whether the store can write now."""
+        try:
+            self.store.beat(self.session)
+            return True
+        except Exception:
+            return False
 
     def _found(self, request: DurableRequest) -> Optional[Claimed]:
         """A claim of this session's that was granted without its being told, or one that was put with the end of
@@ -586,12 +657,10 @@ class DurableService(concurrent.futures.Executor):
 
     def _known(self, request: DurableRequest, stage: int) -> Optional[Known]:
         """The function of a stage, or None where it isn't registered here: others may have it."""
-        said = request._view.said(stage)
-        again = tried_again(said)
-        if again is not None:
-            said = request._view.said(again)
+        said = request._view.calls(stage)
         known = self.functions.named(str(said.get("fn")), int(said.get("version", 0)))
-        if known is not None and request._view.forms[stage][0] in COMPOSE_FORMS and "to" not in said:
+        composes = request._view.forms[stage][0] in COMPOSE_FORMS
+        if known is not None and composes and "to" not in request._view.said(stage):
             raise Broken(request.name, request._view.attached.get(stage, 0),
                          f"stage {stage} composes, and no promise is named for what comes")
         if known is None and request.name not in self._unknown:
@@ -611,7 +680,7 @@ class DurableService(concurrent.futures.Executor):
         view, known = request._view, self._known(request, stage)
         assert known is not None
         said, args = view.said(stage), self._args(request, stage, done.reply)
-        again = tried_again(said)
+        again = view.tried_again(stage)
         if again is not None:
             # Wrapped, it is a source's: what hangs on an abandoned stage fails, too. A try whose process is gone is done
             # once more. The sources of what is tried again may be open: it was settled by hand.
@@ -653,22 +722,33 @@ class DurableService(concurrent.futures.Executor):
 
     def _run(self, request: DurableRequest, claimed: Claimed) -> Optional[Claimed]:
         """Calls a function and puts its finish; what was claimed with it."""
-        if request._view.forms[claimed.stage][0] == Form.COMPOSE:
+        self._runs[request.name, claimed.stage] = (claimed.known.name, self._host.monotonic())
+        try:
+            return self._ran(request, claimed)
+        finally:
+            self._runs.pop((request.name, claimed.stage), None)
+
+    def _ran(self, request: DurableRequest, claimed: Claimed) -> Optional[Claimed]:
+        if claimed.error is None and request._view.forms[claimed.stage][0] in COMPOSE_FORMS:
             return self._next(request, self._composed(request, claimed))
         if claimed.error is None and claimed.known.is_transactional:
             return self._in_transaction(request, claimed)
         return self._next(request, self._called(claimed))
 
     def _composed(self, request: DurableRequest, claimed: Claimed) -> Finish:
+        """What a function came to that attaches stages. What an earlier try of it has attached isn't attached once
+        more."""
+        again = request._view.tried_again(claimed.stage)
         try:
-            given = self._call(claimed, request)
+            with request._composing(Composing(claimed.stage, again)):
+                given = self._call(claimed, request)
             if not isinstance(given, DurableStage) or given.request._view is not request._view:
                 raise TypeError(f"{claimed.known.name} has to give a stage of the request")
             return Finish(claimed.stage, LINKS, self.codec.write({"stage": given.number}))
         except self._host.leaves:
             raise
         except BaseException as error:
-            return Finish(claimed.stage, THROWS, self._error(error))
+            return Finish(claimed.stage, THROWS, self._error(error), error)
 
     def _called(self, claimed: Claimed, *first: Any) -> Finish:
         try:
@@ -679,7 +759,7 @@ class DurableService(concurrent.futures.Executor):
         except self._host.leaves:
             raise
         except BaseException as error:
-            return Finish(claimed.stage, THROWS, self._error(error))
+            return Finish(claimed.stage, THROWS, self._error(error), None if error is claimed.error else error)
 
     def _call(self, claimed: Claimed, *first: Any) -> Any:
         """Calls a function, in a context of its own where contexts go along."""
@@ -725,7 +805,7 @@ class DurableService(concurrent.futures.Executor):
             except Exception as error:  # what the function did to the connection lets no word be put, say
                 if not is_open and self._stops.is_set():
                     raise
-                finish = Finish(claimed.stage, THROWS, self._error(error)) if is_open else LOST
+                finish = Finish(claimed.stage, THROWS, self._error(error), error) if is_open else LOST
                 if not is_open:  # it was the store, and no function was called
                     self._host.warns(f"request {request.name!r}, stage {claimed.stage}: {error}", request.name)
                     self._host.rest(self._stops, 0.5)

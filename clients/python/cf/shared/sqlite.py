@@ -31,6 +31,7 @@ PUT = ("insert or ignore into cf_word (request, at, word, token, payload) "
        "select id, ?, ?, ?, ? from cf_request where id = ?")
 PUT_GROUP = ("insert into cf_word (request, at, word, token, payload) "
              "select id, v.* from cf_request, (values %s) v where id = ?")
+OPEN_AGAIN = "update cf_request set closed = null where id = ? and closed is not null"
 READ = "select at, word, token from cf_request left join cf_word on request = id and at >= ? where id = ? order by at"
 HAS = "(select coalesce(max(at) + 1, 0) from cf_word where request = id) = ?"  # so many words
 MAGIC = b"SQLite format 3\0"  # https://www.sqlite.org/fileformat.html
@@ -146,8 +147,8 @@ class SQLite(TableStore):
             return self.ends(), at
         opened = self._ask("select name from cf_request where id > ? and closed is null", mark[1])
         # (`+` keeps SQLite from going through all words by the index of requests)
-        longer = self._ask("select name, max(at) + 1 from cf_word join cf_request on id = request "
-                           "where n > ? and closed is null group by +request", mark[0])
+        longer = self._ask("select name, case when closed is null then max(at) + 1 else -1 end from cf_word "
+                           "join cf_request on id = request where n > ? group by +request", mark[0])
         return {**{str(name): 0 for name, in opened}, **{str(name): int(many) for name, many in longer}}, at
 
     def _mark(self) -> int:
@@ -186,7 +187,7 @@ class SQLite(TableStore):
         number = number or self._id(name)
 
         def act(db: sqlite3.Connection) -> bool:
-            db.execute("update cf_request set closed = null where id = ? and closed is not null", (number,))
+            db.execute(OPEN_AGAIN, (number,))
             return _is_there(db, number)
         if not self._in_turn(act):
             raise self._gone(name)
@@ -210,8 +211,8 @@ class SQLite(TableStore):
 
     def append_groups(self, puts: Sequence[Put]) -> List[Optional[List[Entry]]]:
         ids = [self._id_of(put) for put in puts]
-        if len(puts) == 1 and len(puts[0].entries) <= MOST_AT_ONCE and all(len(it) <= SMALL
-                                                                           for it in puts[0].payloads.values()):
+        if len(puts) == 1 and not puts[0].opens and len(puts[0].entries) <= MOST_AT_ONCE and all(
+                len(it) <= SMALL for it in puts[0].payloads.values()):
             landed = [self._put_at_once(ids[0], puts[0])]
         else:
             landed = self._in_turn(lambda db: [_put(db, number, put) for number, put in zip(ids, puts)])
@@ -550,4 +551,6 @@ def _put(db: sqlite3.Connection, request: int, put: Put) -> bool:
             return False  # the first: a row has no holes, so none of the group was put
         if large:
             db.execute("insert into cf_large values (?, ?, ?)", (request, put.at + 1 + k, payload))
+    if put.opens:
+        db.execute(OPEN_AGAIN, (request,))
     return True

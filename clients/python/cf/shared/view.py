@@ -190,12 +190,14 @@ class RowView:
             entries = self.sure(lambda: self.store.read(self.name, self.seen, self.opened.number))
         return [self._take(*entry) for entry in entries]
 
-    def act(self, decide: "Callable[[RowView], Optional[Wanted]]") -> Tuple[Optional[List[Done]], List[Done]]:
+    def act(self, decide: "Callable[[RowView], Optional[Wanted]]",
+            opens: bool = False) -> Tuple[Optional[List[Done]], List[Done]]:
         """Puts words at the end of what is seen, and does them.
 
         Args:
             decide: Says by this view which words are wanted, each with its payload, or None if none is. It is asked
                 again each time another session's words came first.
+            opens: Whether they open the request again, where it is closed.
 
         Returns:
             What the words did, or None if none was wanted; and what other sessions' words had done before.
@@ -209,7 +211,7 @@ class RowView:
             wanted = decide(self)
             if not wanted:
                 return None, others
-            put = self.put_of(wanted)
+            put = self.put_of(wanted)._replace(opens=opens)
             stands = self._append(put) or put.entries
             done = self.landed(put, stands)
             others += [self._take(*entry) for entry in stands[len(done or []):]]
@@ -219,8 +221,23 @@ class RowView:
 
     def _append(self, put: Put) -> Optional[Sequence[Entry]]:
         """None where a put stands now, else what stands from its first place on."""
+        before = self.unknown
+
+        def append() -> Optional[List[Entry]]:
+            try:
+                return self.store.append(put)
+            except (Unknown, Broken):
+                raise
+            except Exception as error:
+                if self.unknown == before:
+                    raise
+                # behind a missing answer: what is refused now may stand
+                stands = self.store.read(put.request, put.at, put.number)
+                if not stands:
+                    raise Unknown(str(error)) from error
+                return stands
         try:
-            stands: Optional[List[Entry]] = self.sure(lambda: self.store.append(put))
+            stands: Optional[List[Entry]] = self.sure(append)
             if stands == []:
                 raise Gone(self.name)
             return stands
@@ -385,6 +402,18 @@ class RowView:
                                           lambda given: said_in(json.loads(given.decode()), stage))
         return self._said[stage]
 
+    def tried_again(self, stage: int) -> Optional[int]:
+        """The stage whose function a further try calls, or None where a stage isn't one."""
+        first: Optional[int] = self.said(stage).get("again")
+        before = None if first is None else self.tried_again(first)
+        return first if before is None else before
+
+    def calls(self, stage: int) -> Dict[str, Any]:
+        """What is said of the stage whose function a stage calls: of itself, or of that of which it is a further
+        try."""
+        first = self.tried_again(stage)
+        return self.said(stage if first is None else first)
+
     def carried(self, stage: int) -> Dict[str, Any]:
         """What of the context of the place where a stage was attached goes along with its function."""
         if stage < len(self.plan.said):
@@ -502,27 +531,43 @@ def _names_error(word: int) -> bool:
 
 
 class Watcher:
-    """Which sessions are gone, by this process's own clock: those whose beat stood still for some seconds in which
-    the engine answered. A pause between two looks counts for half of these seconds at most, since this process, or
-    the machine, stood still then, and others may have, too."""
+    """Which sessions are gone, by this process's own clock: those of which no sign of life came for some seconds in
+    which the engine answered, be it a beat or a word.
+
+    Time counts from an answer of the engine to the next question alone, so that who has beaten just before a slow
+    answer has the whole time from then on. A pause between the two counts for half of these seconds at most, since this
+    process, or the machine, stood still then, and others may have, too."""
 
     def __init__(self, store: Store, seconds: float, host: Host = HOST) -> None:
         self._store, self._seconds, self._host = store, seconds, host
+        # by session: its beats, and when the last sign of life of it was seen
         self._seen: Dict[int, Tuple[Optional[int], float]] = {}
-        self._time, self._last = 0.0, host.monotonic()
+        self._time = 0.0
+        self._answered: Optional[float] = None  # the moment of the last answer, where no question came to nothing since
 
-    def look(self, beats: Optional[Mapping[int, int]] = None) -> None:
-        """Reads all beats, but where they were read just now."""
-        now = self._host.monotonic()
-        self._time, self._last = self._time + min(now - self._last, self._seconds / 2), now
+    def look(self, beats: Optional[Mapping[int, int]] = None, asked: Optional[float] = None) -> None:
+        """Reads all beats, but where they were read just now, by a question of the moment `asked`."""
+        self._time = self._counted(self._host.monotonic() if asked is None else asked)
+        self._answered = None
         try:
             beats = self._store.beats() if beats is None else beats
         except Unknown:
             self._seen.clear()  # while the engine was away nobody could beat
             return
+        self._answered = self._host.monotonic()
         for session, count in beats.items():
             if self._seen.get(session, (None, 0))[0] != count:
                 self._seen[session] = (count, self._time)
+
+    def _counted(self, now: float) -> float:
+        """The time that has counted until a moment."""
+        return self._time if self._answered is None else self._time + min(now - self._answered, self._seconds / 2)
+
+    def heard(self, sessions: Iterable[int]) -> None:
+        """Words of these sessions were read that weren't there before."""
+        now = self._counted(self._host.monotonic())
+        for session in sessions:
+            self._seen[session] = (self._seen.get(session, (None, 0))[0], now)
 
     def forget(self) -> None:
         """Drops the beats of sessions that are long gone: nobody needs them, and one that comes back beats anew."""
@@ -534,13 +579,13 @@ class Watcher:
 
     def silences(self) -> Dict[int, float]:
         """For how many seconds the beat of each session has stood still, as far as this one has looked."""
-        return {session: self._time - since for session, (count, since) in self._seen.items() if count is not None}
+        return {session: max(self._time - since, 0.0)
+                for session, (count, since) in self._seen.items() if count is not None}
 
     def is_gone(self, session: int) -> bool:
-        """Whether a session's beat stood still for so long."""
+        """Whether no sign of life of a session came for so long."""
         known = self._seen.get(session)
         if known is None:
-            self._seen[session] = (None, self._time)  # one that never beat counts from now on
+            self._seen[session] = (None, self._counted(self._host.monotonic()))  # one that never beat counts from now on
             return False
         return self._time - known[1] > self._seconds
-

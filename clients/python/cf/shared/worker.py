@@ -1,6 +1,9 @@
 """A process of its own that works on all requests of a store."""
+import logging
+import math
 import signal
 import threading
+import time
 from typing import Optional, Sequence
 
 from ..service.ending import Hook
@@ -9,6 +12,10 @@ from .contexts import Carrier
 from .functions import Functions
 from .rows import Store
 from .service import DurableService
+
+
+LOGGER = logging.getLogger("cf.shared")
+BETWEEN_TOLD = 10.0  # seconds between two lines that tell what an ending worker waits for
 
 
 class Worker(DurableService):
@@ -25,17 +32,40 @@ class Worker(DurableService):
         super().__init__(store, max_workers, functions=functions, codec=codec, lease=lease, takes_all=True,
                          groups=groups, on_end=on_end, contexts=contexts)
 
-    def run(self, ends: Optional[threading.Event] = None) -> None:
+    def run(self, ends: Optional[threading.Event] = None, grace: Optional[float] = None) -> bool:
         """Works until the process gets SIGTERM or SIGINT, and finishes what runs by then. It is for the main thread.
+        What it waits for is logged, every few seconds.
 
         Args:
-            ends: What `told_to_end` gave, if it was called before the worker was made."""
-        (ends or told_to_end()).wait()
-        self.shutdown()
+            ends: What `told_to_end` gave, if it was called before the worker was made.
+            grace: For how many seconds it waits for functions that run; by default until they have ended. It waits no
+                longer once another signal comes.
+
+        Returns:
+            Whether all have ended. If not, their threads run on: the process has to be ended by `os._exit`, and others
+            abandon their stages."""
+        ends = ends or told_to_end()
+        ends.wait()
+        ends.clear()
+        ending = threading.Thread(target=self.shutdown, name="cf-ending", daemon=True)
+        ending.start()
+        until = math.inf if grace is None else time.monotonic() + grace
+        told = time.monotonic() + BETWEEN_TOLD / 10
+        while ending.is_alive() and time.monotonic() < until and not ends.is_set():
+            ending.join(0.05)
+            if time.monotonic() > told:
+                told = time.monotonic() + BETWEEN_TOLD
+                LOGGER.warning("told to end, and waits for %s", self._said())
+        if ending.is_alive():
+            LOGGER.error("ends without %s", self._said())
+        return not ending.is_alive()
+
+    def _said(self) -> str:
+        return ", ".join(map(str, self.running())) or "the store"
 
 
 def told_to_end() -> threading.Event:
-    """An event that is set once the process gets SIGTERM or SIGINT."""
+    """An event that is set when the process gets SIGTERM or SIGINT."""
     ends = threading.Event()
     for number in (signal.SIGTERM, signal.SIGINT):
         signal.signal(number, lambda *_: ends.set())

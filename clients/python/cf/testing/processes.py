@@ -149,6 +149,9 @@ class ProcessHost(Host):
         if request:
             self.process.stuck.add(request)
 
+    def fails(self, text: str, error: BaseException) -> None:
+        """Functions may raise."""
+
     def breaks(self, error: BaseException) -> None:
         if not isinstance(error, Dropped):
             self.world.run.fail(f"{self.process.name} can't go on: {error}")

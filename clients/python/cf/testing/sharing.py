@@ -22,7 +22,6 @@ from typing import TYPE_CHECKING, Any, Callable, Dict, List, Optional, Sequence,
 from ..service.history import History
 from ..shared.codec import Json
 from ..shared.functions import Functions
-from ..shared.plans import tried_again
 from ..shared.rows import Put, Timer, Unknown
 from ..shared.service import PATIENCE
 from ..shared.view import RowView
@@ -253,9 +252,7 @@ class WorldStore:
         return shows or closes or is_open and self._relays(view) or bool(request._view.found)
 
     def _knows(self, process: Process, view: RowView, stage: int) -> bool:
-        said = view.said(stage)
-        again = tried_again(said)
-        said = said if again is None else view.said(again)
+        said = view.calls(stage)
         return process.functions.named(str(said.get("fn")), int(said.get("version", 0))) is not None
 
     @staticmethod

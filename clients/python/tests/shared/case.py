@@ -7,6 +7,7 @@ All of them:
 They are over SQLite in a temporary folder. With CF_STORES="postgresql://.. etcd://.." those of stores and services are
 over these, too, which have to be empty.
 """
+import logging
 import os
 import subprocess
 import sys
@@ -24,6 +25,7 @@ import shared_functions as f  # noqa: E402
 from cf.shared import DurableService, Functions, Memory, connect, new_session  # noqa: E402
 from cf.shared.plans import text_of  # noqa: E402
 
+logging.getLogger("cf.shared").addHandler(logging.NullHandler())  # (what functions raise isn't shown)
 STORES = os.environ.get("CF_STORES", "").split()
 EMPTY = text_of(None, Functions())
 

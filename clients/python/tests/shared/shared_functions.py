@@ -4,10 +4,10 @@ import os
 import threading
 import time
 
-from cf.shared import Functions, Variables
+from cf.shared import Functions, Json, Variables
 
 TENANT = contextvars.ContextVar("tenant")
-functions, contexts = Functions(), [Variables(tenant=TENANT)]
+functions, contexts, codec = Functions(), [Variables(tenant=TENANT)], Json()
 held = threading.Event()  # until it is set, `hold` runs
 
 
@@ -34,6 +34,21 @@ def number(order):
 @functions.function("fails")
 def fails(*_):
     raise PermissionError("card declined")
+
+
+@codec.add
+class Declined(Exception):
+    """One that comes back as such by `codec` alone."""
+
+
+@functions.function("declines")
+def declines(*_):
+    raise Declined("no funds")
+
+
+@functions.function("kind")
+def kind(error):
+    return type(error).__name__
 
 
 @functions.function("text")

@@ -9,7 +9,7 @@ import threading
 import unittest
 import unittest.mock
 
-from case import Case, Watched
+from case import Case, STORES, Watched
 import shared_functions as f
 from cf.service import Flow
 from cf.service.words import ATTACH, CANCEL, CLAIM, COMPLETE
@@ -99,28 +99,75 @@ class Closing(Case):
         other["p"].complete(17)
         self.assertEqual(promise.result(20), 17)
 
-    def test_a_reopening_that_the_store_is_silent_about(self):
-        """It is done later: the stage stands."""
-        class Away(Memory):
-            left = 0
+    def test_who_attaches_to_a_closed_request_and_is_killed(self):
+        """With the word that attaches the request is open, also one that was closed elsewhere: others go on with it."""
+        self.lease = 1000
+        for closing_service, name in self.each():
+            store = closing_service.store
+            flow = Flow("order")
+            flow.promise("p")
+            over, plain = closing_service.start(flow, 1, name=name), closing_service.request(name + " plain")
+            self.until(lambda store=store, name=name: name not in store.ends())
+            store.end(plain.name, 0)
+            for request in (over, plain):
+                with unittest.mock.patch.object(store, "append_groups", self.dying(store)):
+                    with self.assertRaises(SystemExit):
+                        request.promise("late")
+                self.assertIn(request.name, store.ends())
 
-            def reopen(self, name, number=0):
-                self.left -= 1
-                if self.left >= 0:
-                    raise Unknown("away")
-                super().reopen(name, number)
-        store, flow = Away(), Flow("order")
+    def dying(self, store):
+        """Puts, and ends the process behind that."""
+        real = store.append_groups
+
+        def append_groups(puts):
+            real(puts)
+            raise SystemExit("killed")
+        return append_groups
+
+    def test_an_attach_that_the_store_is_silent_about(self):
+        """It stands, and is worked on."""
+        class Silent(Memory):
+            is_silent = False
+
+            def append_groups(self, puts):
+                told = super().append_groups(puts)
+                if self.is_silent:
+                    self.is_silent = False
+                    raise Unknown("silent")
+                return told
+        store, flow = Silent(), Flow("order")
         flow.promise("p")
         closing_service = DurableService(store, 1, functions=f.functions, lease=0.5)
         self.services.append(closing_service)
-        with unittest.mock.patch.object(shared_service, "PATIENCE", 0):
+        with unittest.mock.patch.object(shared_service, "PATIENCE", -1):
             reopened = closing_service.start(flow, 1, name="r")
             self.until(lambda: "r" not in store.ends())
-            store.left = 2
+            store.is_silent = True
             with self.assertRaises(Unknown):
                 reopened.supply(f.inc, 1)
             self.assertEqual(reopened[1].result(20), 2)
-            self.until(lambda: store.left < 0 and "r" not in store.ends())
+
+    def test_who_waits_elsewhere_is_told_of_the_last_word(self):
+        """Also where the request is closed right behind it, and nobody has looked at all that are open meanwhile."""
+        for address in [self.address, "memory://", *[it for it in STORES if not it.startswith("etcd")]]:
+            with self.subTest(address):
+                store = connect(address)
+                asks = DurableService(store, 0, functions=f.functions, lease=1000)
+                self.services.append(asks)
+                flow = Flow("order")
+                last = flow.promise("p").then(f.inc)
+                waits = asks.start(flow, name=self.name)[last]
+                self.until(lambda asks=asks: asks._mark is not None)
+                other = RowView(store, store.find(self.name), new_session())
+                news, store.news = store.news, lambda mark: ({}, mark)  # (it doesn't look for a moment)
+                other.catch_up()
+                other.act(lambda view: [(COMPLETE << 56 | view.who << 48, None), (CANCEL << 56 | view.who << 48 | 1 << 36,
+                                                                                 None)])
+                store.end(self.name, 2)
+                store.news = news
+                self.until(lambda waits=waits: waits.done())
+                self.assertTrue(waits.cancelled())
+                store.drop(self.name)
 
 
 class NamesUsedAgain(Case):

@@ -52,6 +52,29 @@ class Codecs(Case):
         self.assertIn("it can't be written", str(error))
         self.assertFalse(coded._view.claims())
 
+    def test_what_json_has_not(self):
+        """NaN and infinities are refused before anything is put, wherever they are given: other languages can't read
+        them."""
+        functions = Functions()
+        function = functions.function("f")(lambda *given: float("nan"))
+        coding_service = DurableService(Memory(), 1, functions=functions)
+        self.services.append(coding_service)
+        coded, odd = coding_service.request("r"), [float("nan"), float("inf"), -float("inf")]
+        promise = coded.promise()
+        for it in odd:
+            for call in (lambda it=it: promise.complete([it]), lambda it=it: coded.supply(function, it),
+                         lambda it=it: promise.complete_on_timeout(it, 1), lambda it=it: coding_service.submit(function, it)):
+                with self.assertRaises(TypeError) as told:
+                    call()
+                self.assertIn("JSON has nothing for it", str(told.exception))
+        self.assertEqual((coded.seen, len(coding_service.store.ends())), (1, 1))
+        self.assertIn("JSON has nothing for it", str(coded.supply(function, 1).exception(20)))
+        self.assertEqual(coded.supply(function, 1).exception(20).args, coding_service.codec.read_error(
+            coding_service.codec.write_error(TypeError("JSON has nothing for it: Out of range float values are not JSON "
+                                                       "compliant"))).args)
+        self.assertIsInstance(coding_service.codec.read_error(coding_service.codec.write_error(ValueError(odd[0]))),
+                              ValueError)
+
     def test_remote_errors(self):
         codec = Json()
 

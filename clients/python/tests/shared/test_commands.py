@@ -10,13 +10,16 @@ import os
 import sqlite3
 import subprocess
 import sys
+import threading
 import unittest
+import unittest.mock
+from concurrent.futures import ThreadPoolExecutor
 from pathlib import Path
 
 from case import Case, CLIENT, HERE
 import shared_functions as f
 from cf import requests
-from cf.shared import StoreError, connect
+from cf.shared import connect, DurableService, Functions, Memory, StoreError, Worker, worker
 
 
 class Commands(Case):
@@ -88,11 +91,48 @@ class Commands(Case):
 
     def test_the_worker_command(self):
         for words in (["--store", "nothing://", "shared_functions"], ["--store", self.address, "json"],
-                      ["--store", self.address, "no.such.module"]):
+                      ["--store", self.address, "no.such.module"],
+                      ["--store", self.address, "--codec", "shared_functions:functions", "shared_functions"]):
             done = subprocess.run([sys.executable, "-m", "cf.worker", *words], stderr=subprocess.PIPE, timeout=60,
                                   env=dict(os.environ, PYTHONPATH=os.pathsep.join([str(HERE), str(CLIENT)])))
             self.assertEqual(done.returncode, 2, done.stderr)
             self.assertTrue(done.stderr.startswith(b"cf.worker: "), done.stderr)
+
+    def test_a_worker_with_a_codec_that_is_told_to_end(self):
+        """Its functions get exceptions by that codec. It begins nothing more, and ends without what runs for too
+        long."""
+        asks = DurableService(connect(self.address), 0, functions=f.functions, codec=f.codec)
+        self.services.append(asks)
+        ended = self.worker(more=["--codec", "shared_functions:codec", "--grace", "0.1", "--threads", "1"])
+        durable = asks.request("r")
+        declined = durable.supply(f.declines)
+        self.assertEqual(declined.recover(f.kind).result(20), "Declined")
+        self.assertIsInstance(declined.exception(20), f.Declined)
+        durable.supply(f.hold)
+        self.until(lambda: durable._view.claims())
+        ended.terminate()
+        self.assertEqual(ended.wait(20), 1)
+        said = ended.stderr.read().decode()
+        self.assertIn("declines has raised", said)
+        self.assertIn("ends without hold (request 'r', stage 2)", said)
+
+    def test_a_worker_that_is_told_to_end(self):
+        """It tells what it waits for, until that has ended, or it is told once more."""
+        for is_told_again in (True, False):
+            functions, goes, ends = Functions(), threading.Event(), threading.Event()
+            waits = functions.function("waits")(lambda: goes.wait(20))
+            working = Worker(Memory(), functions, 1)
+            working.request("r").supply(waits)
+            self.until(working.running)
+            ends.set()
+            with unittest.mock.patch.object(worker, "BETWEEN_TOLD", 0), self.assertLogs("cf.shared", "WARNING") as logs:
+                with ThreadPoolExecutor(1) as pool:
+                    running = pool.submit(working.run, ends)
+                    self.until(lambda: any("waits for waits (request 'r', stage 0) for" in it for it in logs.output))
+                    (ends if is_told_again else goes).set()
+                    self.assertEqual(running.result(20), not is_told_again)
+            self.assertEqual(any("ends without waits" in it for it in logs.output), is_told_again)
+            goes.set()
 
 
 if __name__ == "__main__":

@@ -13,7 +13,7 @@ from case import Case, Watched
 import shared_functions as f
 from cf.service import Flow, RequestFull
 from cf.service.words import CLAIM, FINISH, VALUE
-from cf.shared import Abandoned, Broken, DurableService, Memory
+from cf.shared import Abandoned, Broken, DurableService, Functions, Memory
 
 
 class DurableStages(Case):
@@ -89,8 +89,6 @@ class DurableStages(Case):
             names = [it["name"] for it in map(durable._view.said, range(len(durable._view.forms)))]
             self.assertTrue(durable[len(names) - 1 - names[::-1].index("late")].cancel())
             self.assertIsInstance(again.exception(20) if not again.cancelled() else CancelledError(), CancelledError)
-            with self.assertRaises(TypeError):
-                late.again()
             self.until(lambda durable=durable: not durable._view.links and not durable._view.unlinked)
 
     def test_a_promise_that_nothing_comes_of(self):
@@ -137,6 +135,21 @@ class DurableStages(Case):
                 self.assertTrue(stage.fail(PermissionError("by hand")))
                 self.assertIsInstance(last.exception(20), PermissionError)
 
+    def test_what_a_further_try_of_an_either_is_called_with(self):
+        """It was settled by hand, so that it was told of no source: the first one in order that has a value, be that
+        None, is what its function is called with."""
+        for values, told in (((None, 5), "sorry, None"), ((5, None), "sorry, 5")):
+            store = Memory()
+            asks = DurableService(store, 0, functions=f.functions)
+            durable = asks.request("r")
+            one, two = durable.promise(), durable.promise()
+            stage = one.either(two, f.text)
+            last = stage.again()
+            self.assertTrue(stage.fail(Abandoned("gone")))
+            two.complete(values[1]), one.complete(values[0])
+            self.services += [asks, DurableService(store, 1, functions=f.functions, takes_all=True)]
+            self.assertEqual(last.result(20), told)
+
     def test_no_further_try_behind_what_was_abandoned(self):
         """What hangs on an abandoned stage fails, too: its own function wasn't called, and so isn't called again."""
         for service, name in self.each():
@@ -160,6 +173,98 @@ class DurableStages(Case):
         durable[last.number - 1].fail(Abandoned("gone"))
         self.services += [asks, DurableService(store, 1, functions=f.functions, takes_all=True)]
         self.assertIsInstance(last.exception(20), PermissionError)
+
+    def composing(self, dies):
+        """A service whose session seems to die while its function attaches, and one that goes on: both over one
+        store. The function attaches four stages and composes the sum of two of them; the first two are there before
+        `dies` is called, where that is its first call."""
+        store, mute = Memory(), Memory()
+        mute.__dict__, mute.beat = store.__dict__, lambda session: None
+        functions, self.calls, self.told = Functions(), [], []
+        functions.add(f.functions)
+        counted = functions.function("counted")(lambda x: self.calls.append(x) or x)
+
+        @functions.function("attaches")
+        def attaches(request, x):
+            one = request.supply(counted, x)
+            request.promise("note")
+            if not self.told:
+                self.told.append(None)
+                dies()
+            two = request.supply(counted, x)
+            try:
+                return one.combine(two, f.add)
+            except BaseException as error:
+                self.told.append(error)
+                raise
+        dead = DurableService(mute, 2, functions=functions, lease=1000)
+        lives = DurableService(store, 2, functions=functions, lease=0.2)
+        self.services += [dead, lives]
+        return dead, lives, attaches
+
+    def test_a_further_try_of_what_composes(self):
+        """What the first try has attached isn't attached once more, and the first try attaches nothing any more, if it
+        isn't dead after all."""
+        goes = threading.Event()
+        dead, lives, attaches = self.composing(lambda: goes.wait(20))
+        first = dead.request("r").promise("x")
+        behind = first.compose(attaches)
+        last = behind.again(2).then(f.inc)
+        first.complete(20)
+        request = lives.open("r")
+        self.assertEqual(request[last.number].result(20), 41)
+        goes.set()
+        self.until(lambda: not request._view.claims())
+        said = [request._view.said(k) for k in range(len(request._view.forms))]
+        self.assertEqual(sorted(self.calls), [20, 20])
+        self.assertEqual([it["name"] for it in said if it.get("by") == behind.number],
+                         ["counted", "note", "counted", "add"])
+        self.assertIsInstance(request[behind.number].exception(20), Abandoned)
+        self.assertEqual([it.cancelled() for it in (request["what attaches again gives"], request[last.number - 2])],
+                         [False, True])  # (the second further try had nothing to do)
+
+    def test_a_try_that_is_dead_only_for_others(self):
+        """It attaches nothing once its stage is another's, and its finish comes too late."""
+        goes = threading.Event()
+        dead, lives, attaches = self.composing(lambda: goes.wait(20))
+        first = dead.request("r").promise("x")
+        behind = first.compose(attaches)
+        first.complete(1)
+        self.until(lambda: self.told)
+        request = lives.open("r")
+        self.assertIsInstance(request[behind.number].exception(20), Abandoned)
+        many = len(request._view.forms)
+        goes.set()
+        self.until(lambda: not request._view.claims())
+        request._catch_up()
+        self.assertEqual(len(request._view.forms), many)
+
+    def test_further_tries_of_what_composes_that_arent_needed(self):
+        """They pass on what there is: a value, and an error that isn't of a death. A flow's request is closed then."""
+        for service, name in self.each():
+            flow = Flow("one")
+            number = flow.promise("number")
+            durable = service.start(flow, name=name)
+            loads, fails = durable[number].compose(f.loading).again(2), durable[number].compose(f.inc).again(2)
+            loads.then(f.number)
+            durable[number].complete(17)
+            self.assertEqual(loads.result(20)["number"], 17)
+            self.assertIsInstance(fails.exception(20), TypeError)
+            self.until(lambda: name not in service.store.ends())
+
+    def test_further_tries_of_a_further_try(self):
+        """They call what that calls."""
+        store = Memory()
+        asks = DurableService(store, 0, functions=f.functions)
+        durable = asks.request("r")
+        one = durable.supply(f.inc, 1)
+        last, composed = one.again().again(), durable.promise().compose(f.loading).again().again()
+        composing = composed.number - 4
+        one.fail(Abandoned("gone")), durable[1].fail(Abandoned("gone"))
+        durable[3].complete(17), durable[composing].fail(Abandoned("gone")), durable[composing + 2].fail(Abandoned("gone"))
+        self.services += [asks, DurableService(store, 1, functions=f.functions, takes_all=True)]
+        self.assertEqual(last.result(20), 2)
+        self.assertEqual(composed.result(20)["number"], 17)
 
     def test_what_a_finish_makes_ready(self):
         """Its process goes on with it at once, also where it has two sources, or came of what was composed."""
@@ -271,6 +376,54 @@ class DurableStages(Case):
         async def main():
             return await service.request().supply(f.load, 1)
         self.assertEqual(asyncio.run(main())["number"], 1)
+
+    def test_an_await_that_is_given_up(self):
+        """It leaves the stage as it is, for whoever else waits, and nothing of itself there."""
+        async def given_up(stage):
+            waits = [asyncio.ensure_future(stage) for _ in range(3)]
+            await asyncio.sleep(0)
+            waits[0].cancel()
+            with self.assertRaises(asyncio.TimeoutError):
+                await asyncio.wait_for(stage, 0.001)
+            many = len(stage._done_callbacks)
+            self.assertTrue(waits[0].cancelled() and not stage.done())
+            stage.complete(17)
+            return many, await waits[1], await waits[2], await stage
+        for service, name in self.each():
+            self.assertEqual(asyncio.run(given_up(service.request(name).promise())), (2, 17, 17, 17))
+
+    def test_an_await_of_what_fails_or_is_cancelled(self):
+        """As asyncio's own futures: also where the stage is settled already."""
+        async def kinds(stages):
+            waits = [asyncio.ensure_future(stage) for stage in stages]
+            await asyncio.sleep(0)
+            stages[0].cancel(), stages[1].fail(CancelledError()), stages[2].fail(TimeoutError("late"))
+            stages[3].fail(PermissionError("no"))
+            told = await asyncio.gather(*waits, return_exceptions=True)
+            return told, await asyncio.gather(*stages, return_exceptions=True)
+        durable = self.service().request("r")
+        for told in asyncio.run(kinds([durable.promise() for _ in range(4)])):
+            self.assertEqual([type(it) for it in told], [asyncio.CancelledError, asyncio.CancelledError,
+                                                         TimeoutError, PermissionError])
+
+    def test_a_step_of_another_flow(self):
+        """It names no stage of the request, whatever stands at its place; the same flow built again does."""
+        def built(*names, name="order"):
+            flow = Flow(name)
+            return flow, [flow.promise(it) for it in names]
+        for service, name in self.each():
+            flow, (order, approval) = built("order", "approval")
+            durable = service.start(flow, 17, name=name)
+            again = built("order", "approval")[1]
+            self.assertEqual(durable[again[1]], durable[approval])
+            for _, steps in (built("order", "fraud score", "approval"), built("order", "fraud score"), built("order"),
+                             built("order", "approval", "more"), built("order", "approval", name="other")):
+                for step in steps:
+                    with self.assertRaises(KeyError) as told:
+                        durable[step]
+                    self.assertIn("is a step of another flow", str(told.exception))
+            with self.assertRaises(KeyError):
+                service.request(name + "?")[order]
 
     def test_a_full_request(self):
         service = DurableService(Memory(), 0, functions=f.functions)

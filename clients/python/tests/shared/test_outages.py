@@ -12,8 +12,16 @@ import unittest.mock
 from case import Case, STORES
 import shared_functions as f
 from cf.service.words import COMPLETE
+from cf.shared.host import Host
 from cf.shared import (Broken, connect, DurableService, Functions, Memory, new_session, RowView,
                        service as shared_service, StoreError, Unknown)
+
+
+class Hasty(Host):
+    """Doesn't rest."""
+
+    def sleep(self, seconds):
+        pass
 
 
 class Outages(Case):
@@ -61,6 +69,11 @@ class Outages(Case):
                     refused.append(puts)
                     raise StoreError("it can only be read")
                 return super().append_groups(puts)
+
+            def beat(self, session):
+                if self.is_shut:
+                    raise StoreError("it can only be read")
+                super().beat(session)
         functions, refused, ran = Functions(), [], []
 
         def function(k, fails):
@@ -84,6 +97,85 @@ class Outages(Case):
             refused.clear()
         self.assertEqual(ran, [17, 17])
         self.assertTrue(outlasting.promise().complete(1))
+
+    def test_a_store_that_takes_nothing_and_then_all(self):
+        """Whichever try is the last that is refused, the value isn't lost."""
+        class Shut(Memory):
+            left = 0
+
+            def refuses(self):
+                self.left -= 1
+                if self.left >= 0:
+                    raise StoreError("it can only be read")
+
+            def append_groups(self, puts):
+                self.refuses()
+                return super().append_groups(puts)
+
+            def beat(self, session):
+                if self.left > 0:
+                    self.refuses()
+                super().beat(session)
+        functions = Functions()
+
+        @functions.function("shuts")
+        def shuts(many):
+            store.left = many
+            return many
+        for many in range(1, 8):
+            store = Shut()
+            service = DurableService(store, 1, functions=functions, lease=1e6)
+            service._host = Hasty()
+            self.assertEqual(service.request("r").supply(shuts, many).result(20), many)
+            service.shutdown()
+
+    def test_a_stop_in_a_silence(self):
+        """What a function came to is put for a while, however long the store was silent before."""
+        silent, goes = threading.Event(), threading.Event()
+
+        class Silent(Memory):
+            many = 0
+
+            def append_groups(self, puts):
+                if silent.is_set():
+                    self.many += 1
+                    raise Unknown("silent")
+                return super().append_groups(puts)
+        store, functions = Silent(), Functions()
+        waits = functions.function("waits")(lambda: goes.wait(20) and "done")
+        with unittest.mock.patch.object(shared_service, "PATIENCE", 0.01):
+            service = DurableService(store, 1, functions=functions)
+            service.request("r").supply(waits)
+            self.until(lambda: service.running())
+        silent.set()
+        service.shutdown(wait=False)
+        goes.set()
+        self.until(lambda: store.many > 5)
+        silent.clear()
+        asks = DurableService(store, 0)
+        self.services.append(asks)
+        self.until(lambda: not service._busy)
+        self.assertEqual(asks.open("r")[0].result(0), "done")
+        service.shutdown()
+
+    def test_a_stop_in_a_silence_that_doesnt_end(self):
+        """What a function came to is given up, and the log says so."""
+        silent = threading.Event()
+
+        class Silent(Memory):
+            def append_groups(self, puts):
+                if silent.is_set():
+                    raise Unknown("silent")
+                return super().append_groups(puts)
+        functions = Functions()
+        last = functions.function("last")(silent.set)
+        with unittest.mock.patch.object(shared_service, "PATIENCE", 0.01):
+            service = DurableService(Silent(), 1, functions=functions)
+            with self.assertLogs("cf.shared", "ERROR") as logs:
+                service.request("r").supply(last)
+                self.assertTrue(silent.wait(20))
+                service.shutdown()
+        self.assertIn("request 'r', stage 0: what its function came to is lost", logs.output[0])
 
     def test_a_server_that_can_only_be_read_for_a_while(self):
         """As in a switch-over of PostgreSQL, while a function ends. For CF_STORES."""
@@ -113,7 +205,7 @@ class Outages(Case):
                 self.assertEqual(outlasting_stage.result(30), "done")
                 cursor.execute("create table if not exists one (k int unique deferrable initially deferred)")
                 twice = service.function("twice",
-                                         transactional=True)(lambda it: it.execute("insert into one values (1), (1)"))
+                                         transactional=True)(lambda it: [it.execute("insert into one values (1), (1)")][1:])
                 self.assertIn("one", str(service.request(self.name).supply(twice).exception(20)))
                 cursor.execute("drop table one")
 

@@ -4,8 +4,10 @@ that somebody changed.
 
     CF_LIBRARY=/path/to/libcf.so python3 clients/python/tests/shared/test_sqlite.py [-v] [TEST ..]
 """
+import contextlib
 import fcntl
 import os
+import shutil
 import sqlite3
 import threading
 import unittest
@@ -13,7 +15,8 @@ import unittest.mock
 from pathlib import Path
 
 from case import Case
-from cf.shared import Broken, connect, Put, sqlite as shared_sqlite, StoreError, tables, Unknown
+from cf.shared import Broken, connect, Put, sqlite as shared_sqlite, StoreError, tables, Timer, Unknown
+from cf.shared.rows import Glance
 
 
 class SQLite(Case):
@@ -170,6 +173,101 @@ class SQLite(Case):
             connect("sqlite:///:memory:")
         self.assertIn("journal_mode is memory", str(refused.exception))
         os.unlink(":memory:-line")
+
+
+class Counted(shared_sqlite.SQLite):
+    """A store whose changes are counted, and in which the one of a number is refused."""
+
+    def __init__(self, path):
+        self.left = -1
+        super().__init__(path, is_unsafe=True)
+
+    def _connected(self):
+        db = super()._connected()
+        db.create_function("cf_counted", 0, self.counted)
+        return db
+
+    def counted(self):
+        self.left -= 1
+        if self.left == 0:
+            raise KeyError("refused")
+        return 0
+
+
+class Halves(Case):
+    """A call of a store does all of its changes or none, whichever of them is refused."""
+
+    TABLES = ["cf_request", "cf_word", "cf_large", "cf_beat", "cf_timer", "cf_glance", "cf_name"]
+
+    def setUp(self):
+        super().setUp()
+        self.first = f"{self.folder.name}/first"
+        store = shared_sqlite.SQLite(self.first, is_unsafe=True)
+        for name in ("open", "ended", "other"):
+            number = store.open(name, "plan").number
+            store.append(Put(name, 0, [(1, 11), (2, 12)], {1: b"one", 2: b"x" * 5000}))
+            store.set_timer(Timer(name, 0, 1.0, b"N"))
+            store.keep_glances([Glance(name, number, 2, "said")])
+            store.name_session(7, "somebody", name)
+        store.end("ended", 2)
+        store.beat(7), store.name_session(7, "somebody")
+        db = sqlite3.connect(self.first)
+        for table in self.TABLES:
+            for act in ("insert", "update", "delete"):
+                db.execute(f"create trigger {table}_{act} before {act} on {table} begin select cf_counted(); end")
+        db.commit(), db.close(), store.close()
+
+    def rows(self, path):
+        with contextlib.closing(sqlite3.connect(path)) as db:
+            return {it: sorted(db.execute(f"select * from {it}").fetchall(), key=repr) for it in self.TABLES}
+
+    def effect(self, store):
+        with store.transaction() as transaction:
+            transaction.connection.execute("insert into cf_beat values (8, 1)")
+            self.assertTrue(transaction.append(Put("open", 2, [(3, 13), (4, 14)], {3: b"x" * 5000})))
+            transaction.commit()
+
+    def test_the_kth_change_of_each_call_is_refused(self):
+        large = {3: b"x" * 5000, 4: b"y" * 5000}
+        calls = {
+            "open": lambda store: store.open("new", "plan"),
+            "a word": lambda store: store.append(Put("open", 2, [(3, 13)], {3: b"three"})),
+            "a large one": lambda store: store.append(Put("open", 2, [(3, 13)], large)),
+            "two": lambda store: store.append(Put("open", 2, [(3, 13), (4, 14)], {3: b"three"})),
+            "two large ones": lambda store: store.append(Put("open", 2, [(3, 13), (4, 14)], large)),
+            "70": lambda store: store.append(Put("open", 2, [(k, k) for k in range(3, 73)], {})),
+            "of two requests": lambda store: store.append_groups([Put("open", 2, [(3, 13)], {}),
+                                                                  Put("other", 2, [(3, 13), (4, 14)], {})]),
+            "that opens": lambda store: store.append(Put("ended", 2, [(3, 13)], {}, 0, True)),
+            "end": lambda store: store.end("open", 2),
+            "reopen": lambda store: store.reopen("ended"),
+            "drop": lambda store: store.drop("ended", 2),
+            "beat": lambda store: store.beat(7),
+            "drop beat": lambda store: store.drop_beat(7),
+            "name": lambda store: store.name_session(7, "another", "open"),
+            "timer": lambda store: store.set_timer(Timer("open", 0, 2.0, b"V1")),
+            "drop timer": lambda store: store.drop_timer("open", 0),
+            "glances": lambda store: store.keep_glances([Glance("open", 1, 2, "else"), Glance("other", 3, 2, "else")]),
+            "effect": self.effect}
+        before, changes = self.rows(self.first), {}
+        for name, call in calls.items():
+            for k in range(1, 100):
+                path = f"{self.folder.name}/{name} {k}"
+                shutil.copy(self.first, path)
+                store = Counted(path)
+                store.left = k
+                try:
+                    call(store)
+                    break
+                except (Unknown, StoreError, sqlite3.Error):
+                    self.assertEqual(self.rows(path), before, f"{name}, change {k}")
+                    store.left = -1
+                    call(store)  # (and the store goes on)
+                    self.assertNotEqual(self.rows(path), before, name)
+                finally:
+                    store.close()
+            changes[name] = k - 1
+        self.assertGreater(min(changes.values()), 0, changes)
 
 
 if __name__ == "__main__":

@@ -10,10 +10,12 @@ import sys
 import threading
 import time
 import unittest
+from concurrent.futures import ThreadPoolExecutor
 from pathlib import Path
 
 from case import Case, CLIENT, STORES
 from cf.shared import Broken, connect, Grouped, new_session, Put, StoreError, Timer, Unknown, Watcher
+from cf.shared.rows import Glance
 
 
 class Stores(Case):
@@ -60,7 +62,8 @@ class Stores(Case):
                 store.close()
 
     def test_news(self):
-        """What was put or opened since a mark is told, and nothing that was closed."""
+        """What was put or opened since a mark is told, and nothing that was closed before; that one was closed behind
+        its last word is told, too, so that who waits for it reads it."""
         for store in self.stores():
             with self.subTest(type(store).__name__):
                 names = [f"{self.name} {k}" for k in range(4)]
@@ -81,7 +84,8 @@ class Stores(Case):
                 store.append(Put(names[2], 0, [(4, 4)], {}))
                 store.end(names[2], 1)
                 told, mark = store.news(mark)
-                self.assertEqual(mine(told), {names[1]: 2, names[3]: 0})
+                closed = {} if hasattr(store, "_txn") else {names[2]: -1}  # (etcd tells it by its absence from all)
+                self.assertEqual(mine(told), {names[1]: 2, names[3]: 0, **closed})
                 store.append(Put(names[1], 2, [(5, 5)], {}))
                 self.assertEqual(mine(store.news(mark)[0]).get(names[1]), 3)
                 for name in names:
@@ -250,12 +254,28 @@ class Stores(Case):
                 closing = threading.Thread(target=closes)
                 closing.start()
                 both.wait()
-                store.append(Put(name, 1, [(2, 12)], {}))
-                store.reopen(name, number)
+                store.append(Put(name, 1, [(2, 12)], {}, number, True))
                 closing.join()
                 self.assertEqual(store.ends().get(name), 2, store)
                 store.drop(name)
             other.close(), store.close()
+
+    def test_a_word_that_opens_a_request_again(self):
+        """It does so in one step with its put, and where its place is taken it does nothing."""
+        for store in self.stores():
+            with self.subTest(type(store).__name__):
+                number = store.open(self.name, "plan").number
+                store.append(Put(self.name, 0, [(1, 11)], {}))
+                for at, words in ((1, [(2, 12)]), (2, [(3, 13), (4, 14)])):
+                    store.end(self.name, at)
+                    self.assertEqual(store.append(Put(self.name, at - 1, words, {}, number, True))[0], (at, at + 10))
+                    self.assertNotIn(self.name, store.ends())
+                    self.assertIsNone(store.append(Put(self.name, at, words, {at + 1: b"x" * 5000}, number, True)))
+                    self.assertEqual(store.ends()[self.name], at + len(words))
+                store.drop(self.name)
+                with self.assertRaises(Broken):
+                    store.append(Put(self.name, 4, [(5, 15)], {}, number, True))
+                store.close()
 
     def test_waiting(self):
         for store in self.stores():
@@ -294,6 +314,103 @@ class Stores(Case):
         Path(self.folder.name, "text").write_text("no database, but a text that is long enough to be one" * 100)
         with self.assertRaises(StoreError):
             connect(f"sqlite:///{self.folder.name}/text")
+
+
+class Drops(Case):
+    """What comes beside a drop in PostgreSQL, whose statements overlap. In the other stores one comes behind another."""
+
+    def setUp(self):
+        super().setUp()
+        self.pool = ThreadPoolExecutor(2)
+        self.addCleanup(self.pool.shutdown)
+
+    def stores(self):
+        for address in STORES:
+            if address.startswith("postgres"):
+                store = connect(address)
+                self.addCleanup(store.close)
+                yield store
+
+    def waits(self, store, call):
+        """A call that another thread has begun, once it is done or waits for a lock."""
+        doing = self.pool.submit(call)
+        self.until(lambda: doing.done() or store._ask("select 1 from pg_locks where not granted and pid in (select pid "
+                                                      "from pg_stat_activity where datname = current_database())"))
+        return doing
+
+    def left(self, store, number):
+        """What is left of a request."""
+        tables = ["cf_word", "cf_timer", "cf_glance", "cf_name"]
+        return {it for it in tables if store._ask(f"select 1 from {it} where request = %s", number)}
+
+    def puts(self, store, name, number):
+        """All that is put for a request."""
+        def in_a_transaction():
+            with store.transaction() as transaction:
+                if not transaction.append(Put(name, 0, [(1, 11)], {}, number)):
+                    raise Broken(name, 0, "the store has no such request")
+                transaction.commit()
+        other = f"{name} / other"
+        its = store.open(other, "plan").number
+        return [lambda: store.append(Put(name, 0, [(1, 11)], {}, number)),
+                lambda: store.append(Put(name, 0, [(1, 11), (2, 12)], {}, number)),
+                lambda: store.append(Put(name, 0, [(1, 11), (2, 12), (3, 13)], {}, number)),
+                lambda: store.append_groups([Put(name, 0, [(1, 11)], {}, number), Put(other, 0, [(1, 11)], {}, its)]),
+                in_a_transaction,
+                lambda: store.set_timer(Timer(name, 1, 1.0, b"N", number)),
+                lambda: store.name_session(7, "somebody", name, number)]
+
+    def test_puts_behind_a_drop_that_isnt_done_yet(self):
+        """Each is told that the request is gone, and leaves nothing behind."""
+        for store in self.stores():
+            for k, _ in enumerate(self.puts(store, self.name, 0)):
+                with self.subTest(k):
+                    number = store.open(self.name, "plan").number
+                    store.set_timer(Timer(self.name, 0, 1.0, b"N", number))
+                    with store.transaction() as held:
+                        held.connection.execute("select 1 from cf_timer where request = %s for update", [number])
+                        dropping = self.waits(store, lambda: store.drop(self.name))
+                        self.assertFalse(dropping.done())
+                        putting = self.pool.submit(self.puts(store, self.name, number)[k])
+                        self.until(lambda: putting.done() or len(store._ask(
+                            "select 1 from pg_locks where not granted")) > 1)
+                    self.assertTrue(dropping.result(20))
+                    with self.assertRaises(Broken) as told:
+                        putting.result(20)
+                    self.assertIn("no such request", str(told.exception))
+                    self.assertEqual(self.left(store, number), set())
+            store.drop(f"{self.name} / other")
+
+    def test_a_glance_behind_a_drop_that_isnt_done_yet(self):
+        """It is left out."""
+        for store in self.stores():
+            number = store.open(self.name, "plan").number
+            store.set_timer(Timer(self.name, 0, 1.0, b"N", number))
+            with store.transaction() as held:
+                held.connection.execute("select 1 from cf_timer where request = %s for update", [number])
+                dropping = self.waits(store, lambda: store.drop(self.name))
+                keeping = self.pool.submit(store.keep_glances, [Glance(self.name, number, 0, "")])
+                self.until(lambda: keeping.done() or len(store._ask("select 1 from pg_locks where not granted")) > 1)
+            self.assertTrue(dropping.result(20))
+            keeping.result(20)
+            self.assertEqual(self.left(store, number), set())
+
+    def test_a_drop_behind_a_put_that_isnt_done_yet(self):
+        """It takes the word along; where it asks for a request of fewer words, it doesn't drop it."""
+        for store in self.stores():
+            for at, is_dropped in ((None, True), (0, False), (1, True)):
+                with self.subTest(at):
+                    number = store.open(self.name, "plan").number
+                    store.end(self.name, 0, number)
+                    with store.transaction() as putting:
+                        self.assertTrue(putting.append(Put(self.name, 0, [(1, 11)], {}, number)))
+                        dropping = self.waits(store, lambda at=at: store.drop(self.name, at))
+                        self.assertFalse(dropping.done())
+                        putting.commit()
+                    self.assertEqual(dropping.result(20), is_dropped)
+                    self.assertEqual(self.left(store, number), set() if is_dropped else {"cf_word"})
+                    if not is_dropped:
+                        store.drop(self.name)
 
 
 class Groups(Case):

@@ -141,6 +141,43 @@ class Transactions(Case):
                     self.assertIn("has ended its transaction" if k > 1 else "", str(error))
                 self.assertEqual(self.service(address).request(f"{self.name} 2").supply(f.inc, 1).result(20), 2)
 
+    def test_a_function_that_any_store_can_call(self):
+        """It has a connection that does statements with `?` for values, and gives their rows, whatever the engine."""
+        for paying, name, address in self.transactional():
+            table = f"paid_{abs(hash(name + address))}"
+
+            def pay(connection, account, table=table):
+                connection.execute(f"create table {table} (account text, cents text)")
+                connection.execute(f"insert into {table} values (?, ?)", (account, "100"))
+                connection.executemany(f"insert into {table} values (?, '100%?')", [("b",), ("c",)])
+                cursor = connection.cursor()
+                cursor.execute(f"select count(*) from {table}")
+                rows = connection.execute(f"select account from {table} where account <> ? order by account", ("b",))
+                connection.execute(f"delete from {table} where account like 'b%'")
+                told = [cursor.fetchone()[0], rows.fetchall(), list(connection.execute(f"select * from {table}"))]
+                connection.execute(f"drop table {table}")
+                return told
+            pay = paying.function(name, transactional=True)(pay)
+            with unittest.mock.patch.object(paying.codec, "write", lambda value: repr(value).encode()), \
+                    unittest.mock.patch.object(paying.codec, "read", lambda given: given.decode()):
+                told = paying.request(name).supply(pay, "a").result(20)
+            self.assertEqual(told, "[3, [('a',), ('c',)], [('a', '100'), ('c', '100%?')]]")
+
+    def test_what_stands_for_values_in_postgresql(self):
+        """`?`, where there are as many as values, or psycopg2's own; a statement without values is as it is."""
+        for address in [it for it in STORES if it.startswith("postgres")]:
+            store = connect(address)
+            with store.transaction() as transaction:
+                db = transaction.connection
+                for statement, values, wanted in (
+                        ("select ?, '?%', \"?\".x from (values (2)) as \"?\"(x) where 7 % 4 = ?", (1, 3), (1, "?%", 2)),
+                        ("select %s::int, '%%'", (1,), (1, "%")), ("select %(a)s::int, '?'", {"a": 1}, (1, "?")),
+                        ("select '?%'", None, ("?%",)), ("select '{\"a\": 1}'::jsonb ? %s", ("a",), (True,))):
+                    self.assertEqual(db.execute(statement, values).fetchone(), wanted)
+                db.execute("select 1")
+                self.assertEqual((db.fetchone(), db.rowcount), ((1,), 1))  # (as psycopg2's cursor, too)
+            store.close()
+
     def test_no_effect_is_for_nothing(self):
         """Where the stage was settled by others, before its transactional function is called or while it runs, no
         effect stands."""
@@ -191,6 +228,25 @@ class Transactions(Case):
         self.assertIsNone(transacting.supply(pay).result(20))
         self.assertEqual((paid_store.effects, len(called)), (["paid"], 2))
         paying.shutdown(), other.shutdown()
+
+
+    def test_a_place_that_a_transaction_loses_in_postgresql(self):
+        """As above: another service puts to the request while its function runs."""
+        for address in [it for it in STORES if it.startswith("postgres")]:
+            paying, other, called = self.service(address), self.service(address), []
+            with paying.store.transaction() as transaction:
+                transaction.connection.execute("create table if not exists lost (name text)")
+                transaction._db.commit()
+
+            def pay(connection, called=called, other=other):
+                called.append(1)
+                connection.execute("insert into lost values (?)", (self.name,))
+                if len(called) == 1:
+                    other.open(self.name).promise()
+            pay = paying.function(self.name, transactional=True)(pay)
+            self.assertIsNone(paying.request(self.name).supply(pay).result(20))
+            rows = paying.store._ask("select count(*) from lost where name = %s", self.name)
+            self.assertEqual((rows, len(called)), ([(1,)], 2))
 
 
 class KilledTransactions(Case):

@@ -16,7 +16,7 @@ from case import Case, EMPTY
 from cf.service import RequestFull
 from cf.service.words import ATTACH, CANCEL, CLAIM, COMPLETE, FAIL, FINISH
 from cf.shared.host import Host
-from cf.shared import Broken, Json, Memory, new_session, Put, RowView, Unknown, Watcher
+from cf.shared import (Broken, DurableService, Json, Memory, new_session, Put, RowView, StoreError, Unknown, Watcher)
 
 
 class Silent(Memory):
@@ -189,6 +189,30 @@ class Views(Case):
                 done, _ = view.act(lambda view: [(FINISH << 56 | view.who << 48, None)])
                 self.assertEqual((done[0].reply[0], view.who, other.who), (1, 0, 1) if lands else (2, 1, 0))
 
+    def test_a_refusal_behind_a_lost_reply(self):
+        """What is refused then may stand. Where it does, that is told; else it isn't known."""
+        for lands in (True, False):
+            with self.subTest(lands=lands):
+                store = Silent(lands)
+                view, append = self.view(store), store.append
+                view._patience = 0.02
+
+                def refuses(put, store=store, append=append):
+                    if store.lands is None:
+                        raise StoreError("it takes nothing now")
+                    append(put)
+                store.append = refuses
+                if lands:
+                    self.assertTrue(self.claim(view))
+                else:
+                    with self.assertRaises(Unknown) as told:
+                        self.claim(view)
+                    self.assertIn("it takes nothing now", str(told.exception))
+                self.assertEqual(len(store.read("r")), int(lands))
+                with self.assertRaises(StoreError) as told:  # (without a lost reply it is a refusal)
+                    view.act(lambda view: [(COMPLETE << 56 | view.who << 48, None)])
+                self.assertNotIsInstance(told.exception, Unknown)
+
     def silent(self):
         raise Unknown("silent")
 
@@ -335,7 +359,86 @@ class Views(Case):
             self.assertEqual(done.stdout, "fits\n")
 
 
+class ByHand(Host):
+    """Its clock is set by hand."""
+
+    def __init__(self):
+        self.now = 0.0
+
+    def monotonic(self):
+        return self.now
+
+    def sleep(self, seconds):
+        self.now += seconds
+
+
 class Watchers(unittest.TestCase):
+    def gone_at(self, watcher, host, session):
+        """When a session is taken for gone, by looks every 2 s."""
+        while not watcher.is_gone(session):
+            host.now += 2
+            watcher.look()
+        return host.now
+
+    def test_a_beat_in_a_slow_answer(self):
+        """The engine takes 8 s to answer, and the last beat comes just before that: it counts from there on."""
+        host, store = ByHand(), Memory()
+        watcher = Watcher(store, 10, host)
+        store.beat(5)
+        watcher.look()
+        host.now = 2.0
+
+        def beats():
+            host.now += 8
+            store.beat(5)
+            return Memory.beats(store)
+        with unittest.mock.patch.object(store, "beats", beats):
+            watcher.look()
+        self.assertEqual(self.gone_at(watcher, host, 5), 22)
+
+    def test_beats_that_were_read_by_others(self):
+        """The time of the question that brought them doesn't count, either."""
+        host, store = ByHand(), Memory()
+        watcher = Watcher(store, 10, host)
+        watcher.look({5: 1})
+        host.now = 10.0
+        watcher.look({5: 1}, 2.0)
+        self.assertEqual(self.gone_at(watcher, host, 5), 20)
+
+    def test_a_word_is_a_sign_of_life(self):
+        """Who puts words is there, as long as he would be by a beat."""
+        host, store = ByHand(), Memory()
+        store.beat(5)
+        watcher = Watcher(store, 10, host)
+        watcher.look()
+        for host.now in (2.0, 4.0, 6.0):
+            watcher.look()
+        host.now = 7.0
+        watcher.heard([5])
+        self.assertEqual(self.gone_at(watcher, host, 5), 19)
+
+    def test_which_words_are_signs_of_life(self):
+        """Those that come behind what was seen, and not those of a row that is read for the first time."""
+        store, host = Memory(), ByHand()
+        asks, other, gone = DurableService(store, 0, lease=1000), new_session(), new_session()
+
+        def puts(session, name):
+            view = RowView(store, store.open(name, EMPTY), session, 60, None, host)
+            view.catch_up()
+            view.act(lambda view: [(ATTACH << 56 | view.who << 48, b'{"name": "p"}')])
+        puts(gone, "old")
+        puts(other, "r")
+        request = asks.open("r")
+        asks.open("old")
+        self.assertFalse({other, gone} & asks._watcher._seen.keys())
+        puts(other, "r")
+        request._catch_up()
+        self.assertIn(other, asks._watcher._seen)
+        puts(gone, "r")
+        request.promise()
+        self.assertIn(gone, asks._watcher._seen)
+        asks.shutdown()
+
     def test_silence_isnt_absence(self):
         """While the store was silent nobody could say that he is there: nobody is thought gone by that."""
         store = Memory()

@@ -6,6 +6,7 @@ doesn't know.
 """
 import threading
 import time
+import traceback
 import unittest
 import unittest.mock
 
@@ -13,7 +14,7 @@ from case import Case, EMPTY
 import shared_functions as f
 from cf.service import Flow
 from cf.service.words import CLAIM
-from cf.shared import connect, DurableService, Functions, Memory
+from cf.shared import connect, DurableService, Functions, Memory, service as shared_service
 
 
 class Working(Case):
@@ -50,6 +51,61 @@ class Working(Case):
         self.until(lambda: len(working._requests) == 100)
         self.assertLess(max(b - a for a, b in zip(times, times[1:])), 1)
         self.assertGreater(len(times), 4)
+
+    def test_who_ends_is_there_until_nothing_runs(self):
+        """A function that takes longer than a lease is finished, also where its process begins nothing more."""
+        functions, goes, store = Functions(), threading.Event(), Memory()
+        waits = functions.function("waits")(lambda: goes.wait(20))
+        ends = DurableService(store, 1, functions=functions, lease=0.1)
+        other = DurableService(store, 0, functions=functions, lease=0.1, takes_all=True)
+        self.services.append(other)
+        stage = ends.request("r").supply(waits)
+        self.until(lambda: ends.running())
+        ends.shutdown(wait=False)
+        before = store.beats()[other.session]
+        self.until(lambda: store.beats()[other.session] > before + 10)  # two leases
+        goes.set()
+        self.assertTrue(other.open("r")[stage.number].result(20))
+        ends.shutdown()
+        self.assertNotIn(ends.session, store.beats())
+
+    def test_functions_that_run_for_long(self):
+        """The log tells of them, with how many threads there are, and `running` does."""
+        functions, goes = Functions(), threading.Event()
+        hangs = functions.function("hangs")(lambda: goes.wait(20))
+        with unittest.mock.patch.object(shared_service, "LONG", 0.05), self.assertLogs("cf.shared", "WARNING") as logs:
+            working = DurableService(Memory(), 7, functions=functions, lease=0.05)
+            self.services.append(working)
+            worked_on = working.request("r")
+            stages = [worked_on.supply(hangs) for _ in range(6)]
+            self.until(lambda: any("6 of 7 threads" in it for it in logs.output))
+            self.assertEqual({it[:3] for it in working.running()}, {("r", k, "hangs") for k in range(6)})
+            goes.set()
+            self.assertTrue(all(it.result(20) for it in stages))
+        said = next(it for it in logs.output if "6 of 7 threads" in it)
+        self.assertRegex(said, r"run a function for longer than 0.05 s: hangs \(request 'r', stage \d\) for 0 s, .*, \.\.$")
+        self.until(lambda: not working.running())
+
+    def test_what_a_function_raises(self):
+        """The log has it once, with where it was raised, also where other stages pass it on."""
+        functions = Functions()
+
+        def deep():
+            raise KeyError("why")
+        fails = functions.function("raises")(lambda *_: deep())
+        composes = functions.function("composes")(lambda request, _: deep())
+        functions.add(f.functions)
+        with self.assertLogs("cf.shared", "WARNING") as logs:
+            working = DurableService(Memory(), 1, functions=functions)
+            self.services.append(working)
+            worked_on = working.request("r")
+            first = worked_on.supply(fails)
+            self.assertIsInstance(first.again(2).then(f.inc).exception(20), KeyError)
+            self.assertIsInstance(worked_on.supply(f.load, 1).compose(composes).exception(20), KeyError)
+        self.assertEqual([it.getMessage() for it in logs.records],
+                         ["request 'r', stage 0: raises has raised", "request 'r', stage 6: composes has raised"])
+        for it in logs.records:
+            self.assertEqual(traceback.extract_tb(it.exc_info[2])[-1].name, "deep")
 
     def test_a_thread_that_cant_be_started(self):
         """What it was to do is done once one can be: stages, timers, and forgetting what is closed."""

@@ -285,8 +285,9 @@ class Board:
         return is_more
 
     def _look_at_sessions(self) -> bool:
+        asked = time.monotonic()
         beats, names, put, now_there = self.store.pulse()
-        self._watcher.look(beats)
+        self._watcher.look(beats, asked)
         ahead = now_there - time.time()
         # (where it moves by less, what was told of times stays as it is, and isn't told again)
         self.ahead = ahead if abs(ahead - self.ahead) > LEAST_AHEAD else self.ahead
