@@ -243,7 +243,7 @@ class StageCore(_Future):
 
 
 class _Machine:
-    """A request of the library, and what its calls are given and tell; one thread at a time has it."""
+    """A request of the library, and what its calls are given and tell; one thread at a time has it, and frees it."""
 
     __slots__ = ("_memory", "numbers", "at", "applied", "told", "count")
 
@@ -283,10 +283,6 @@ class _Machine:
         check(_stage(self.at, stage, self.at + 4 * (_OUTCOME - 3)))
         return Told(*self.numbers[_OUTCOME:_OUTCOME + 5])
 
-    def __del__(self) -> None:
-        if _free is not None and hasattr(self, "at"):
-            _free(self.at)
-
 
 _Begun = Tuple["Stage[Any]", Callable[..., Any], Tuple[Any, ...], Dict[str, Any]]
 _Claimed = Tuple[int, Callable[..., Any], Tuple[Any, ...], Dict[str, Any]]
@@ -316,6 +312,14 @@ class RequestCore(Calls):
         if plan is not None:
             self._note(self._machine.more(), [])
         _forks.add(self)
+
+    def __del__(self) -> None:
+        self._let_go()
+
+    def _let_go(self) -> None:
+        """Nobody has the request any more. (A `__del__` of the machine's own might come before one that asks it.)"""
+        if _free is not None and hasattr(self, "_machine"):
+            _free(self._machine.at)
 
     @property
     def _at(self) -> int:
