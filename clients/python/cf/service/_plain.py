@@ -577,9 +577,18 @@ class RequestCore(Calls):
             self._tell(settled, is_ready if self._chooses else left > 1)
         except BaseException:
             if goes_on:
-                self._works.put(self)  # type: ignore[arg-type]  # nobody else will
+                self._hand_over()
             raise
         return goes_on
+
+    def _hand_over(self) -> None:
+        """Gives somebody else the turn of this thread, which leaves."""
+        if self._chooses:
+            self._works.put(self)  # type: ignore[arg-type]
+            return
+        with self._lock:
+            self._turns -= self._turns > 0
+        self._take_told()
 
     def _stage(self, number: int) -> "Stage[Any]":
         """The future of a stage that may have none yet."""

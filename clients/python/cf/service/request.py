@@ -355,12 +355,18 @@ class Request(RequestCore):
             return self._end(stage, who, THROWS, TypeError(f"{to!r} is no future"))
         if isinstance(to, Stage) and to.request is self and to.number < stage.number:
             return self._end(stage, who, LINKS, to)
-        relay = self._stage(stage.number - 1)
+        relay, goes_on = self._stage(stage.number - 1), False
         self._rename(relay.number, f"relay of {self._title_of(to)}")
         try:
-            return self._end(stage, who, LINKS, relay)
-        finally:
-            self._follow(stage, relay, to)
+            try:
+                goes_on = self._end(stage, who, LINKS, relay)
+            finally:
+                self._follow(stage, relay, to)
+        except BaseException:
+            if goes_on:
+                self._hand_over()
+            raise
+        return goes_on
 
     def _follow(self, stage: "Stage[Any]", relay: "Stage[Any]", to: "concurrent.futures.Future[Any]") -> None:
         """Lets a relay end as the future does, and as a future of others' fails that can't be asked."""
