@@ -97,7 +97,7 @@ class StageCore(_cf.StageCore):
         if self._ended == VALUE:
             return self._given
         try:
-            raise self._error()
+            raise self.request._as_first_raised(self._error())
         finally:
             del self  # the traceback keeps this frame, which is to keep nothing
 

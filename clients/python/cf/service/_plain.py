@@ -195,6 +195,16 @@ class StageCore(_Future):
         """The kind of its outcome."""
         return self.request._rows[self.number].kind
 
+    def result(self, timeout: Optional[float] = None) -> Any:
+        """Waits for its value. Its exception is raised."""
+        error = self.exception(timeout)
+        if error is None:
+            return self._result
+        try:
+            raise self.request._as_first_raised(error)
+        finally:
+            del self, error  # the traceback keeps this frame, which is to keep nothing
+
     @property
     def _condition(self) -> threading.Condition:
         forks, condition = self._guard

@@ -156,7 +156,7 @@ class Request(RequestCore):
         RuntimeError: The stage has a function, and the service is shut down. Nothing is changed."""
 
     _stage_class = Stage
-    __slots__ = ("_describe", "_limits")  # (what histories tell of values, where that isn't what the service chose)
+    __slots__ = ("_describe", "_limits", "_traces")  # (`_describe` where that isn't what the service chose)
     _describe: Describe
 
     @property
