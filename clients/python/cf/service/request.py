@@ -99,6 +99,8 @@ from .words import FAIL, LINKS, RELAY, THROWS, name_of
 if TYPE_CHECKING:
     from typing import Protocol
 
+    from typing_extensions import ParamSpec
+
     from .ending import Ends
     from .flow import Step
 
@@ -137,6 +139,8 @@ if TYPE_CHECKING:
         def is_parents(self) -> bool:
             """Whether what was put isn't there in a child of `fork`."""
 
+    P = ParamSpec("P")
+
 
 T = TypeVar("T")
 R = TypeVar("R", bound="Request")
@@ -166,7 +170,7 @@ class Request(RequestCore):
 
     # Stages.
 
-    def supply(self, fn: Callable[..., T], /, *args: Any, **kwargs: Any) -> "Stage[T]":
+    def supply(self, fn: "Callable[P, T]", /, *args: "P.args", **kwargs: "P.kwargs") -> "Stage[T]":
         """Has a function called by one of the service's threads, or by the loop of a `LoopService`.
 
         Args:
