@@ -935,7 +935,10 @@ static PyObject *Request_times(Request *self, void *Py_UNUSED(which)) {
   return PyBytes_FromStringAndSize((char *)self->times, self->events * (Py_ssize_t)sizeof *self->times);
 }
 
-static PyObject *Request_at(Request *self, void *Py_UNUSED(which)) { return PyLong_FromVoidPtr(self->machine); }
+/* (By this calls by ctypes may make functions ready, which are this process's own.) */
+static PyObject *Request_at(Request *self, void *Py_UNUSED(which)) {
+  return leave_to_parent(self) ? NULL : PyLong_FromVoidPtr(self->machine);
+}
 
 #define FAST(function) (PyCFunction)(void (*)(void))function
 static PyMethodDef request_methods[] = {

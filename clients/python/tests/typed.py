@@ -47,7 +47,9 @@ if TYPE_CHECKING:
         error: Optional[BaseException] = number.exception(timeout=1)
         did: bool = number.complete(3) or number.fail(RequestFull()) or number.cancel() or number.abandon()
         print(both, mixed, told, same, deeper, listed, nothing, one, as_future, executor, lines, error, did)
-        request.supply(load, "x")  # (the arguments of a function aren't checked, as those of Executor.submit)
+        request.supply(load, "x")  # type: ignore[arg-type]
+        request.supply(load)  # type: ignore[call-arg]
+        service.submit(load, number=17, cents=1)  # type: ignore[call-arg]
         number.complete("x")  # type: ignore[arg-type]
         wrong: Stage[str] = number.then(lambda x: x + 1)  # type: ignore[arg-type, return-value]
         number.then(load).then(load)  # type: ignore[arg-type]

@@ -9,6 +9,7 @@ import os
 import threading
 from array import array
 from concurrent.futures import CancelledError
+from types import TracebackType
 from typing import (TYPE_CHECKING, Any, Callable, ClassVar, ContextManager, Dict, List, NoReturn, Optional, Sequence, Tuple,
                     Type, cast)
 
@@ -126,6 +127,7 @@ class Calls:
         _lock: ContextManager[Any]
         _works: Works
         _limits: Limits
+        _traces: Dict[int, Tuple[BaseException, Optional[TracebackType]]]
         _plan: Optional[PlanCore]
         _names: List[str]
         _values: List[Any]
@@ -169,6 +171,13 @@ class Calls:
     def _made(kind: int) -> BaseException:
         """The exception of a stage that ended so, where nobody gave one."""
         return CancelledError() if kind == CANCELLED else TimeoutError() if kind == TIMED_OUT else BadAnswer()
+
+    def _as_first_raised(self, error: BaseException) -> BaseException:
+        """An exception of a stage, with the traceback that it had when it was raised here for the first time. Each raise
+        adds to that, and all that fail by it share it."""
+        if not hasattr(self, "_traces"):
+            self._traces = {}
+        return error.with_traceback(self._traces.setdefault(id(error), (error, error.__traceback__))[1])
 
     def _open(self) -> None:
         """Hands on what is ready in a plan from the start."""

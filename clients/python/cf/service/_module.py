@@ -51,6 +51,17 @@ class RequestCore(_cf.RequestCore, Calls):
         _cf.RequestCore.__init__(self, works, self._stage_class, room, pool, calls, names[:])
         self._title, self._keeps, self._plan = title, keeps, plan
 
+    def _let_go(self) -> None:
+        """Nobody has the request any more, whose machine is freed with it."""
+
+    def _hand_over(self) -> None:
+        """Gives somebody else the turn of this thread, which leaves."""
+        try:
+            self._works.put(self)
+        except BaseException:  # an interrupt: a turn too many does nothing, and one too few leaves a function behind
+            self._works.put(self)
+            raise
+
     def _set_running(self, stage: "StageCore") -> Optional[bool]:
         """Lets nobody cancel it any more but `abandon`. None where it is settled otherwise or runs, else whether it
         does now."""
@@ -86,7 +97,7 @@ class StageCore(_cf.StageCore):
         if self._ended == VALUE:
             return self._given
         try:
-            raise self._error()
+            raise self.request._as_first_raised(self._error())
         finally:
             del self  # the traceback keeps this frame, which is to keep nothing
 

@@ -195,6 +195,16 @@ class StageCore(_Future):
         """The kind of its outcome."""
         return self.request._rows[self.number].kind
 
+    def result(self, timeout: Optional[float] = None) -> Any:
+        """Waits for its value. Its exception is raised."""
+        error = self.exception(timeout)
+        if error is None:
+            return self._result
+        try:
+            raise self.request._as_first_raised(error)
+        finally:
+            del self, error  # the traceback keeps this frame, which is to keep nothing
+
     @property
     def _condition(self) -> threading.Condition:
         forks, condition = self._guard
@@ -243,7 +253,7 @@ class StageCore(_Future):
 
 
 class _Machine:
-    """A request of the library, and what its calls are given and tell; one thread at a time has it."""
+    """A request of the library, and what its calls are given and tell; one thread at a time has it, and frees it."""
 
     __slots__ = ("_memory", "numbers", "at", "applied", "told", "count")
 
@@ -283,10 +293,6 @@ class _Machine:
         check(_stage(self.at, stage, self.at + 4 * (_OUTCOME - 3)))
         return Told(*self.numbers[_OUTCOME:_OUTCOME + 5])
 
-    def __del__(self) -> None:
-        if _free is not None and hasattr(self, "at"):
-            _free(self.at)
-
 
 _Begun = Tuple["Stage[Any]", Callable[..., Any], Tuple[Any, ...], Dict[str, Any]]
 _Claimed = Tuple[int, Callable[..., Any], Tuple[Any, ...], Dict[str, Any]]
@@ -316,6 +322,14 @@ class RequestCore(Calls):
         if plan is not None:
             self._note(self._machine.more(), [])
         _forks.add(self)
+
+    def __del__(self) -> None:
+        self._let_go()
+
+    def _let_go(self) -> None:
+        """Nobody has the request any more. (A `__del__` of the machine's own might come before one that asks it.)"""
+        if _free is not None and hasattr(self, "_machine"):
+            _free(self._machine.at)
 
     @property
     def _at(self) -> int:
@@ -573,9 +587,18 @@ class RequestCore(Calls):
             self._tell(settled, is_ready if self._chooses else left > 1)
         except BaseException:
             if goes_on:
-                self._works.put(self)  # type: ignore[arg-type]  # nobody else will
+                self._hand_over()
             raise
         return goes_on
+
+    def _hand_over(self) -> None:
+        """Gives somebody else the turn of this thread, which leaves."""
+        if self._chooses:
+            self._works.put(self)  # type: ignore[arg-type]
+            return
+        with self._lock:
+            self._turns -= self._turns > 0
+        self._take_told()
 
     def _stage(self, number: int) -> "Stage[Any]":
         """The future of a stage that may have none yet."""

@@ -24,8 +24,8 @@ Hook = Callable[[History], object]
 
 
 class Ends:
-    """Calls a hook with one history after another, on a thread that is there while some are left. So a hook that is
-    slow, or that raises, holds up nothing else. Each call has the context of the place where the request was opened."""
+    """Calls a hook with one history after another, on a thread of its own. So a hook that is slow, or that raises, holds
+    up nothing else. Each call has the context of the place where the request was opened."""
 
     def __init__(self, hook: Hook, name: str) -> None:
         self._hook, self._name = hook, name
@@ -47,6 +47,9 @@ class Ends:
             context.run(self._hook, make())
         except BaseException:
             LOGGER.warning("exception in the hook of an ended request", exc_info=True)
+
+    def __del__(self) -> None:
+        self._aside.close()
 
     def end_all(self) -> None:
         """Ends all requests as they are, and waits until the hook was told."""
@@ -85,6 +88,7 @@ class EndingRequest(ContextRequest):
     def __del__(self) -> None:
         if hasattr(self, "_context"):
             self._tell_end()
+        self._let_go()
 
     def _tell_end(self) -> None:
         """Has the hook told, if it wasn't yet. It raises nothing."""

@@ -14,7 +14,11 @@ from .words import COMPLETE, FIRST_WORKER, MOST_STAGES, THIS_THREAD, RequestFull
 from .works import Here
 
 if TYPE_CHECKING:
+    from typing_extensions import ParamSpec
+
     from .request import Works
+
+    P = ParamSpec("P")
 
 T = TypeVar("T")
 U = TypeVar("U")
@@ -132,7 +136,7 @@ class Flow:
         self._promises.append(step.number)
         return step
 
-    def supply(self, fn: Callable[..., T], /, *args: Any, **kwargs: Any) -> "Step[T]":
+    def supply(self, fn: "Callable[P, T]", /, *args: "P.args", **kwargs: "P.kwargs") -> "Step[T]":
         """A step whose function is called with these arguments as soon as a request is begun."""
         return self._step(Form.SUPPLY, (), functools.partial(fn, *args, **kwargs) if args or kwargs else fn)
 

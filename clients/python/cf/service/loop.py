@@ -4,7 +4,7 @@ import asyncio
 import inspect
 import itertools
 from types import CoroutineType
-from typing import Any, Awaitable, Callable, Optional, Set, Type, TypeVar, cast
+from typing import TYPE_CHECKING, Any, Awaitable, Callable, Optional, Set, Type, TypeVar, cast
 
 from .contexts import ContextRequest, ended, Within
 from .ending import EndingRequest, Ends, Hook
@@ -16,6 +16,11 @@ from .stage import Stage
 from .waits import LoopWakes
 from .watch import Watch, WatchedRequest
 from .words import COMPOSE_FORMS, FIRST_WORKER, GIVES, THROWS
+
+if TYPE_CHECKING:
+    from typing_extensions import ParamSpec
+
+    P = ParamSpec("P")
 
 T = TypeVar("T")
 
@@ -71,7 +76,7 @@ class LoopService:
         return flow._start(self._kind, self._works, name or f"{flow.name} {next(self._requests)}", self,
                            given)._describing(describe)
 
-    def submit(self, fn: Callable[..., T], /, *args: Any, **kwargs: Any) -> "Stage[T]":
+    def submit(self, fn: "Callable[P, T]", /, *args: "P.args", **kwargs: "P.kwargs") -> "Stage[T]":
         """As `Service.submit`: has the loop call a function, or run a coroutine, in a request of one stage. Any thread
         may."""
         return self._kind(self._works, "", 1, self).supply(fn, *args, **kwargs)
@@ -129,7 +134,7 @@ class _LoopWorks(LoopWakes):
     def _await(self, stage: "Stage[Any]", given: Awaitable[Any]) -> None:
         """Lets a coroutine go on, in a copy of this context. The stage keeps its task."""
         running = _Running(self)
-        running.task = self._loop.create_task(self._awaited(stage, given, running))
+        running.task = self._loop.create_task(self._awaited(stage, given, running), name=stage.name)
         stage.add_done_callback(running)
 
     def _cancel(self, task: "asyncio.Task[None]") -> None:

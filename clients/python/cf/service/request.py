@@ -99,6 +99,8 @@ from .words import FAIL, LINKS, RELAY, THROWS, name_of
 if TYPE_CHECKING:
     from typing import Protocol
 
+    from typing_extensions import ParamSpec
+
     from .ending import Ends
     from .flow import Step
 
@@ -137,6 +139,8 @@ if TYPE_CHECKING:
         def is_parents(self) -> bool:
             """Whether what was put isn't there in a child of `fork`."""
 
+    P = ParamSpec("P")
+
 
 T = TypeVar("T")
 R = TypeVar("R", bound="Request")
@@ -156,7 +160,7 @@ class Request(RequestCore):
         RuntimeError: The stage has a function, and the service is shut down. Nothing is changed."""
 
     _stage_class = Stage
-    __slots__ = ("_describe", "_limits")  # (what histories tell of values, where that isn't what the service chose)
+    __slots__ = ("_describe", "_limits", "_traces")  # (`_describe` where that isn't what the service chose)
     _describe: Describe
 
     @property
@@ -166,7 +170,7 @@ class Request(RequestCore):
 
     # Stages.
 
-    def supply(self, fn: Callable[..., T], /, *args: Any, **kwargs: Any) -> "Stage[T]":
+    def supply(self, fn: "Callable[P, T]", /, *args: "P.args", **kwargs: "P.kwargs") -> "Stage[T]":
         """Has a function called by one of the service's threads, or by the loop of a `LoopService`.
 
         Args:
@@ -355,12 +359,18 @@ class Request(RequestCore):
             return self._end(stage, who, THROWS, TypeError(f"{to!r} is no future"))
         if isinstance(to, Stage) and to.request is self and to.number < stage.number:
             return self._end(stage, who, LINKS, to)
-        relay = self._stage(stage.number - 1)
+        relay, goes_on = self._stage(stage.number - 1), False
         self._rename(relay.number, f"relay of {self._title_of(to)}")
         try:
-            return self._end(stage, who, LINKS, relay)
-        finally:
-            self._follow(stage, relay, to)
+            try:
+                goes_on = self._end(stage, who, LINKS, relay)
+            finally:
+                self._follow(stage, relay, to)
+        except BaseException:
+            if goes_on:
+                self._hand_over()
+            raise
+        return goes_on
 
     def _follow(self, stage: "Stage[Any]", relay: "Stage[Any]", to: "concurrent.futures.Future[Any]") -> None:
         """Lets a relay end as the future does, and as a future of others' fails that can't be asked."""

@@ -17,7 +17,11 @@ from .works import Works
 from ..values import Form
 
 if TYPE_CHECKING:
+    from typing_extensions import ParamSpec
+
     from ..shared import Store
+
+    P = ParamSpec("P")
 
 T = TypeVar("T")
 ROOM = 8  # stages that a request has room for at first
@@ -122,7 +126,7 @@ class Service(concurrent.futures.Executor):
         return flow._start(self._kind, self._works, name or f"{flow.name} {next(self._requests)}", self,
                            given)._describing(describe)
 
-    def submit(self, fn: Callable[..., T], /, *args: Any, **kwargs: Any) -> "Stage[T]":
+    def submit(self, fn: "Callable[P, T]", /, *args: "P.args", **kwargs: "P.kwargs") -> "Stage[T]":
         """Has a function called on one of the threads. It is a request of one stage.
 
         Args:

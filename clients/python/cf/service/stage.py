@@ -267,6 +267,9 @@ class Stage(_Future[T]):
         self.request._rename(self.number, name)
         return self
 
+    def __repr__(self) -> str:
+        return f"{super().__repr__()[:-1]} name={self.name!r}>"
+
     def __await__(self) -> Generator[Any, None, T]:
         """Awaits the stage on the running loop. If the awaiting task is cancelled, `cancel` is called on the stage: it
         cancels this stage alone, and not while its function runs. What has a value or an exception is given at once."""

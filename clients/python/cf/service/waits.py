@@ -346,7 +346,10 @@ class Clock(_Alone):
 
 
 class Aside(_Alone):
-    """A thread that does one thing after another, which raise nothing. At most so many wait for it."""
+    """A thread that does one thing after another, which raise nothing. At most so many wait for it. It stays for a while
+    once nothing is left, until this is closed: to start a thread costs more than most of what it does."""
+
+    STAYS = 1.0  # seconds
 
     def __init__(self, name: str, most: int) -> None:
         self._most = most
@@ -355,7 +358,7 @@ class Aside(_Alone):
     def _reset(self) -> None:
         super()._reset()
         self._left: Deque[Callable[[], object]] = deque()
-        self._is_losing = False
+        self._is_losing = self._is_idle = self._is_closed = False
 
     def put(self, act: Callable[[], object], lost: Callable[[], object]) -> None:
         """Has something done. Where too much waits, it isn't, and of several such that come in a row the first is told
@@ -367,30 +370,50 @@ class Aside(_Alone):
                 self._left.append(act)
                 with contextlib.suppress(Exception):
                     self._begin()
+                if self._is_idle:
+                    self._changed.notify_all()
         if is_full and not was_losing:
             lost()
 
+    def close(self) -> None:
+        """The thread ends once nothing is left. More may be put all the same."""
+        with self._changed:
+            self._is_closed = True
+            self._changed.notify_all()
+
     def wait(self, seconds: float) -> bool:
-        """Waits until all is done, at most so long, and says whether it is. What no thread could be started for is done
-        here."""
+        """Waits until all is done and the thread has ended, at most so long, and says whether it is so. What no thread
+        could be started for is done here. It is closed."""
+        self.close()
         with self._changed:
             is_done = self._changed.wait_for(lambda: not self._is_there, seconds)
-            runs = is_done and bool(self._left)
+            runs, thread = is_done and bool(self._left), self._thread
             self._is_there = self._is_there or runs
         if runs:
             self._run()
+        elif is_done and thread is not None:
+            thread.join()
         return is_done
 
     def _run(self) -> None:
-        while True:
-            with self._changed:
-                if not self._left:
-                    self._is_there = False
-                    self._changed.notify_all()
-                    return
-                act = self._left.popleft()
+        act = self._next()
+        while act is not None:
             act()
             del act
+            act = self._next()
+
+    def _next(self) -> Optional[Callable[[], object]]:
+        """What is to be done next, for which the thread waits a while. None where it ends."""
+        with self._changed:
+            if not self._left and not self._is_closed:
+                self._is_idle = True
+                self._changed.wait(self.STAYS)
+                self._is_idle = False
+            if self._left:
+                return self._left.popleft()
+            self._is_there = False
+            self._changed.notify_all()
+            return None
 
 
 class Waited:

@@ -86,7 +86,11 @@ from .glances import read as read_glance
 from .rows import Glance, Put, StoreError, Timer, Transaction, Unknown
 
 if TYPE_CHECKING:
+    from typing_extensions import ParamSpec
+
     from .service import DurableService, Finish
+
+    P = ParamSpec("P")
 
 T = TypeVar("T")
 U = TypeVar("U")
@@ -346,6 +350,10 @@ class DurableRequest:
         self._unshown: Set[int] = set()  # settled stages whose payload couldn't be read yet
         self._describe: Describe = service._describe
 
+    def __repr__(self) -> str:
+        is_closed = ", closed" if self.is_closed else ""
+        return f"<{type(self).__name__} {self.name!r} of {len(self._view.told)} stages{is_closed}>"
+
     @property
     def seen(self) -> int:
         """How many words of it this process has read."""
@@ -353,7 +361,7 @@ class DurableRequest:
 
     # Stages.
 
-    def supply(self, fn: Callable[..., T], /, *args: Any, **kwargs: Any) -> "DurableStage[T]":
+    def supply(self, fn: "Callable[P, T]", /, *args: "P.args", **kwargs: "P.kwargs") -> "DurableStage[T]":
         """Has a registered function called by any process that works on the request.
 
         Args:

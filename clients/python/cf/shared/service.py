@@ -9,7 +9,7 @@ import os
 import socket
 import threading
 import weakref
-from typing import Any, Callable, Dict, List, NamedTuple, Optional, Sequence, Set, Tuple, TypeVar
+from typing import TYPE_CHECKING, Any, Callable, Dict, List, NamedTuple, Optional, Sequence, Set, Tuple, TypeVar
 
 from ..service.ending import Ends, Hook
 from ..service.flow import Flow
@@ -27,6 +27,11 @@ from .plans import are_alike, text_of
 from .request import Composing, DurableRequest, DurableStage
 from .rows import (COUNT_BITS, Broken, Glance, Gone, Grouped, Opened, Store, StoreError, Timer, Transaction, Unknown,
                    sure)
+
+if TYPE_CHECKING:
+    from typing_extensions import ParamSpec
+
+    P = ParamSpec("P")
 
 T = TypeVar("T")
 LOGGER = logging.getLogger("cf.shared")
@@ -229,7 +234,7 @@ class DurableService(concurrent.futures.Executor):
             raise KeyError(name)
         return self._kept(self._made(found))
 
-    def submit(self, fn: Callable[..., T], /, *args: Any, **kwargs: Any) -> "DurableStage[T]":
+    def submit(self, fn: "Callable[P, T]", /, *args: "P.args", **kwargs: "P.kwargs") -> "DurableStage[T]":
         """Has a registered function called. It is a request of one stage, which is closed once that is settled.
 
         Args:

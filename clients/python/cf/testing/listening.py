@@ -95,10 +95,22 @@ class Listening(State):
         self._news.append(self._put(task))
 
     def _put(self, task: Task) -> Place:
+        """There is a function more to claim, and a turn more to do so. Whoever has a turn claims any of its request."""
         place = self._place(task.stage)
+        if self.has_too_few_turns(place[0]):
+            self.touch(("turns", place[0]), CHANGES)
         self.ready_tasks[place] = task
+        self.turns[place[0]] = self.turns.get(place[0], 0) + 1
         self.touch(place, CHANGES)
         return place
+
+    def has_too_few_turns(self, request: int) -> bool:
+        """Whether some function of a request can't be claimed yet: the thread that has its turn calls callbacks first."""
+        return self.turns.get(request, 0) < sum(place[0] == request for place in self.ready_tasks)
+
+    def _give_turns(self, request: int, many: int) -> None:
+        self.turns[request] += many
+        self.touch(("turns", request), CHANGES)
 
     def read(self, stage: "Stage[Any]") -> None:
         """As `Watch.read`."""

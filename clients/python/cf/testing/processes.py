@@ -203,8 +203,12 @@ class WorldStage(DurableStage[T]):
             host.world.run.wait_for(self.name, (host.process.thing,), self.is_shown, timeout)
 
     def _invoke_callbacks(self) -> None:
-        run = self._host().world.run
+        """Each call is a move of its own: what the stage came to stands before, so others may have gone on by it."""
+        host = self._host()
+        run = host.world.run
         for callback in self._done_callbacks:
+            if host.world.flight_of(host.process) is not None:
+                run.wait_for(f"calls back {name_of(callback)}", (), _always, None, OF_CALLS, lambda: (0,))
             run.user(functools.partial(callback, self), name_of(callback))
 
 

@@ -61,7 +61,7 @@ class Run(Listening):
         for place in [place for place, task in self.ready_tasks.items() if is_settled(task.stage)]:
             del self.ready_tasks[place]
         if self.workers_free():
-            keys += [("begin", *place) for place in self.ready_tasks]
+            keys += [("begin", *place) for place in self.ready_tasks if self.turns[place[0]]]
         keys += [("come", arrival.number, k) for arrival in self.outside if arrival.is_open
                  for k in range(len(arrival.ways))]
         keys += [("by", number, self.called[number]) for number, (_, calls) in enumerate(self.callers)
@@ -126,7 +126,9 @@ class Run(Listening):
         return footprint
 
     def _do_begin(self, request: int, stage: int) -> None:
+        self.touch(("turns", request), CHANGES if self.has_too_few_turns(request) else READS)
         task = self.ready_tasks.pop((request, stage))
+        self.turns[request] -= 1
         if self.settings.workers:
             self.touch(WORKERS, CHANGES)
             self.weight *= self.workers_free()
@@ -171,10 +173,10 @@ class Run(Listening):
         following = task.finish()
         if following is None:
             return
+        place = self._put(following)
         if len(self.tails) > tails:
-            self.tails[tails].following = following
-        else:
-            self._put(following)
+            self.tails[tails].turn_of = place[0]
+            self._give_turns(place[0], -1)
 
     def _do_tell(self, request: int, stage: int, number: int) -> None:
         tail = next(tail for tail in self.tails if tail.calls[0][0][1:] == (request, stage, number))
@@ -186,8 +188,8 @@ class Run(Listening):
         self._call_back(call)
         if not tail.calls:
             self.tails.remove(tail)
-            if tail.following is not None:
-                self._put(tail.following)
+            if tail.turn_of is not None:
+                self._give_turns(tail.turn_of, 1)
 
     def _do_come(self, number: int, way: int) -> None:
         self.touch_outside(number, True)

@@ -64,12 +64,12 @@ class Flight:
 
 
 class Tail:
-    """The callbacks of what one event settled, which one thread calls, and the stage with which it goes on then."""
+    """The callbacks of what one event settled, which one thread calls before it goes on."""
 
     def __init__(self, calls: "List[Tuple[Move, Callback]]") -> None:
         self.calls = calls
         self.thing: Thing = ("tail", *calls[0][0][1:])
-        self.following: Optional[Task] = None
+        self.turn_of: Optional[int] = None  # the request of which this thread has a turn, which it uses then
         self.clock: Optional[int] = None  # the request whose clock calls them
 
 
@@ -92,6 +92,7 @@ class State:
         self.settings, self._watched = settings, watched
         self.requests: List[Request] = []
         self.ready_tasks: Dict[Place, Task] = {}
+        self.turns: Dict[int, int] = {}  # of each request: how many functions may be claimed now
         self.flights: Dict[Thing, Flight] = {}
         self.tails: List[Tail] = []
         self.outside: List[Arrival[Any]] = []

@@ -23,6 +23,15 @@ class Callbacks(Case):
         self.assertEqual((called_back, len(logs.output)), ([calling_back], 2))
         self.assertIn("Oops", logs.output[0])
 
+    def test_callbacks_are_called_in_their_order(self):
+        for many in range(1, 6):
+            calling_back, called_back = self.request.promise(), []
+            for k in range(many):
+                calling_back.add_done_callback(lambda _, k=k: called_back.append(k))
+            calling_back.complete(1)
+            calling_back.add_done_callback(lambda _: called_back.append(many))
+            self.assertEqual(called_back, list(range(many + 1)))
+
     def test_base_exceptions_of_callbacks_lose_nobody(self):
         """They come up in whoever settled the stage, and the service goes on."""
         calling_back, called_back = self.request.promise(), []

@@ -5,6 +5,7 @@
 """
 import asyncio
 import contextvars
+import functools
 import gc
 import logging
 import threading
@@ -12,7 +13,8 @@ import unittest
 import unittest.mock
 
 from case import fails, inc, no_thread, program, starting, until, Wild
-from cf.service import describe_types, ending, Flow, LoopService, Service
+from cf.service import describe_types, ending, Flow, LoopService, Service, waits
+from cf.service._core import IS_MODULE
 
 tenant = contextvars.ContextVar("tenant", default="-")
 
@@ -61,6 +63,17 @@ class Ends(unittest.TestCase):
         self.service.start(flow, name="of a flow")
         self.assertTrue(until(lambda: gc.collect() >= 0 and len(self.told) == 3))
         self.assertEqual(sorted(history.name for history in self.told), ["a", "inc", "of a flow"])
+
+    @unittest.skipIf(IS_MODULE, "of ctypes")
+    def test_one_is_told_whose_machine_is_collected_with_it(self):
+        """In whatever order the collector goes through a cycle: here a machine comes before the request that has it."""
+        requests = [self.service.request(name) for name in "ab"]
+        requests[0]._machine, requests[1]._machine = requests[1]._machine, requests[0]._machine
+        for request in requests:
+            request.promise().add_done_callback(functools.partial(id, request))
+        del requests, request
+        self.assertTrue(until(lambda: gc.collect() >= 0 and len(self.told) == 2))
+        self.names("a", "b")
 
     def test_shutdown_tells_what_is_open(self):
         kept = [self.service.request(str(k)) for k in range(3)]
@@ -116,17 +129,28 @@ class Ends(unittest.TestCase):
         gate.set()
         self.assertIn("takes longer", logs.output[0])
 
+    def test_one_thread_tells_of_many_and_ends_with_its_service(self):
+        """It stays where nothing is left for a moment, and keeps neither a shutdown nor the end of a service waiting."""
+        threads = []
+        with unittest.mock.patch.object(waits.Aside, "STAYS", 100.0):
+            for ends in (Service.shutdown, lambda _: None):
+                threads.clear()
+                service = Service(1, on_end=lambda _: threads.append(threading.current_thread()))
+                for k in range(1, 6):
+                    service.request(str(k)).end()
+                    self.assertTrue(until(lambda: len(threads) == k and service._works.ends._aside._is_idle))
+                ends(service)
+                del service
+                threads[0].join(20)
+                self.assertEqual((len(set(threads)), threads[0].is_alive()), (1, False))
+
     def test_no_thread_can_be_started(self):
-        stage = self.service.submit(inc, 1)
-        self.assertEqual(stage.result(20), 2)
-        del stage
-        self.assertTrue(until(lambda: self.told and not self.service._works.ends._aside._is_there))
         with starting(no_thread):
             self.service.request("a").end()
-            self.assertEqual(len(self.told), 1)
+            self.assertEqual(self.told, [])
             self.service.request("b").end()
             self.service._works.ends.end_all()
-            self.assertEqual([history.name for history in self.told], ["inc", "a", "b"])
+            self.assertEqual([history.name for history in self.told], ["a", "b"])
 
     def test_what_is_told_is_described(self):
         with Service(1, on_end=self.told.append, describe=describe_types) as service:

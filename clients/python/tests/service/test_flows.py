@@ -45,6 +45,16 @@ class Flows(Case):
         self.assertIsInstance(begun[all_].exception(0), Oops)
         self.assertFalse(flow.run()[start].done())
 
+    def test_a_step_that_runs_is_not_cancelled(self):
+        """Nobody asks for its stage before it runs."""
+        begun, opens, flow = threading.Event(), threading.Event(), Flow()
+        step = flow.supply(lambda: begun.set() or opens.wait(20))
+        request = self.service.start(flow)
+        self.assertTrue(begun.wait(20))
+        self.assertEqual((request[step].running(), request[step].cancel()), (True, False))
+        opens.set()
+        self.assertTrue(request[step].result(20))
+
     def test_rules(self):
         flow, number, *_ = self.flow()
         with self.assertRaises(ValueError):

@@ -31,6 +31,17 @@ class Histories(Case):
                                                     r"1 failed: 1 total by Oops\('x'\); 0 open$")
         self.assertEqual(self.service.submit.__name__, "submit")
 
+    def test_each_word_of_what_is_gathered(self):
+        """It is counted with its time, also of what comes later."""
+        recorded = self.service.request("r")
+        promises = [recorded.promise() for _ in range(5)]
+        recorded.all_of(*promises), recorded.first_of(*promises)
+        self.assertEqual((recorded._events, len(recorded.history().words)), (13, 13))
+        promises[0].complete(1)
+        history = recorded.history()
+        self.assertEqual((recorded._events, len(history.entries())), (14, 14))
+        self.assertEqual(len(bytes(recorded._times)), 8 * 14)
+
     def test_who_settles_what_the_machine_does(self):
         """A relay within the request is settled by the relay, and what is late or run by nobody by the clock."""
         recorded, made = self.service.request("r"), []

@@ -250,6 +250,22 @@ class Loops(unittest.TestCase):
                              ["inc", "inc", "Thing", "inc"])
         asyncio.run(main())
 
+    def test_what_waits_by_asyncio_takes_stages_as_tasks(self):
+        """And their tasks and they themselves tell their names."""
+        async def named():
+            return asyncio.current_task().get_name()
+
+        async def main():
+            on_loop = LoopService(asyncio.get_running_loop()).request()
+            stages = [on_loop.supply(inc, k).named(f"stage {k}") for k in range(3)]
+            done, left = await asyncio.wait([asyncio.ensure_future(stage) for stage in stages])
+            self.assertEqual((sorted(task.result() for task in done), left), ([1, 2, 3], set()))
+            self.assertEqual([await it for it in asyncio.as_completed(stages)].count(2), 1)
+            self.assertRegex(repr(stages[1]), r"^<Stage at 0x[0-9a-f]+ state=finished returned int name='stage 1'>$")
+            self.assertRegex(repr(on_loop.promise("a\n\x1bb")), r"state=pending name='a\\n\\x1bb'>$")
+            self.assertEqual(await on_loop.supply(named).named("load"), "load")
+        asyncio.run(main())
+
     def test_interrupts_and_exits_leave_the_loop(self):
         """As those of asyncio's tasks do. The stage has it, and what is behind it is run all the same, once the loop
         goes on."""

@@ -66,5 +66,20 @@ class RefusedMemory(unittest.TestCase):
         self.assertEqual((out, status), ("True\n", 0), err)
 
 
+class RoomOfMemory(unittest.TestCase):
+    def test_there_is_room_for_all_that_a_call_tells(self):
+        """Python looks behind each piece of memory when that is freed, as at the end."""
+        out, err, status = program("""
+            with Service(1) as service:
+                request = service.request()
+                promise = request.promise()
+                every = [request.all_of(promise) for _ in range(300)]
+                promise.complete(1)
+                print(all(it.done() for it in every))
+            del request, promise, every, service
+        """, PYTHONMALLOC="debug")
+        self.assertEqual((out, status), ("True\n", 0), err)
+
+
 if __name__ == "__main__":
     unittest.main()

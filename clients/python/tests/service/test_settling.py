@@ -3,13 +3,15 @@
 
     CF_LIBRARY=/path/to/libcf.so python3 clients/python/tests/service/test_settling.py [-v] [TEST ..]
 """
+import asyncio
 import concurrent.futures
 import functools
 import threading
+import traceback
 import unittest
 from concurrent.futures import InvalidStateError
 
-from case import Case, CoreCase, inc, leaves, Oops
+from case import Case, CoreCase, fails, inc, leaves, Oops
 from cf.service._core import IS_MODULE
 from cf.testing import orders
 
@@ -94,6 +96,25 @@ class Settling(Case):
                 wrong.fail(error)
         self.assertFalse(wrong.done())
         self.assertTrue(wrong.fail(ValueError("x")))
+
+    def test_an_exception_that_is_raised_often_has_one_traceback(self):
+        """All stages that fail by it have the same, and none shows what was raised behind another."""
+        failed = self.request.supply(fails)
+        stages = [failed, *[failed.then(inc) for _ in range(5)], self.service.request().adopt(failed)]
+
+        async def main(stage):
+            await stage
+
+        def frames_of(raises):
+            try:
+                raises()
+            except Oops as error:
+                return [frame.name for frame in traceback.extract_tb(error.__traceback__)]
+        for stage in stages:
+            for raises in (stage.result, lambda: asyncio.run(main(stage))):
+                first, *others = [frames_of(raises) for _ in range(3)]
+                self.assertEqual(others, [first] * 2)
+                self.assertEqual((first.count("fails"), first[0]), (1, "frames_of"))
 
     def test_promise_of_somebody_else(self):
         settling = self.request.promise()

@@ -16,7 +16,7 @@ import unittest.mock
 
 from case import Case, fails, inc, leaves, no_thread, starting, until
 import cf
-from cf.service import _machine, Flow
+from cf.service import _machine, Flow, Service, waits
 from cf.service.words import CLIENT, CLOCK, FAIL_AS, FAIL_BADLY
 
 
@@ -286,6 +286,22 @@ class Causes(Case):
         self.request._ring(max(self.request._limits))
         self.assertIs(first.exception(0), early.exception(0))
 
+    def test_a_slow_function_behind_a_limit_holds_up_no_other_limit(self):
+        """Time passes as the test says."""
+        passing, opens = waits.By(), threading.Event()
+        passing.now = lambda: passing.moment
+        passing.moment = 0
+        with unittest.mock.patch.object(waits, "by", passing), Service(2) as service:
+            timed, clock = service.request(), service._works.clock
+            slow = timed.promise().complete_on_timeout(1, 1000).then(lambda _: opens.wait(5))
+            later = [it.promise().complete_on_timeout(2, 1001) for it in (timed, service.request())]
+            passing.moment = 1002 * 10**9
+            with clock._changed:
+                clock._changed.notify_all()
+            self.assertEqual(([it.result(20) for it in later], slow.done()), ([2, 2], False))
+            opens.set()
+            self.assertTrue(slow.result(20))
+
     def test_a_bad_answer_is_told_as_one(self):
         timed, bad = self.service.request("r"), cf.BadAnswer("x")
         late_stage = timed.promise("p")
@@ -343,8 +359,10 @@ class Causes(Case):
         flow = Flow()
         promises = [flow.promise() for _ in range(5)]
         after, told_late = flow.all_of(*promises), flow.first_of(*promises[3:]).recover(lambda error: error)
+        of_the_second = flow.first_of(promises[0], promises[3])  # (the first one is open then)
         timed = self.service.start(flow)
         errors = [timed[step].or_timeout(0.01).exception(20) for step in promises[3:]]
+        self.assertIs(timed[of_the_second].exception(20), errors[0])
         for step in promises[:3]:
             self.assertTrue(timed[step].complete(1))
         self.assertIs(timed[after].exception(20), errors[0])

@@ -17,6 +17,12 @@ from cf.shared import Abandoned, Broken, DurableService, Functions, Memory
 
 
 class DurableStages(Case):
+    def test_a_request_tells_its_name(self):
+        for service, name in self.each():
+            durable = service.request(name)
+            durable.promise()
+            self.assertEqual(repr(durable), f"<DurableRequest {name!r} of 1 stages>")
+
     def test_forms(self):
         for service, name in self.each():
             durable = service.request(name)

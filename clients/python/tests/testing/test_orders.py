@@ -411,6 +411,67 @@ class LeftOut(unittest.TestCase):
         self.assertTrue(orders(test).failed)
 
 
+class Turns(unittest.TestCase):
+    """A function behind a stage may be called before that one's callbacks, by a thread that comes for another function of
+    the request."""
+
+    def ordered(self, beside):
+        def test(world):
+            log, request = [], world.service.request("order 17")
+            paid = request.supply(lambda: 4900).named("pay")
+            packed = paid.then(lambda _: log.append("packed")).named("pack")
+            paid.add_done_callback(lambda _: log.append("paid"))
+            world.at_end(lambda: seen.add(tuple(log)) or True, "seen")
+            return [packed, *beside(request)]
+
+        seens = []
+        for reduce in (True, False):
+            seen = set()
+            report = orders(test, most=10**6, seconds=60, reduce=reduce)
+            self.assertEqual((report.whole, list(map(str, report.failed))), (True, []))
+            seens.append(seen)
+        self.assertEqual(seens[0], seens[1])
+        return seens[0]
+
+    def test_alone(self):
+        """Its own thread calls the callbacks first."""
+        self.assertEqual(self.ordered(lambda request: []), {("paid", "packed")})
+        self.assertEqual(self.ordered(lambda request: [request.promise().complete_on_timeout(1, 1)]), {("paid", "packed")})
+
+    def test_beside_a_function(self):
+        self.assertEqual(self.ordered(lambda request: [request.supply(lambda: None)]),
+                         {("paid", "packed"), ("packed", "paid")})
+
+    def test_beside_one_that_is_ready_later(self):
+        def beside(request):
+            return [request.promise().complete_on_timeout(1, 1).then(lambda _: None)]
+        self.assertEqual(self.ordered(beside), {("paid", "packed"), ("packed", "paid")})
+
+    def test_beside_one_that_was_cancelled(self):
+        """A thread comes for it all the same."""
+        def beside(request):
+            request.supply(lambda: None).cancel()
+            return []
+        self.assertEqual(self.ordered(beside), {("paid", "packed"), ("packed", "paid")})
+
+    def test_each_turn_claims_one(self):
+        """Where another thread takes the function behind a stage, the one that settled that stage takes the other's."""
+        def test(world):
+            claimed, request = [], world.service.request()
+            first = request.supply(pure(lambda: None)).named("first")
+            for name in ("behind", "other"):
+                stage = first.then(lambda _: None) if name == "behind" else request.supply(lambda: None)
+                stage.named(name)
+            first.add_done_callback(lambda _: claimed.append([it.running() for it in stages]))
+            stages = [request._stage(number) for number in (1, 2)]
+            world.at_end(lambda: seen.update(map(tuple, claimed)) or True, "seen")
+            return stages
+
+        seen = set()
+        self.assertTrue(orders(test, reduce=False).whole)
+        self.assertEqual(seen, {(False, False), (False, True), (True, False)})
+
+
 class Points(unittest.TestCase):
     def test_fine_lets_others_go_on_at_each_change(self):
         def test(world):

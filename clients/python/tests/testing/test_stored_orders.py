@@ -72,6 +72,27 @@ class Failures(unittest.TestCase):
         self.assertTrue(any("worker 2" in line for line in self.failure.histories[0].lines()))
 
 
+class Callbacks(unittest.TestCase):
+    def test_a_function_behind_a_stage_beside_its_callback(self):
+        """Another process may call that before, or this one has its claim by then."""
+        def test(world):
+            log, functions = [], Functions()
+            pay = functions.function("pay")(lambda: log.append("pay"))
+            pack = functions.function("pack")(lambda _: log.append("pack"))
+            store = world.store()
+            one, _ = store.worker("one", functions), store.worker("two", functions)
+            paid = one.request("order 17").supply(pay)
+            paid.then(pack)
+            paid.add_done_callback(lambda _: log.append("paid"))
+            world.at_end(lambda: seen.add(tuple(log)) or True, "seen")
+
+        for how in ({}, {"reduce": False}):
+            seen = set()
+            report = orders(test, **ENOUGH, **how)
+            self.assertEqual((report.whole, list(map(str, report.failed))), (True, []))
+            self.assertEqual(seen, {("pay", "paid", "pack"), ("pay", "pack", "paid")})
+
+
 def tried(call, promise="promise", **faults):
     """What a client's call comes to in all orders, with what stands then: the end of each order."""
     def test(world):
