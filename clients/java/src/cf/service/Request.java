@@ -55,9 +55,9 @@ public final class Request implements AutoCloseable {
      * aren't final but `goesOn`, and of each stage `function`, `dependents`, `unwritten`, `more` and the rows of links in
      * that. `told`, `more` and `next` are volatile, so they can be read without it. No thread holds the locks of two
      * requests. Under the lock no function, callback or executor is called, and nobody is woken. A flight recording takes
-     * words there. The one method of a user's that is called there is `toString` of an exception that is wrapped for the
-     * first time: the constructor of CompletionException asks for its text (Faults.wrapping). Below the lock there is one
-     * more, that of the list of Freed, around a few assignments.
+     * words there. No `toString` of a user's is called there either: an exception that wraps another one asks for its text,
+     * so it is made once the lock is free (Fault.error). Below the lock there is one more, that of the list of Freed, around
+     * a few assignments.
      *
      * An operation (complete, fail, cancel, attach, work, relayed, passes) goes like this:
      * 1. checkDepth throws where the stack is nearly full. Nothing was done then.
@@ -160,6 +160,7 @@ public final class Request implements AutoCloseable {
     private Object[] values;
     private int valueCount;
     private Faults faults;
+    private Sources sources;
     private long thread = Long.MIN_VALUE;
     private long[] threads;
     private String[] threadNames = new String[1];
@@ -183,13 +184,17 @@ public final class Request implements AutoCloseable {
     private volatile Request next;
 
     Request(Service service, String name, Flow flow, int room, Describe describe) {
+        this(service, name, flow, room, describe, service.captured());
+    }
+
+    private Request(Service service, String name, Flow flow, int room, Describe describe, Executor within) {
         this.service = service;
         watch = service.watch;
         this.name = name;
         this.flow = flow;
         single = false;
         this.describe = describe;
-        within = service.captured();
+        this.within = within;
         machine = new Machine(flow == null ? null : flow.plan(), room);
         values = flow != null ? new Object[flow.count()] : NO_VALUES;
         stages = flow == null && room > 0 ? new Stage<?>[room] : NO_STAGES;
@@ -369,14 +374,15 @@ public final class Request implements AutoCloseable {
             throw new IllegalArgumentException("the step is of another flow");
         }
         Stage<U> stage;
-        boolean rests;
+        boolean isShown, rests;
         synchronized (lock()) {
             stage = (Stage<U>) at(step.number());
-            if (stage.told == null) {
-                shown(stage);
-            }
+            isShown = stage.told == null && isShown(stage);
             isAsked = true;
             rests = watch == null && mayRest();
+        }
+        if (isShown) {
+            stage.inherit(); // Nobody else has it.
         }
         if (rests) {
             machine.over();
@@ -384,13 +390,14 @@ public final class Request implements AutoCloseable {
         return stage;
     }
 
-    /** A stage of a flow that is asked for once it is settled. */
-    private void shown(Stage<?> stage) {
-        if (machine.isSettled(stage.number)) {
+    /** Whether this is a stage of a flow that was settled before it is asked for, which is told then. The lock is held. */
+    private boolean isShown(Stage<?> stage) {
+        boolean isSettled = machine.isSettled(stage.number);
+        if (isSettled) {
             stages[stage.number] = null;
             stage.tells(told(machine.told(0), machine.number(0)));
-            stage.inherit();
         }
+        return isSettled;
     }
 
     /** Lets stages for which there is no place go to a further request, {@link #next}, instead of an exception. This one is given back. */
@@ -758,7 +765,7 @@ public final class Request implements AutoCloseable {
                 throw new RequestFullException(name);
             }
             if (next == null) {
-                next = new Request(service, name + ", further", null, 32, describe).goesOn();
+                next = new Request(service, name + ", further", null, 32, describe, within).goesOn();
             }
             return next;
         }
@@ -1049,8 +1056,8 @@ public final class Request implements AutoCloseable {
                 return Words.failAs(RELAY, relay, Words.TIMED_OUT);
             }
             // A cancellation that says more keeps it.
-            boolean isPlain = !fault.isCoded && fault.error.getClass() == CancellationException.class && fault.error.getMessage() == null;
-            return isPlain ? Words.cancel(RELAY, relay) : Words.fail(RELAY, relay, code(fault.error));
+            boolean isPlain = !fault.isCoded && fault.error().getClass() == CancellationException.class && fault.error().getMessage() == null;
+            return isPlain ? Words.cancel(RELAY, relay) : Words.fail(RELAY, relay, code(fault.error()));
         }
         return Words.complete(RELAY, relay, number(told == Stage.NIL ? null : told));
     }
@@ -1095,9 +1102,16 @@ public final class Request implements AutoCloseable {
     }
 
     private void relayed(Stage<?> relay, Object told, boolean wraps, News news) {
+        if (told instanceof Fault) {
+            ((Fault) told).error(); // Before the lock is held.
+        }
         synchronized (lock()) {
             int who = who();
-            change(relayWord(relay.number, told, wraps), who, news);
+            long word = relayWord(relay.number, told, wraps);
+            if (relay.told == null && told instanceof Fault && Words.kind(word) != Words.FAIL) {
+                faults().stands(relay.number, Words.kind(word) == Words.CANCEL ? History.CANCELLED : History.TIMED_OUT, 0, (Fault) told);
+            }
+            change(word, who, news);
         }
     }
 
@@ -1204,14 +1218,14 @@ public final class Request implements AutoCloseable {
     /** Of a stage whose number is in the lowest 12 bits. */
     private void settled(int what, int number, News news) {
         int at = what & 0xfff;
-        if (watch != null) {
-            Object told = told(what, number);
-            boolean isFault = told instanceof Fault;
-            watch.settled(this, at, isFault || told == Stage.NIL ? null : told, isFault ? ((Fault) told).error : null);
-        }
         Stage<?> stage = at < stages.length ? stages[at] : null;
         if (stage == null && Recorder.hasStages()) {
             stage = at(at);
+        }
+        Object told = told(what, number);
+        if (watch != null) {
+            watch.settled(this, at, told instanceof Fault || told == Stage.NIL ? null : told, told instanceof Fault ? ((Fault) told).raw() : null,
+                    told instanceof Fault && ((Fault) told).isWrapped());
         }
         if (stage != null) {
             stages[at] = null;
@@ -1219,14 +1233,36 @@ public final class Request implements AutoCloseable {
                 unwritten -= stage.more.unwritten;
                 stage.more.limits = null;
             }
-            stage.tells(told(what, number));
+            stage.tells(told);
             news.settled(stage);
         }
     }
 
     private Object told(int what, int number) {
-        int kind = what >>> 16 & 0xf;
-        return kind != History.GIVES ? fault(kind, (what >>> 20 & 1) != 0, number) : (what >>> 21 & 1) == 0 ? Stage.NIL : values[number];
+        int kind = what >>> 16 & 0xf, at = what & 0xfff;
+        if (kind == History.GIVES) {
+            return (what >>> 21 & 1) == 0 ? Stage.NIL : values[number];
+        }
+        int followed = followed(at);
+        if (followed >= 0) {
+            faults().stands(at, kind, number, faults().of(followed));
+        }
+        return faults().told(at, kind, (what >>> 20 & 1) != 0, number);
+    }
+
+    /** The stage of this request that a relay follows, or -1. */
+    private int followed(int number) {
+        Stage<?> stage = number < stages.length ? stages[number] : null;
+        return stage == null || stage.more == null ? -1 : stage.more.followed;
+    }
+
+    /** The exception that the source of a stage is told by, which has failed so. It may have to be made: no lock is held. */
+    Throwable failure(int stage, int failed, int code) {
+        Fault fault;
+        synchronized (lock()) {
+            fault = faults().ofSource(stage, failed & 0xf, failed >>> 4 != 0, code);
+        }
+        return fault.error();
     }
 
     private void claim(Stage<?> stage, int who, News news) {
@@ -1239,6 +1275,7 @@ public final class Request implements AutoCloseable {
         int number = machine.claimed(k), kind = machine.kind(k);
         Stage<?> stage = number < stages.length ? stages[number] : null;
         Object function = stage != null ? stage.function : flow.function(number), first = null, second = null;
+        int failed = 0;
         if (stage != null) {
             stage.function = null;
         }
@@ -1260,7 +1297,7 @@ public final class Request implements AutoCloseable {
                 if (of == History.GIVES) {
                     first = value(machine.first(k));
                 } else {
-                    second = fault(of, (kind >>> 8 & 1) != 0, machine.first(k)).error;
+                    failed = of | (kind >>> 8 & 1) << 4;
                 }
         }
         Call call = news.call();
@@ -1271,6 +1308,8 @@ public final class Request implements AutoCloseable {
         call.function = function;
         call.first = first;
         call.second = second;
+        call.failed = failed;
+        call.code = machine.first(k);
         news.claimed(call);
     }
 
@@ -1396,10 +1435,11 @@ public final class Request implements AutoCloseable {
         int number = call.number;
         boolean isSettled = call.stage != null && call.stage.told != null;
         Form form = call.form;
-        Object function = call.function, first = call.first, second = call.second, given = null;
+        Object function = call.function, first = call.first, second = null, given = null;
         Throwable thrown = null;
-        news.called(call);
         try {
+            second = isSettled ? null : call.second();
+            news.called(call);
             given = isSettled ? null : Carried.call(form, function, first, second);
         } catch (Throwable error) {
             thrown = error;
@@ -1560,21 +1600,12 @@ public final class Request implements AutoCloseable {
         return faults().code(error);
     }
 
-    private Fault fault(int kind, boolean isWrapped, int code) {
-        if (kind == History.CANCELLED) {
-            return faults().cancellation(isWrapped);
-        }
-        if (kind == History.TIMED_OUT) {
-            return faults().timeout(isWrapped);
-        }
-        if (kind != History.THROWN) {
-            throw new AssertionError("outcome " + kind);
-        }
-        return faults().thrown(isWrapped, code);
+    private Faults faults() {
+        return faults != null ? faults : (faults = new Faults(sources()));
     }
 
-    private Faults faults() {
-        return faults != null ? faults : (faults = new Faults());
+    private Sources sources() {
+        return sources != null ? sources : (sources = new Sources(flow, machine));
     }
 
     /** What a stage waits for, by its word: numbers of stages, or those of a flow's. */

@@ -454,7 +454,7 @@ public class Stage<T> extends Waits<T> {
     @Override
     public boolean isCancelled() {
         Object told = seen();
-        return told instanceof Fault && ((Fault) told).error instanceof CancellationException;
+        return told instanceof Fault && ((Fault) told).isCancellation();
     }
 
     @Override
@@ -515,7 +515,7 @@ public class Stage<T> extends Waits<T> {
         if (!isCompletedExceptionally() || isCancelled()) {
             throw new IllegalStateException(told == null ? "the stage isn't settled" : "the stage hasn't failed");
         }
-        return cause(((Fault) told).error);
+        return cause(((Fault) told).error());
     }
 
     @Override
@@ -528,7 +528,7 @@ public class Stage<T> extends Waits<T> {
     public String toString() {
         Object told = this.told;
         String state = told == null ? dependents == 0 ? "Not completed" : "Not completed, " + dependents + " dependents"
-                : told instanceof Fault ? "Completed exceptionally: " + Text.of(request.describe, ((Fault) told).error) : "Completed normally";
+                : told instanceof Fault ? "Completed exceptionally: " + Text.of(request.describe, ((Fault) told).error()) : "Completed normally";
         String waits = told == null ? request.waitsFor(this) : "";
         return Text.escaped(getClass().getName() + "@" + Integer.toHexString(hashCode()) + "[" + request.name() + ": " + request.called(this)
                 + ": " + state + waits + "]");
@@ -540,7 +540,7 @@ public class Stage<T> extends Waits<T> {
             return null;
         }
         if (told instanceof Fault) {
-            Throwable error = ((Fault) told).error;
+            Throwable error = ((Fault) told).error();
             if (error instanceof CancellationException) {
                 throw (CancellationException) error;
             }
@@ -555,7 +555,7 @@ public class Stage<T> extends Waits<T> {
             return null;
         }
         if (told instanceof Fault) {
-            Throwable error = ((Fault) told).error;
+            Throwable error = ((Fault) told).error();
             if (error instanceof CancellationException) {
                 throw (CancellationException) error;
             }
@@ -588,7 +588,7 @@ public class Stage<T> extends Waits<T> {
             Recorder recorder = Recorder.now();
             if (recorder != null && recorder.takesStages()) {
                 recorder.stage(request.name(), number, form.text, request.called(this),
-                        Text.of(request.describe, told == NIL ? null : told instanceof Fault ? ((Fault) told).error : told));
+                        Text.of(request.describe, told == NIL ? null : told instanceof Fault ? ((Fault) told).error() : told));
             }
         }
     }

@@ -44,6 +44,10 @@ public final class AllTests {
         test("requests closed by others in every order", ClosingTest::closedAtAnyMoment);
         test("requests closed before time", ClosingTest::closedBefore);
         test("all that is cancelled", ClosingTest::cancelsAll);
+        test("users' code under a lock", UserCodeTest::unlocked);
+        test("exceptions beside Java's", FaultsTest::besideJavas);
+        test("hooks that throw behind many stages", FaultsTest::hooks);
+        test("who has cancelled a stage", FaultsTest::stacks);
         test("late answers", TimeoutsTest::late);
         test("waiting in a pool of one", FunctionsTest::waitsWhileRunning);
         test("refused tasks", FunctionsTest::refusedTasks);

@@ -28,6 +28,8 @@ import java.util.concurrent.CompletionException;
 import java.util.concurrent.CompletionStage;
 import java.util.concurrent.Executor;
 import java.util.function.BooleanSupplier;
+import java.util.function.Supplier;
+import java.util.stream.Collectors;
 
 /**
  * One run of a test, of which a search chooses each move.
@@ -76,7 +78,8 @@ final class Run implements Watch, Executor {
     private final Map<Long, List<Long>> relays = new HashMap<>();
     private final Map<Long, String> relayed = new HashMap<>();
     private final List<Long> news = new ArrayList<>();
-    private final List<String> told = new ArrayList<>();
+    /** What the last move settled, in words that are asked for without a request's lock. */
+    private final List<Supplier<String>> told = new ArrayList<>();
     private final Thread home = Thread.currentThread();
     private Request outside;
     private Footprint footprint;
@@ -653,7 +656,7 @@ final class Run implements Watch, Executor {
         if (store == null) {
             store = new WorldStore(this);
             if (tells) {
-                store.rows.tells(told::add);
+                store.rows.tells(text -> told.add(() -> text));
             }
         }
         return store;
@@ -758,7 +761,7 @@ final class Run implements Watch, Executor {
     }
 
     @Override
-    public void settled(Request request, int stage, Object value, Throwable error) {
+    public void settled(Request request, int stage, Object value, Throwable error, boolean isWrapped) {
         long place = place(request, stage);
         settled.add(place);
         news.add(place);
@@ -768,7 +771,8 @@ final class Run implements Watch, Executor {
         if (request != outside && tells) {
             String name = stages.get(place).name();
             if (!name.startsWith("relay")) {
-                told.add(name + (error instanceof CancellationException ? " is cancelled" : " ends: " + text(error == null ? value : error)));
+                boolean isCancelled = error instanceof CancellationException && !isWrapped;
+                told.add(() -> name + (isCancelled ? " is cancelled" : " ends: " + text(error == null ? value : error)));
             }
         }
     }
@@ -934,7 +938,7 @@ final class Run implements Watch, Executor {
 
     /** What the last move settled, but relays, whose stages are told. */
     List<String> told() {
-        return new ArrayList<>(told);
+        return told.stream().map(Supplier::get).collect(Collectors.toList());
     }
 
     /** What a value or an exception is called. */
