@@ -5,6 +5,7 @@ import cf.service.Waits.Alarm;
 import cf.service.watch.Watch;
 import java.util.ArrayList;
 import java.util.Arrays;
+import java.util.BitSet;
 import java.util.Collections;
 import java.util.List;
 import java.util.Objects;
@@ -161,6 +162,9 @@ public final class Request implements AutoCloseable {
     private int valueCount;
     private Faults faults;
     private Sources sources;
+    /** At whose end what nothing behind it needs is cancelled; null where there is none. Whether that has come. */
+    private Stage<?> last;
+    private boolean ends;
     private long thread = Long.MIN_VALUE;
     private long[] threads;
     private String[] threadNames = new String[1];
@@ -489,6 +493,11 @@ public final class Request implements AutoCloseable {
             return number < stages.length && stages[number] != null;
         }
         return !machine.isOver() && !machine.isSettled(number);
+    }
+
+    /** The same, also of a stage that only the machine knows, as many of those that wait for all. The lock is held. */
+    private boolean isPending(int number) {
+        return isOpen(number) || !machine.isOver() && !machine.isSettled(number);
     }
 
     /** Has the service's hook told of it, if it wasn't yet. It throws nothing, nor keeps anybody waiting. */
@@ -904,14 +913,53 @@ public final class Request implements AutoCloseable {
         checkDepth();
         News news = new News(watch);
         synchronized (lock()) {
-            int who = who();
-            for (int k = machine.stages() - 1; k >= 0; k--) {
-                if (isOpen(k)) {
-                    change(Words.cancel(who, k), who, news);
-                }
+            cancelBut(new BitSet(), who(), news);
+        }
+        tell(news);
+    }
+
+    /**
+     * Once that stage of this request is settled, in whichever way, cancels what is open by then, as {@link #cancelAll} does. Stages behind that
+     * one go on, and so do those that these still wait for: so the answer is sent. Whoever sees that the stage is settled finds the rest cancelled.
+     * A later call names another stage instead. With a limit of that stage it is one of the request:
+     *
+     * <pre>{@code request.cancelRestAfter(last.orTimeout(5, TimeUnit.SECONDS));}</pre>
+     *
+     * It costs nothing before; then all events are read once, and each stage that is cancelled is an event.
+     *
+     * @throws IllegalArgumentException where the stage is of another request
+     */
+    public void cancelRestAfter(Stage<?> stage) {
+        if (stage.request != this) {
+            throw new IllegalArgumentException("the stage is of another request: this is to be asked of stage.request()");
+        }
+        checkDepth();
+        News news = new News(watch);
+        synchronized (lock()) {
+            last = stage.told == null ? stage : null;
+            if (last == null) {
+                machine.flush();
+                cancelRest(stage, who(), news);
             }
         }
         tell(news);
+    }
+
+    /** Cancels what is open, but what stands behind this stage and what that needs. The lock is held. */
+    private void cancelRest(Stage<?> stage, int who, News news) {
+        cancelBut(sources().needed(stage.number, this::isPending, this::followed), who, news);
+    }
+
+    /** Cancels what is open but these, the last stage first. The lock is held. */
+    private void cancelBut(BitSet but, int who, News news) {
+        if (watch != null) {
+            watch.looked(this);
+        }
+        for (int k = machine.stages() - 1; k >= 0; k--) {
+            if (isOpen(k) && !but.get(k)) {
+                change(Words.cancel(who, k), who, news);
+            }
+        }
     }
 
     /** Does one word, and tells what came of it. Answers whether it settled the stage. */
@@ -1188,6 +1236,12 @@ public final class Request implements AutoCloseable {
                     }
                 }
             } while (machine.more(who));
+            if (ends) {
+                Stage<?> stage = last;
+                last = null;
+                ends = false;
+                cancelRest(stage, who, news);
+            }
         } catch (OutOfMemoryError refused) {
             news.failure = refused;
         }
@@ -1228,6 +1282,7 @@ public final class Request implements AutoCloseable {
                     told instanceof Fault && ((Fault) told).isWrapped());
         }
         if (stage != null) {
+            ends |= stage == last;
             stages[at] = null;
             if (stage.isUnwritten()) {
                 unwritten -= stage.more.unwritten;

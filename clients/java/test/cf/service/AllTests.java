@@ -44,6 +44,9 @@ public final class AllTests {
         test("requests closed by others in every order", ClosingTest::closedAtAnyMoment);
         test("requests closed before time", ClosingTest::closedBefore);
         test("all that is cancelled", ClosingTest::cancelsAll);
+        test("a limit of a request at its edges", ClosingTest::cancelsRest);
+        test("what goes on where a request ends", ClosingTest::goesOn);
+        test("a limit of a request in every order", ClosingTest::cancelsRestAtAnyMoment);
         test("users' code under a lock", UserCodeTest::unlocked);
         test("exceptions beside Java's", FaultsTest::besideJavas);
         test("hooks that throw behind many stages", FaultsTest::hooks);

@@ -104,7 +104,7 @@ final class UserCodeTest {
         for (boolean wraps : new boolean[] {false, true}) {
             Request request = service.request(), other = service.request();
             List<Runnable> acts = new ArrayList<>();
-            for (int k = 0; k < 7; k++) {
+            for (int k = 0; k < 8; k++) {
                 Stage<Object> source = request.promise(), stage = wraps ? source.thenApply(x -> x) : source;
                 CompletableFuture<Object> outside = new CompletableFuture<>();
                 behind(stage, other);
@@ -112,7 +112,7 @@ final class UserCodeTest {
                 request.adopt(somebodys(outside)).thenApply(x -> x);
                 acts.add(Arrays.<Runnable>asList(() -> source.complete(new Value()), () -> source.completeExceptionally(new Loud()), () -> source.cancel(true),
                         () -> Checks.timeOut(source), () -> outside.completeExceptionally(new Loud()), () -> source.completeAsync(this::loud),
-                        request::cancelAll).get(k));
+                        () -> request.cancelRestAfter(source), request::cancelAll).get(k));
             }
             acts.forEach(Runnable::run);
             for (Request each : Arrays.asList(request, other)) {
