@@ -992,7 +992,7 @@ public final class Request implements AutoCloseable {
     /** Has a stage settled after a time: with this value, or as timed out. */
     void limit(Stage<?> stage, long time, TimeUnit unit, boolean gives, Object value) {
         if (watch != null) {
-            if (!stage.isDone()) {
+            if (stage.seen(true) == null) {
                 watch.limit(stage, Math.max(0, unit.toNanos(time)), () -> passes(stage, gives, value));
             }
             return;

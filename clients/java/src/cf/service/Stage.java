@@ -464,7 +464,7 @@ public class Stage<T> extends Waits<T> {
 
     @Override
     public T join() {
-        Object told = seen();
+        Object told = seen(true);
         return told != null || request.watch != null ? joined(awaited(told, -1)) : super.join();
     }
 
@@ -476,14 +476,14 @@ public class Stage<T> extends Waits<T> {
 
     @Override
     public T get() throws InterruptedException, ExecutionException {
-        Object told = seen();
+        Object told = seen(true);
         return told != null || request.watch != null ? gotten(awaited(told, -1)) : super.get();
     }
 
     @Override
     public T get(long timeout, TimeUnit unit) throws InterruptedException, ExecutionException, TimeoutException {
         Objects.requireNonNull(unit);
-        Object told = seen();
+        Object told = seen(timeout > 0);
         if (told == null && request.watch != null) {
             told = awaited(null, Math.max(0, unit.toNanos(timeout)));
             if (told == null) {
@@ -498,7 +498,7 @@ public class Stage<T> extends Waits<T> {
         if (told == null) {
             request.watch.await(this, nanos);
         }
-        return told != null ? told : seen();
+        return told != null ? told : seen(true);
     }
 
     /** The value of a stage that has one, as of Java 19. */
@@ -573,10 +573,16 @@ public class Stage<T> extends Waits<T> {
 
     @Override
     final Object seen() {
+        return seen(false);
+    }
+
+    /** The same, of who goes on at once or, where it isn't settled, waits. */
+    final Object seen(boolean orWaits) {
+        Object seen = super.seen();
         if (request.watch != null) {
-            request.watch.read(request, number);
+            request.watch.read(request, number, orWaits);
         }
-        return super.seen();
+        return seen;
     }
 
     /** Tells all who hang on it, and the recording. */

@@ -145,6 +145,7 @@ public final class AllTests {
         test("orders that are left out", OrdersTest::leftOut);
         test("a relay that was let go", OrdersTest::letGo);
         test("what functions and checks read", OrdersTest::read);
+        test("threads that come between", OrdersTest::between);
         test("limits in a world", OrdersTest::limits);
         test("cancels at any moment", OrdersTest::cancelled);
         test("points within functions", OrdersTest::points);

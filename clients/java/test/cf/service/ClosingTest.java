@@ -158,18 +158,18 @@ final class ClosingTest {
     static void closedAtAnyMoment() {
         Orders.of(world -> {
             Request closing = world.service().request();
-            boolean[] settles = new boolean[1];
+            Thread[] settles = new Thread[1];
             List<Stage<Integer>> given = new ArrayList<>(), attached = new ArrayList<>();
             Stage<Integer> start = closing.promise(), linked = start.thenCompose(x -> given.get(0)), async = linked.thenApplyAsync(x -> {
-                is(settles[0], false);
+                is(settles[0] == Thread.currentThread(), false);
                 return x + 1;
             });
             given.add(closing.promise());
             world.caller("closes").calls(closing::close).calls(closing::close);
             world.caller("settles").calls(() -> start.complete(1)).calls(() -> {
-                settles[0] = true;
+                settles[0] = Thread.currentThread();
                 given.get(0).complete(5);
-                settles[0] = false;
+                settles[0] = null;
             });
             world.calls("attaches", () -> attached.add(linked.thenApply(x -> x + 2)));
             world.atEnd(() -> linked.join() + async.join() + attached.get(0).join() == 18, "each ends with its value");

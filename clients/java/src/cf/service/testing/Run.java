@@ -12,6 +12,7 @@ import cf.service.watch.Watch;
 import cf.service.watch.Watched;
 import java.util.ArrayList;
 import java.util.Arrays;
+import java.util.Collections;
 import java.util.Comparator;
 import java.util.HashMap;
 import java.util.HashSet;
@@ -86,7 +87,7 @@ final class Run implements Watch, Executor {
     /** Whose function goes on, on its own thread. */
     private Flight current;
     private String caller = "main";
-    private boolean isInUser, isOver, isStopped, isBeginning, isOutside, needsThreads, tells, isClosing;
+    private boolean isInUser, isInBody, isOver, isStopped, isBeginning, isOutside, needsThreads, tells, isClosing;
     /** What processes share, or null. */
     private WorldStore store;
     private int jobs;
@@ -309,19 +310,25 @@ final class Run implements Watch, Executor {
         if (flight.turn != null) {
             touch(flight.place, How.READS);
         }
-        String[] names = marks.get(flight.place);
+        flight.touches = shared(marks.get(flight.place));
         if (flight.turn == null || !settled.contains(flight.place)) {
-            if (names == UNMARKED) {
-                touch(Footprint.USER, How.CHANGES);
-            } else {
-                Arrays.stream(names).forEach(name -> touch("user " + name, How.CHANGES));
-                if (!checks.isEmpty()) {
-                    touch(Footprint.CHECKED, How.CHANGES);
-                }
-            }
+            flight.touches.forEach(thing -> touch(thing, How.CHANGES));
         }
         carry(flight);
         endOf(flight);
+    }
+
+    /** What a function shares with others that is marked with these names, in each of its moves. */
+    private List<Object> shared(String[] names) {
+        if (names == UNMARKED) {
+            return Collections.singletonList(Footprint.USER);
+        }
+        List<Object> things = new ArrayList<>();
+        Arrays.stream(names).forEach(name -> things.add("user " + name));
+        if (!checks.isEmpty()) {
+            things.add(Footprint.CHECKED);
+        }
+        return things;
     }
 
     private void goOn(Flight flight) {
@@ -431,31 +438,34 @@ final class Run implements Watch, Executor {
             on(flight, true);
             return;
         }
-        inUser(act);
+        inUser(act, true);
         flight.word = Word.END;
         leave();
     }
 
-    /** Calls what a test has given, on this thread. What it reads of stages is noted. */
-    private void inUser(Runnable act) {
-        boolean saved = isInUser;
+    /** Calls what a test has given, on this thread. What it reads of stages is noted. Where it is a function's body, others may come within it. */
+    private void inUser(Runnable act, boolean isBody) {
+        boolean savedUser = isInUser, savedBody = isInBody;
         isInUser = true;
+        isInBody = isBody;
         try {
             act.run();
         } finally {
-            isInUser = saved;
+            isInUser = savedUser;
+            isInBody = savedBody;
         }
     }
 
     /** Lets a thread go on until its function waits or has ended. */
     private void on(Flight flight, boolean begins) {
         Carrier carrier = flight.carrier;
-        boolean saved = isInUser;
-        isInUser = true;
+        boolean savedUser = isInUser, savedBody = isInBody;
+        isInUser = isInBody = true;
         current = flight;
         String stuck = begins ? carrier.begin(flight.act) : carrier.resume();
         current = null;
-        isInUser = saved;
+        isInUser = savedUser;
+        isInBody = savedBody;
         if (stuck != null) {
             flight.carrier = null;
             isStuck = true;
@@ -583,7 +593,7 @@ final class Run implements Watch, Executor {
         }
         Footprint seen = footprint = new Footprint();
         try {
-            inUser(() -> checks.forEach(this::look));
+            inUser(() -> checks.forEach(this::look), false);
         } finally {
             footprint = null;
         }
@@ -808,15 +818,19 @@ final class Run implements Watch, Executor {
     }
 
     @Override
-    public void read(Request request, int stage) {
+    public void read(Request request, int stage, boolean orWaits) {
         if (isInUser && footprint != null) {
-            touch(place(request, stage), How.READS);
+            long place = place(request, stage);
+            touch(place, How.READS);
+            if (!orWaits && !settled.contains(place)) {
+                mayComeBetween();
+            }
         }
     }
 
     @Override
     public void looked(Request request) {
-        if (isInUser && footprint != null) {
+        if (footprint != null) {
             int index = indices.get(request);
             touch("attach " + index, How.READS);
             for (Long place : stages.keySet()) {
@@ -856,7 +870,7 @@ final class Run implements Watch, Executor {
     @Override
     public void user(Runnable act) {
         touch(Footprint.USER, How.CHANGES);
-        inUser(act);
+        inUser(act, false);
     }
 
     @Override
@@ -869,10 +883,21 @@ final class Run implements Watch, Executor {
             return;
         }
         while (turn.next()) {
+            if (!settings.isFine) {
+                mayComeBetween(); // By which others have come before.
+            }
             touch(place(turn.stage()), How.READS);
             turn.act();
             failed(turn, turn.stage().name());
+            mayComeBetween();
             turn.finish();
+        }
+    }
+
+    /** Others may come here, as real threads may anywhere, where a body calls functions behind what it settled, or has seen what may change. */
+    private void mayComeBetween() {
+        if (isInBody && !isClosing && why == null) {
+            point();
         }
     }
 

@@ -46,8 +46,8 @@ public interface Watch {
     /** A stage is to end as a future does that stands elsewhere. */
     void linked(Stage<?> relay, CompletionStage<?> of);
 
-    /** Somebody looks at a stage. */
-    void read(Request request, int stage);
+    /** Somebody has looked at a stage, and goes on at once, or waits if it isn't settled. */
+    void read(Request request, int stage, boolean orWaits);
 
     /** Somebody looks at all that happened to a request. */
     void looked(Request request);
