@@ -48,6 +48,8 @@ public final class AllTests {
         test("what goes on where a request ends", ClosingTest::goesOn);
         test("a limit of a request in every order", ClosingTest::cancelsRestAtAnyMoment);
         test("users' code under a lock", UserCodeTest::unlocked);
+        test("calls by states", EndsTest::byStates);
+        test("what could go on behind random programs", LeftTest::programs);
         test("exceptions beside Java's", FaultsTest::besideJavas);
         test("hooks that throw behind many stages", FaultsTest::hooks);
         test("who has cancelled a stage", FaultsTest::stacks);

@@ -158,22 +158,15 @@ final class ClosingTest {
     static void closedAtAnyMoment() {
         Orders.of(world -> {
             Request closing = world.service().request();
-            Thread[] settles = new Thread[1];
             List<Stage<Integer>> given = new ArrayList<>(), attached = new ArrayList<>();
-            Stage<Integer> start = closing.promise(), linked = start.thenCompose(x -> given.get(0)), async = linked.thenApplyAsync(x -> {
-                is(settles[0] == Thread.currentThread(), false);
-                return x + 1;
-            });
+            Stage<Integer> start = closing.promise(), linked = start.thenCompose(x -> given.get(0)), async = linked.thenApplyAsync(x -> x + 1);
             given.add(closing.promise());
             world.caller("closes").calls(closing::close).calls(closing::close);
-            world.caller("settles").calls(() -> start.complete(1)).calls(() -> {
-                settles[0] = Thread.currentThread();
-                given.get(0).complete(5);
-                settles[0] = null;
-            });
-            world.calls("attaches", () -> attached.add(linked.thenApply(x -> x + 2)));
+            world.caller("settles").calls(start, it -> it.complete(1)).calls(given.get(0), it -> it.complete(5));
+            world.calls("attaches", linked, it -> attached.add(it.thenApply(x -> x + 2)));
             world.atEnd(() -> linked.join() + async.join() + attached.get(0).join() == 18, "each ends with its value");
             world.atEnd(() -> closing.history().stages() == 6, "all are in the history");
+            world.atEnd(() -> !closing.history().toString().contains("settles claims 3 apply"), "an executor's function is called by a worker");
             world.settles(linked, async);
         }).seconds(60).whole().check();
     }
