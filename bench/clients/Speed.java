@@ -29,21 +29,23 @@ public final class Speed {
     private static final Flow.Step<Integer> CHAIN_END = chainFlow();
     private static final Flow.Step<Void> FAN_END = fanFlow();
 
-    private static int sink;
+    /** The status where no row has a name in which the part is. */
+    private static final int NO_ROW = 3;
+
+    private static int sink, rows;
 
     private Speed() {}
 
     public static void main(String[] args) {
         int rounds = Integer.getInteger("speed.rounds", 15);
         String only = args.length > 0 ? args[0] : "";
-        System.out.printf("%-36s %9s %9s %8s%n", "ns", "best", "median", "bytes");
         run(only, rounds, "chain of 16", Speed::chainJdk, Speed::chain, Speed::chainOpen, Speed::chainFlowed);
         run(only, rounds, "fan-out of 16, allOf", Speed::fanJdk, Speed::fan, Speed::fanOpen, Speed::fanFlowed);
         run(only, rounds, "anyOf of 4, timeouts", Speed::anyJdk, Speed::any);
         run(only, rounds, "one call here", Speed::hereJdk, Speed::here);
         run(only, rounds, "one call by a pool", Speed::poolJdk, Speed::pool);
         run(only, rounds, "16 Async by a pool", Speed::asyncJdk, Speed::async);
-        System.exit(0);
+        System.exit(rows > 0 ? 0 : NO_ROW);
     }
 
     /** Of what one thread does alone, its own time counts, so that others on the machine don't; else the time by the wall. */
@@ -54,6 +56,9 @@ public final class Speed {
     private static void run(String only, int rounds, String name, Runnable... ways) {
         if (!name.contains(only)) {
             return;
+        }
+        if (rows++ == 0) {
+            System.out.printf("%-36s %9s %9s %8s%n", "ns", "best", "median", "bytes");
         }
         boolean alone = !name.contains("pool") && !name.contains("timeouts");
         int[] each = new int[ways.length];

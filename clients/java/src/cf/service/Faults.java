@@ -4,17 +4,31 @@ import java.util.Arrays;
 import java.util.concurrent.CancellationException;
 import java.util.concurrent.CompletionException;
 import java.util.concurrent.TimeoutException;
+import java.util.concurrent.atomic.AtomicReferenceFieldUpdater;
 
-/** The exceptions that a request's codes stand for, each as it is told: one for all who are told it. */
+/**
+ * The exceptions of a request: those that codes stand for, and the one that each failed stage is told by. As in CompletableFuture, each stage that
+ * is cancelled or times out has its own, and so has each one that wraps: a stage passes on the very one of its source if that wraps already. So
+ * what is added to one, as a suppressed exception, no other stage is told. The request's lock guards it.
+ */
 final class Faults {
-    private Throwable[] errors = new Throwable[2];
-    private Fault[] raw = new Fault[2], wrapped = new Fault[2];
-    private int count;
-    private Uncoded cancellation, timeout;
+    private static final Fault[] NONE = {};
 
-    /** What an exception is told by: the stage's outcome, and what its function is called with. */
+    private final Sources sources;
+    private Throwable[] errors = new Throwable[2];
+    private int count;
+    /** Of each stage that has failed what it is told by. */
+    private Fault[] ends = NONE;
+
+    /** What an exception is told by: the stage's outcome, and what functions behind it are called with. */
     static final class Fault {
-        final Throwable error;
+        private static final AtomicReferenceFieldUpdater<Fault, Throwable> ERROR =
+                AtomicReferenceFieldUpdater.newUpdater(Fault.class, Throwable.class, "error");
+
+        /** One that wraps has none until somebody asks, who has no lock then: its constructor asks the cause for a text. */
+        private volatile Throwable error;
+        /** What it wraps, or null. */
+        private final Fault cause;
         /** Whether it has a number in a request: a cancellation, a timeout and what is no stage's have none. */
         final boolean isCoded;
         /** Whether a stage timed out: not that somebody's exception says so. */
@@ -29,28 +43,39 @@ final class Faults {
             this.error = error;
             this.isCoded = isCoded;
             this.isTimeout = isTimeout;
+            cause = null;
+        }
+
+        private Fault(Fault cause) {
+            this.cause = cause;
+            isCoded = cause.isCoded;
+            isTimeout = cause.isTimeout;
+        }
+
+        /** The exception, which is the same for all who ask. */
+        Throwable error() {
+            if (error == null) {
+                ERROR.compareAndSet(this, null, wrapping(cause.error));
+            }
+            return error;
         }
 
         boolean isWrapped() {
-            return error instanceof CompletionException;
+            return cause != null || error instanceof CompletionException;
+        }
+
+        boolean isCancellation() {
+            return error instanceof CancellationException;
+        }
+
+        /** What failed at first, which isn't wrapped, unless somebody has thrown it so. */
+        Throwable raw() {
+            return cause != null ? cause.error : error;
         }
     }
 
-    /** What is told of all stages by one exception. */
-    private static final class Uncoded {
-        private final Fault raw;
-        private Fault wrapped;
-
-        Uncoded(Throwable error, boolean isTimeout) {
-            raw = new Fault(error, false, isTimeout);
-        }
-
-        Fault told(boolean isWrapped) {
-            if (isWrapped && wrapped == null) {
-                wrapped = new Fault(wrapping(raw.error), false, raw.isTimeout);
-            }
-            return isWrapped ? wrapped : raw;
-        }
+    Faults(Sources sources) {
+        this.sources = sources;
     }
 
     int code(Throwable error) {
@@ -59,41 +84,76 @@ final class Faults {
         }
         if (count == errors.length) {
             errors = Arrays.copyOf(errors, 2 * count);
-            raw = Arrays.copyOf(raw, 2 * count);
-            wrapped = Arrays.copyOf(wrapped, 2 * count);
         }
         errors[count] = error;
         return count++;
     }
 
-    /** A cancellation has no code: there is one for all stages. */
-    Fault cancellation(boolean isWrapped) {
-        if (cancellation == null) {
-            cancellation = new Uncoded(new CancellationException(), false);
+    /** What a stage is told by that was settled so, from now on. */
+    Fault told(int stage, int kind, boolean isWrapped, int code) {
+        if (stage < ends.length && ends[stage] != null) {
+            return ends[stage];
         }
-        return cancellation.told(isWrapped);
+        Fault told = isWrapped ? wrapped(stage, kind, code) : raw(kind, code);
+        keep(stage, told);
+        return told;
     }
 
-    /** Nor has a timeout. */
-    Fault timeout(boolean isWrapped) {
-        if (timeout == null) {
-            timeout = new Uncoded(new TimeoutException(), true);
-        }
-        return timeout.told(isWrapped);
+    /** What the source of a stage is told by that handles it. */
+    Fault ofSource(int stage, int kind, boolean isWrapped, int code) {
+        return told(sources.of(stage)[0], kind, isWrapped, code);
     }
 
-    /** An exception that is one of completing isn't wrapped once more. */
-    Fault thrown(boolean isWrapped, int code) {
-        if (isWrapped && !(errors[code] instanceof CompletionException)) {
-            return wrapped[code] != null ? wrapped[code] : (wrapped[code] = new Fault(wrapping(errors[code]), true, false));
+    /** A stage that stands for another one, and is yet to be told, is told by the same, if it fails in the same way. */
+    void stands(int stage, int kind, int code, Fault other) {
+        if (other != null && isOf(other, kind, code)) {
+            keep(stage, other);
         }
-        return raw[code] != null ? raw[code] : (raw[code] = new Fault(errors[code], true, false));
     }
 
-    /**
-     * A completion exception, which asks its cause for a text. If the cause throws then, it has no text, and the stages that it ends are told
-     * all the same.
-     */
+    /** What a failed stage is told by; else null. */
+    Fault of(int stage) {
+        return stage < ends.length ? ends[stage] : null;
+    }
+
+    private void keep(int stage, Fault told) {
+        if (stage >= ends.length) {
+            ends = Arrays.copyOf(ends, Math.max(stage + 1, Math.min(Machine.MOST_STAGES, 2 * ends.length)));
+        }
+        ends[stage] = told;
+    }
+
+    /** Who takes it of a source that wraps passes that on. Others wrap what the source has, or what their function has thrown. */
+    private Fault wrapped(int stage, int kind, int code) {
+        Fault of = null;
+        for (int source : sources.of(stage)) {
+            Fault its = of(source);
+            if (of == null && its != null && isOf(its, kind, code)) {
+                of = its;
+            }
+        }
+        of = of != null ? of : raw(kind, code);
+        return of.isWrapped() ? of : new Fault(of);
+    }
+
+    private Fault raw(int kind, int code) {
+        switch (kind) {
+            case History.CANCELLED:
+                return new Fault(new CancellationException(), false, false);
+            case History.TIMED_OUT:
+                return new Fault(new TimeoutException(), false, true);
+            case History.THROWN:
+                return new Fault(errors[code], true, false);
+            default:
+                throw new AssertionError("outcome " + kind);
+        }
+    }
+
+    private boolean isOf(Fault fault, int kind, int code) {
+        return kind == History.THROWN ? fault.isCoded && fault.raw() == errors[code] : !fault.isCoded && fault.isTimeout == (kind == History.TIMED_OUT);
+    }
+
+    /** A completion exception. If its cause throws when it is asked for a text, it has none. */
     private static CompletionException wrapping(Throwable error) {
         try {
             return new CompletionException(error);

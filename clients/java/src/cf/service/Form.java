@@ -25,11 +25,14 @@ enum Form {
     final boolean composes;
     /** Whether its function is called with its source's fault, as that is. */
     final boolean handles;
+    /** Whether it needs but one of its sources. */
+    final boolean isEither;
 
     Form(String text) {
         this.text = text;
         calls = !text.equals("source") && !text.equals("allOf") && !text.equals("anyOf");
         composes = text.equals("compose") || text.equals("exceptionallyCompose");
+        isEither = text.equals("anyOf") || text.endsWith("Either");
         handles = text.equals("handle") || text.equals("whenComplete") || text.startsWith("exceptionally");
     }
 

@@ -184,9 +184,7 @@ public final class History extends RequestHistory {
         }
         for (long word : words) {
             if (Words.kind(word) == Words.ATTACH && at < stages) {
-                int second = Words.low(word) >>> 12 & 0xfff;
-                of[at++] = Words.tag(word) == 0 ? new int[0] : Words.tag(word) == 1 ? new int[] {Words.stage(word)}
-                        : new int[] {Words.stage(word), second};
+                of[at++] = Words.sources(word);
             }
         }
         return of;

@@ -613,10 +613,14 @@ final class Machine {
         return all;
     }
 
-    /** Those words that were done from a place on. */
+    /** Those words that were done from a place on. A core that was given back isn't asked for again. */
     long[] words(int from) {
-        long[] some = new long[events() - waiting - from];
-        check(words(core().at, some, from, some.length));
+        int count = events() - waiting - from;
+        if (count == 0 || core == null) {
+            return count == 0 ? NONE : Arrays.copyOfRange(kept, from, from + count);
+        }
+        long[] some = new long[count];
+        check(words(core.at, some, from, count));
         return some;
     }
 

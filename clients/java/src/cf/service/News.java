@@ -156,7 +156,7 @@ final class News implements Watch.Turn {
         isSettled = calls.stage.told != null;
         given = thrown = null;
         try {
-            given = isSettled ? null : Carried.call(calls.form, calls.function, calls.first, calls.second);
+            given = isSettled ? null : Carried.call(calls.form, calls.function, calls.first, calls.second());
         } catch (Throwable error) {
             if (watch.leaves(error)) {
                 throw error;
@@ -173,7 +173,7 @@ final class News implements Watch.Turn {
     @Override
     public void finish() {
         Call call = pollCall();
-        call.request.finish(call.number, call.form, call.second, isSettled, given, thrown, this);
+        call.request.finish(call.number, call.form, call.second(), isSettled, given, thrown, this);
         watch.happened();
     }
 }

@@ -5,6 +5,7 @@ import cf.service.Waits.Alarm;
 import cf.service.watch.Watch;
 import java.util.ArrayList;
 import java.util.Arrays;
+import java.util.BitSet;
 import java.util.Collections;
 import java.util.List;
 import java.util.Objects;
@@ -55,9 +56,9 @@ public final class Request implements AutoCloseable {
      * aren't final but `goesOn`, and of each stage `function`, `dependents`, `unwritten`, `more` and the rows of links in
      * that. `told`, `more` and `next` are volatile, so they can be read without it. No thread holds the locks of two
      * requests. Under the lock no function, callback or executor is called, and nobody is woken. A flight recording takes
-     * words there. The one method of a user's that is called there is `toString` of an exception that is wrapped for the
-     * first time: the constructor of CompletionException asks for its text (Faults.wrapping). Below the lock there is one
-     * more, that of the list of Freed, around a few assignments.
+     * words there. No `toString` of a user's is called there either: an exception that wraps another one asks for its text,
+     * so it is made once the lock is free (Fault.error). Below the lock there is one more, that of the list of Freed, around
+     * a few assignments.
      *
      * An operation (complete, fail, cancel, attach, work, relayed, passes) goes like this:
      * 1. checkDepth throws where the stack is nearly full. Nothing was done then.
@@ -160,6 +161,10 @@ public final class Request implements AutoCloseable {
     private Object[] values;
     private int valueCount;
     private Faults faults;
+    private Sources sources;
+    /** At whose end what nothing behind it needs is cancelled; null where there is none. Whether that has come. */
+    private Stage<?> last;
+    private boolean ends;
     private long thread = Long.MIN_VALUE;
     private long[] threads;
     private String[] threadNames = new String[1];
@@ -183,13 +188,17 @@ public final class Request implements AutoCloseable {
     private volatile Request next;
 
     Request(Service service, String name, Flow flow, int room, Describe describe) {
+        this(service, name, flow, room, describe, service.captured());
+    }
+
+    private Request(Service service, String name, Flow flow, int room, Describe describe, Executor within) {
         this.service = service;
         watch = service.watch;
         this.name = name;
         this.flow = flow;
         single = false;
         this.describe = describe;
-        within = service.captured();
+        this.within = within;
         machine = new Machine(flow == null ? null : flow.plan(), room);
         values = flow != null ? new Object[flow.count()] : NO_VALUES;
         stages = flow == null && room > 0 ? new Stage<?>[room] : NO_STAGES;
@@ -369,14 +378,15 @@ public final class Request implements AutoCloseable {
             throw new IllegalArgumentException("the step is of another flow");
         }
         Stage<U> stage;
-        boolean rests;
+        boolean isShown, rests;
         synchronized (lock()) {
             stage = (Stage<U>) at(step.number());
-            if (stage.told == null) {
-                shown(stage);
-            }
+            isShown = stage.told == null && isShown(stage);
             isAsked = true;
             rests = watch == null && mayRest();
+        }
+        if (isShown) {
+            stage.inherit(); // Nobody else has it.
         }
         if (rests) {
             machine.over();
@@ -384,13 +394,14 @@ public final class Request implements AutoCloseable {
         return stage;
     }
 
-    /** A stage of a flow that is asked for once it is settled. */
-    private void shown(Stage<?> stage) {
-        if (machine.isSettled(stage.number)) {
+    /** Whether this is a stage of a flow that was settled before it is asked for, which is told then. The lock is held. */
+    private boolean isShown(Stage<?> stage) {
+        boolean isSettled = machine.isSettled(stage.number);
+        if (isSettled) {
             stages[stage.number] = null;
             stage.tells(told(machine.told(0), machine.number(0)));
-            stage.inherit();
         }
+        return isSettled;
     }
 
     /** Lets stages for which there is no place go to a further request, {@link #next}, instead of an exception. This one is given back. */
@@ -482,6 +493,11 @@ public final class Request implements AutoCloseable {
             return number < stages.length && stages[number] != null;
         }
         return !machine.isOver() && !machine.isSettled(number);
+    }
+
+    /** The same, also of a stage that only the machine knows, as many of those that wait for all. The lock is held. */
+    private boolean isPending(int number) {
+        return isOpen(number) || !machine.isOver() && !machine.isSettled(number);
     }
 
     /** Has the service's hook told of it, if it wasn't yet. It throws nothing, nor keeps anybody waiting. */
@@ -758,7 +774,7 @@ public final class Request implements AutoCloseable {
                 throw new RequestFullException(name);
             }
             if (next == null) {
-                next = new Request(service, name + ", further", null, 32, describe).goesOn();
+                next = new Request(service, name + ", further", null, 32, describe, within).goesOn();
             }
             return next;
         }
@@ -897,14 +913,53 @@ public final class Request implements AutoCloseable {
         checkDepth();
         News news = new News(watch);
         synchronized (lock()) {
-            int who = who();
-            for (int k = machine.stages() - 1; k >= 0; k--) {
-                if (isOpen(k)) {
-                    change(Words.cancel(who, k), who, news);
-                }
+            cancelBut(new BitSet(), who(), news);
+        }
+        tell(news);
+    }
+
+    /**
+     * Once that stage of this request is settled, in whichever way, cancels what is open by then, as {@link #cancelAll} does. Stages behind that
+     * one go on, and so do those that these still wait for: so the answer is sent. Whoever sees that the stage is settled finds the rest cancelled.
+     * A later call names another stage instead. With a limit of that stage it is one of the request:
+     *
+     * <pre>{@code request.cancelRestAfter(last.orTimeout(5, TimeUnit.SECONDS));}</pre>
+     *
+     * It costs nothing before; then all events are read once, and each stage that is cancelled is an event.
+     *
+     * @throws IllegalArgumentException where the stage is of another request
+     */
+    public void cancelRestAfter(Stage<?> stage) {
+        if (stage.request != this) {
+            throw new IllegalArgumentException("the stage is of another request: this is to be asked of stage.request()");
+        }
+        checkDepth();
+        News news = new News(watch);
+        synchronized (lock()) {
+            last = stage.told == null ? stage : null;
+            if (last == null) {
+                machine.flush();
+                cancelRest(stage, who(), news);
             }
         }
         tell(news);
+    }
+
+    /** Cancels what is open, but what stands behind this stage and what that needs. The lock is held. */
+    private void cancelRest(Stage<?> stage, int who, News news) {
+        cancelBut(sources().needed(stage.number, this::isPending, this::followed), who, news);
+    }
+
+    /** Cancels what is open but these, the last stage first. The lock is held. */
+    private void cancelBut(BitSet but, int who, News news) {
+        if (watch != null) {
+            watch.looked(this);
+        }
+        for (int k = machine.stages() - 1; k >= 0; k--) {
+            if (isOpen(k) && !but.get(k)) {
+                change(Words.cancel(who, k), who, news);
+            }
+        }
     }
 
     /** Does one word, and tells what came of it. Answers whether it settled the stage. */
@@ -937,7 +992,7 @@ public final class Request implements AutoCloseable {
     /** Has a stage settled after a time: with this value, or as timed out. */
     void limit(Stage<?> stage, long time, TimeUnit unit, boolean gives, Object value) {
         if (watch != null) {
-            if (!stage.isDone()) {
+            if (stage.seen(true) == null) {
                 watch.limit(stage, Math.max(0, unit.toNanos(time)), () -> passes(stage, gives, value));
             }
             return;
@@ -1049,8 +1104,8 @@ public final class Request implements AutoCloseable {
                 return Words.failAs(RELAY, relay, Words.TIMED_OUT);
             }
             // A cancellation that says more keeps it.
-            boolean isPlain = !fault.isCoded && fault.error.getClass() == CancellationException.class && fault.error.getMessage() == null;
-            return isPlain ? Words.cancel(RELAY, relay) : Words.fail(RELAY, relay, code(fault.error));
+            boolean isPlain = !fault.isCoded && fault.error().getClass() == CancellationException.class && fault.error().getMessage() == null;
+            return isPlain ? Words.cancel(RELAY, relay) : Words.fail(RELAY, relay, code(fault.error()));
         }
         return Words.complete(RELAY, relay, number(told == Stage.NIL ? null : told));
     }
@@ -1095,9 +1150,16 @@ public final class Request implements AutoCloseable {
     }
 
     private void relayed(Stage<?> relay, Object told, boolean wraps, News news) {
+        if (told instanceof Fault) {
+            ((Fault) told).error(); // Before the lock is held.
+        }
         synchronized (lock()) {
             int who = who();
-            change(relayWord(relay.number, told, wraps), who, news);
+            long word = relayWord(relay.number, told, wraps);
+            if (relay.told == null && told instanceof Fault && Words.kind(word) != Words.FAIL) {
+                faults().stands(relay.number, Words.kind(word) == Words.CANCEL ? History.CANCELLED : History.TIMED_OUT, 0, (Fault) told);
+            }
+            change(word, who, news);
         }
     }
 
@@ -1174,6 +1236,12 @@ public final class Request implements AutoCloseable {
                     }
                 }
             } while (machine.more(who));
+            if (ends) {
+                Stage<?> stage = last;
+                last = null;
+                ends = false;
+                cancelRest(stage, who, news);
+            }
         } catch (OutOfMemoryError refused) {
             news.failure = refused;
         }
@@ -1204,29 +1272,52 @@ public final class Request implements AutoCloseable {
     /** Of a stage whose number is in the lowest 12 bits. */
     private void settled(int what, int number, News news) {
         int at = what & 0xfff;
-        if (watch != null) {
-            Object told = told(what, number);
-            boolean isFault = told instanceof Fault;
-            watch.settled(this, at, isFault || told == Stage.NIL ? null : told, isFault ? ((Fault) told).error : null);
-        }
         Stage<?> stage = at < stages.length ? stages[at] : null;
         if (stage == null && Recorder.hasStages()) {
             stage = at(at);
         }
+        Object told = told(what, number);
+        if (watch != null) {
+            watch.settled(this, at, told instanceof Fault || told == Stage.NIL ? null : told, told instanceof Fault ? ((Fault) told).raw() : null,
+                    told instanceof Fault && ((Fault) told).isWrapped());
+        }
         if (stage != null) {
+            ends |= stage == last;
             stages[at] = null;
             if (stage.isUnwritten()) {
                 unwritten -= stage.more.unwritten;
                 stage.more.limits = null;
             }
-            stage.tells(told(what, number));
+            stage.tells(told);
             news.settled(stage);
         }
     }
 
     private Object told(int what, int number) {
-        int kind = what >>> 16 & 0xf;
-        return kind != History.GIVES ? fault(kind, (what >>> 20 & 1) != 0, number) : (what >>> 21 & 1) == 0 ? Stage.NIL : values[number];
+        int kind = what >>> 16 & 0xf, at = what & 0xfff;
+        if (kind == History.GIVES) {
+            return (what >>> 21 & 1) == 0 ? Stage.NIL : values[number];
+        }
+        int followed = followed(at);
+        if (followed >= 0) {
+            faults().stands(at, kind, number, faults().of(followed));
+        }
+        return faults().told(at, kind, (what >>> 20 & 1) != 0, number);
+    }
+
+    /** The stage of this request that a relay follows, or -1. */
+    private int followed(int number) {
+        Stage<?> stage = number < stages.length ? stages[number] : null;
+        return stage == null || stage.more == null ? -1 : stage.more.followed;
+    }
+
+    /** The exception that the source of a stage is told by, which has failed so. It may have to be made: no lock is held. */
+    Throwable failure(int stage, int failed, int code) {
+        Fault fault;
+        synchronized (lock()) {
+            fault = faults().ofSource(stage, failed & 0xf, failed >>> 4 != 0, code);
+        }
+        return fault.error();
     }
 
     private void claim(Stage<?> stage, int who, News news) {
@@ -1239,6 +1330,7 @@ public final class Request implements AutoCloseable {
         int number = machine.claimed(k), kind = machine.kind(k);
         Stage<?> stage = number < stages.length ? stages[number] : null;
         Object function = stage != null ? stage.function : flow.function(number), first = null, second = null;
+        int failed = 0;
         if (stage != null) {
             stage.function = null;
         }
@@ -1260,7 +1352,7 @@ public final class Request implements AutoCloseable {
                 if (of == History.GIVES) {
                     first = value(machine.first(k));
                 } else {
-                    second = fault(of, (kind >>> 8 & 1) != 0, machine.first(k)).error;
+                    failed = of | (kind >>> 8 & 1) << 4;
                 }
         }
         Call call = news.call();
@@ -1271,6 +1363,8 @@ public final class Request implements AutoCloseable {
         call.function = function;
         call.first = first;
         call.second = second;
+        call.failed = failed;
+        call.code = machine.first(k);
         news.claimed(call);
     }
 
@@ -1396,10 +1490,11 @@ public final class Request implements AutoCloseable {
         int number = call.number;
         boolean isSettled = call.stage != null && call.stage.told != null;
         Form form = call.form;
-        Object function = call.function, first = call.first, second = call.second, given = null;
+        Object function = call.function, first = call.first, second = null, given = null;
         Throwable thrown = null;
-        news.called(call);
         try {
+            second = isSettled ? null : call.second();
+            news.called(call);
             given = isSettled ? null : Carried.call(form, function, first, second);
         } catch (Throwable error) {
             thrown = error;
@@ -1560,21 +1655,12 @@ public final class Request implements AutoCloseable {
         return faults().code(error);
     }
 
-    private Fault fault(int kind, boolean isWrapped, int code) {
-        if (kind == History.CANCELLED) {
-            return faults().cancellation(isWrapped);
-        }
-        if (kind == History.TIMED_OUT) {
-            return faults().timeout(isWrapped);
-        }
-        if (kind != History.THROWN) {
-            throw new AssertionError("outcome " + kind);
-        }
-        return faults().thrown(isWrapped, code);
+    private Faults faults() {
+        return faults != null ? faults : (faults = new Faults(sources()));
     }
 
-    private Faults faults() {
-        return faults != null ? faults : (faults = new Faults());
+    private Sources sources() {
+        return sources != null ? sources : (sources = new Sources(flow, machine));
     }
 
     /** What a stage waits for, by its word: numbers of stages, or those of a flow's. */

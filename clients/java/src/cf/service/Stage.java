@@ -454,7 +454,7 @@ public class Stage<T> extends Waits<T> {
     @Override
     public boolean isCancelled() {
         Object told = seen();
-        return told instanceof Fault && ((Fault) told).error instanceof CancellationException;
+        return told instanceof Fault && ((Fault) told).isCancellation();
     }
 
     @Override
@@ -464,7 +464,7 @@ public class Stage<T> extends Waits<T> {
 
     @Override
     public T join() {
-        Object told = seen();
+        Object told = seen(true);
         return told != null || request.watch != null ? joined(awaited(told, -1)) : super.join();
     }
 
@@ -476,14 +476,14 @@ public class Stage<T> extends Waits<T> {
 
     @Override
     public T get() throws InterruptedException, ExecutionException {
-        Object told = seen();
+        Object told = seen(true);
         return told != null || request.watch != null ? gotten(awaited(told, -1)) : super.get();
     }
 
     @Override
     public T get(long timeout, TimeUnit unit) throws InterruptedException, ExecutionException, TimeoutException {
         Objects.requireNonNull(unit);
-        Object told = seen();
+        Object told = seen(timeout > 0);
         if (told == null && request.watch != null) {
             told = awaited(null, Math.max(0, unit.toNanos(timeout)));
             if (told == null) {
@@ -498,7 +498,7 @@ public class Stage<T> extends Waits<T> {
         if (told == null) {
             request.watch.await(this, nanos);
         }
-        return told != null ? told : seen();
+        return told != null ? told : seen(true);
     }
 
     /** The value of a stage that has one, as of Java 19. */
@@ -515,7 +515,7 @@ public class Stage<T> extends Waits<T> {
         if (!isCompletedExceptionally() || isCancelled()) {
             throw new IllegalStateException(told == null ? "the stage isn't settled" : "the stage hasn't failed");
         }
-        return cause(((Fault) told).error);
+        return cause(((Fault) told).error());
     }
 
     @Override
@@ -528,7 +528,7 @@ public class Stage<T> extends Waits<T> {
     public String toString() {
         Object told = this.told;
         String state = told == null ? dependents == 0 ? "Not completed" : "Not completed, " + dependents + " dependents"
-                : told instanceof Fault ? "Completed exceptionally: " + Text.of(request.describe, ((Fault) told).error) : "Completed normally";
+                : told instanceof Fault ? "Completed exceptionally: " + Text.of(request.describe, ((Fault) told).error()) : "Completed normally";
         String waits = told == null ? request.waitsFor(this) : "";
         return Text.escaped(getClass().getName() + "@" + Integer.toHexString(hashCode()) + "[" + request.name() + ": " + request.called(this)
                 + ": " + state + waits + "]");
@@ -540,7 +540,7 @@ public class Stage<T> extends Waits<T> {
             return null;
         }
         if (told instanceof Fault) {
-            Throwable error = ((Fault) told).error;
+            Throwable error = ((Fault) told).error();
             if (error instanceof CancellationException) {
                 throw (CancellationException) error;
             }
@@ -555,7 +555,7 @@ public class Stage<T> extends Waits<T> {
             return null;
         }
         if (told instanceof Fault) {
-            Throwable error = ((Fault) told).error;
+            Throwable error = ((Fault) told).error();
             if (error instanceof CancellationException) {
                 throw (CancellationException) error;
             }
@@ -573,10 +573,16 @@ public class Stage<T> extends Waits<T> {
 
     @Override
     final Object seen() {
+        return seen(false);
+    }
+
+    /** The same, of who goes on at once or, where it isn't settled, waits. */
+    final Object seen(boolean orWaits) {
+        Object seen = super.seen();
         if (request.watch != null) {
-            request.watch.read(request, number);
+            request.watch.read(request, number, orWaits);
         }
-        return super.seen();
+        return seen;
     }
 
     /** Tells all who hang on it, and the recording. */
@@ -588,7 +594,7 @@ public class Stage<T> extends Waits<T> {
             Recorder recorder = Recorder.now();
             if (recorder != null && recorder.takesStages()) {
                 recorder.stage(request.name(), number, form.text, request.called(this),
-                        Text.of(request.describe, told == NIL ? null : told instanceof Fault ? ((Fault) told).error : told));
+                        Text.of(request.describe, told == NIL ? null : told instanceof Fault ? ((Fault) told).error() : told));
             }
         }
     }

@@ -70,7 +70,7 @@ abstract class Waits<T> extends CompletableFuture<T> {
     final void inherit() {
         Object told = this.told;
         if (told instanceof Fault) {
-            super.completeExceptionally(((Fault) told).error);
+            super.completeExceptionally(((Fault) told).error());
         } else {
             super.complete(told == NIL ? null : (T) told);
         }

@@ -50,6 +50,12 @@ final class Words {
         return head(ATTACH, who, first) | (long) sources << 32 | (long) form.ordinal() << 24 | (long) second << 12 | function;
     }
 
+    /** The sources of a stage that a word attaches. */
+    static int[] sources(long word) {
+        int second = low(word) >>> 12 & 0xfff;
+        return tag(word) == 0 ? new int[0] : tag(word) == 1 ? new int[] {stage(word)} : new int[] {stage(word), second};
+    }
+
     /** The same event, of another caller. */
     static long by(int who, long word) {
         return word & ~(0xffL << 48) | (long) who << 48;

@@ -44,6 +44,15 @@ public final class AllTests {
         test("requests closed by others in every order", ClosingTest::closedAtAnyMoment);
         test("requests closed before time", ClosingTest::closedBefore);
         test("all that is cancelled", ClosingTest::cancelsAll);
+        test("a limit of a request at its edges", ClosingTest::cancelsRest);
+        test("what goes on where a request ends", ClosingTest::goesOn);
+        test("a limit of a request in every order", ClosingTest::cancelsRestAtAnyMoment);
+        test("users' code under a lock", UserCodeTest::unlocked);
+        test("calls by states", EndsTest::byStates);
+        test("what could go on behind random programs", LeftTest::programs);
+        test("exceptions beside Java's", FaultsTest::besideJavas);
+        test("hooks that throw behind many stages", FaultsTest::hooks);
+        test("who has cancelled a stage", FaultsTest::stacks);
         test("late answers", TimeoutsTest::late);
         test("waiting in a pool of one", FunctionsTest::waitsWhileRunning);
         test("refused tasks", FunctionsTest::refusedTasks);
@@ -138,6 +147,7 @@ public final class AllTests {
         test("orders that are left out", OrdersTest::leftOut);
         test("a relay that was let go", OrdersTest::letGo);
         test("what functions and checks read", OrdersTest::read);
+        test("threads that come between", OrdersTest::between);
         test("limits in a world", OrdersTest::limits);
         test("cancels at any moment", OrdersTest::cancelled);
         test("points within functions", OrdersTest::points);

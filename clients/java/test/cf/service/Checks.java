@@ -57,6 +57,11 @@ public final class Checks {
         return finished;
     }
 
+    /** Whether a stage is settled, for which no other thread goes on first where a test is run in all orders. */
+    public static boolean isSettled(Stage<?> stage) {
+        return stage.seen(true) != null;
+    }
+
     /** {@code cf_look check} says that an account fits, where that program is. */
     public static void fits(String account) throws IOException, InterruptedException {
         String program = System.getProperty("cf.look", "");

@@ -12,6 +12,7 @@ import cf.service.watch.Watch;
 import cf.service.watch.Watched;
 import java.util.ArrayList;
 import java.util.Arrays;
+import java.util.Collections;
 import java.util.Comparator;
 import java.util.HashMap;
 import java.util.HashSet;
@@ -28,6 +29,8 @@ import java.util.concurrent.CompletionException;
 import java.util.concurrent.CompletionStage;
 import java.util.concurrent.Executor;
 import java.util.function.BooleanSupplier;
+import java.util.function.Supplier;
+import java.util.stream.Collectors;
 
 /**
  * One run of a test, of which a search chooses each move.
@@ -76,14 +79,15 @@ final class Run implements Watch, Executor {
     private final Map<Long, List<Long>> relays = new HashMap<>();
     private final Map<Long, String> relayed = new HashMap<>();
     private final List<Long> news = new ArrayList<>();
-    private final List<String> told = new ArrayList<>();
+    /** What the last move settled, in words that are asked for without a request's lock. */
+    private final List<Supplier<String>> told = new ArrayList<>();
     private final Thread home = Thread.currentThread();
     private Request outside;
     private Footprint footprint;
     /** Whose function goes on, on its own thread. */
     private Flight current;
     private String caller = "main";
-    private boolean isInUser, isOver, isStopped, isBeginning, isOutside, needsThreads, tells, isClosing;
+    private boolean isInUser, isInBody, isOver, isStopped, isBeginning, isOutside, needsThreads, tells, isClosing;
     /** What processes share, or null. */
     private WorldStore store;
     private int jobs;
@@ -306,19 +310,25 @@ final class Run implements Watch, Executor {
         if (flight.turn != null) {
             touch(flight.place, How.READS);
         }
-        String[] names = marks.get(flight.place);
+        flight.touches = shared(marks.get(flight.place));
         if (flight.turn == null || !settled.contains(flight.place)) {
-            if (names == UNMARKED) {
-                touch(Footprint.USER, How.CHANGES);
-            } else {
-                Arrays.stream(names).forEach(name -> touch("user " + name, How.CHANGES));
-                if (!checks.isEmpty()) {
-                    touch(Footprint.CHECKED, How.CHANGES);
-                }
-            }
+            flight.touches.forEach(thing -> touch(thing, How.CHANGES));
         }
         carry(flight);
         endOf(flight);
+    }
+
+    /** What a function shares with others that is marked with these names, in each of its moves. */
+    private List<Object> shared(String[] names) {
+        if (names == UNMARKED) {
+            return Collections.singletonList(Footprint.USER);
+        }
+        List<Object> things = new ArrayList<>();
+        Arrays.stream(names).forEach(name -> things.add("user " + name));
+        if (!checks.isEmpty()) {
+            things.add(Footprint.CHECKED);
+        }
+        return things;
     }
 
     private void goOn(Flight flight) {
@@ -428,31 +438,34 @@ final class Run implements Watch, Executor {
             on(flight, true);
             return;
         }
-        inUser(act);
+        inUser(act, true);
         flight.word = Word.END;
         leave();
     }
 
-    /** Calls what a test has given, on this thread. What it reads of stages is noted. */
-    private void inUser(Runnable act) {
-        boolean saved = isInUser;
+    /** Calls what a test has given, on this thread. What it reads of stages is noted. Where it is a function's body, others may come within it. */
+    private void inUser(Runnable act, boolean isBody) {
+        boolean savedUser = isInUser, savedBody = isInBody;
         isInUser = true;
+        isInBody = isBody;
         try {
             act.run();
         } finally {
-            isInUser = saved;
+            isInUser = savedUser;
+            isInBody = savedBody;
         }
     }
 
     /** Lets a thread go on until its function waits or has ended. */
     private void on(Flight flight, boolean begins) {
         Carrier carrier = flight.carrier;
-        boolean saved = isInUser;
-        isInUser = true;
+        boolean savedUser = isInUser, savedBody = isInBody;
+        isInUser = isInBody = true;
         current = flight;
         String stuck = begins ? carrier.begin(flight.act) : carrier.resume();
         current = null;
-        isInUser = saved;
+        isInUser = savedUser;
+        isInBody = savedBody;
         if (stuck != null) {
             flight.carrier = null;
             isStuck = true;
@@ -580,7 +593,7 @@ final class Run implements Watch, Executor {
         }
         Footprint seen = footprint = new Footprint();
         try {
-            inUser(() -> checks.forEach(this::look));
+            inUser(() -> checks.forEach(this::look), false);
         } finally {
             footprint = null;
         }
@@ -653,7 +666,7 @@ final class Run implements Watch, Executor {
         if (store == null) {
             store = new WorldStore(this);
             if (tells) {
-                store.rows.tells(told::add);
+                store.rows.tells(text -> told.add(() -> text));
             }
         }
         return store;
@@ -758,7 +771,7 @@ final class Run implements Watch, Executor {
     }
 
     @Override
-    public void settled(Request request, int stage, Object value, Throwable error) {
+    public void settled(Request request, int stage, Object value, Throwable error, boolean isWrapped) {
         long place = place(request, stage);
         settled.add(place);
         news.add(place);
@@ -768,7 +781,8 @@ final class Run implements Watch, Executor {
         if (request != outside && tells) {
             String name = stages.get(place).name();
             if (!name.startsWith("relay")) {
-                told.add(name + (error instanceof CancellationException ? " is cancelled" : " ends: " + text(error == null ? value : error)));
+                boolean isCancelled = error instanceof CancellationException && !isWrapped;
+                told.add(() -> name + (isCancelled ? " is cancelled" : " ends: " + text(error == null ? value : error)));
             }
         }
     }
@@ -804,15 +818,19 @@ final class Run implements Watch, Executor {
     }
 
     @Override
-    public void read(Request request, int stage) {
+    public void read(Request request, int stage, boolean orWaits) {
         if (isInUser && footprint != null) {
-            touch(place(request, stage), How.READS);
+            long place = place(request, stage);
+            touch(place, How.READS);
+            if (!orWaits && !settled.contains(place)) {
+                mayComeBetween();
+            }
         }
     }
 
     @Override
     public void looked(Request request) {
-        if (isInUser && footprint != null) {
+        if (footprint != null) {
             int index = indices.get(request);
             touch("attach " + index, How.READS);
             for (Long place : stages.keySet()) {
@@ -852,7 +870,7 @@ final class Run implements Watch, Executor {
     @Override
     public void user(Runnable act) {
         touch(Footprint.USER, How.CHANGES);
-        inUser(act);
+        inUser(act, false);
     }
 
     @Override
@@ -865,10 +883,21 @@ final class Run implements Watch, Executor {
             return;
         }
         while (turn.next()) {
+            if (!settings.isFine) {
+                mayComeBetween(); // By which others have come before.
+            }
             touch(place(turn.stage()), How.READS);
             turn.act();
             failed(turn, turn.stage().name());
+            mayComeBetween();
             turn.finish();
+        }
+    }
+
+    /** Others may come here, as real threads may anywhere, where a body calls functions behind what it settled, or has seen what may change. */
+    private void mayComeBetween() {
+        if (isInBody && !isClosing && why == null) {
+            point();
         }
     }
 
@@ -934,7 +963,7 @@ final class Run implements Watch, Executor {
 
     /** What the last move settled, but relays, whose stages are told. */
     List<String> told() {
-        return new ArrayList<>(told);
+        return told.stream().map(Supplier::get).collect(Collectors.toList());
     }
 
     /** What a value or an exception is called. */

@@ -34,8 +34,8 @@ public interface Watch {
     /** A stage ends as another one of its request does. Under the lock. */
     void follows(Request request, int stage, int of);
 
-    /** A stage was settled by the event that is told next, with a value or an exception. Under the lock. */
-    void settled(Request request, int stage, Object value, Throwable error);
+    /** A stage was settled by the event that is told next, with a value, or an exception, which may be passed on wrapped. Under the lock. */
+    void settled(Request request, int stage, Object value, Throwable error, boolean isWrapped);
 
     /** A stage's function is ready, or was claimed by whoever made it ready. Under the lock. */
     void became(Request request, int stage);
@@ -46,8 +46,8 @@ public interface Watch {
     /** A stage is to end as a future does that stands elsewhere. */
     void linked(Stage<?> relay, CompletionStage<?> of);
 
-    /** Somebody looks at a stage. */
-    void read(Request request, int stage);
+    /** Somebody has looked at a stage, and goes on at once, or waits if it isn't settled. */
+    void read(Request request, int stage, boolean orWaits);
 
     /** Somebody looks at all that happened to a request. */
     void looked(Request request);

@@ -1,5 +1,6 @@
 package cf.service.testing;
 
+import cf.service.Checks;
 import cf.service.Request;
 import cf.service.Stage;
 import java.io.BufferedReader;
@@ -159,7 +160,7 @@ public final class Asked {
 
         /** A look; the next one is a call more. */
         private void look(Caller caller, int stage, int most, int looks) {
-            boolean isDone = stage < made.size() && made.get(stage).isDone();
+            boolean isDone = stage < made.size() && Checks.isSettled(made.get(stage));
             if (counts && !isDone && looks < most) {
                 caller.calls.add(caller.made, new Caller.Call(() -> look(caller, stage, most, looks + 1), false));
             }

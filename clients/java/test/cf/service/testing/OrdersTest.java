@@ -374,6 +374,79 @@ public final class OrdersTest {
         }).run().failed().isEmpty(), false);
     }
 
+    /** Who calls functions behind a stage that he has settled, and who has seen that a stage is open, isn't alone: threads come between. */
+    public static void between() {
+        List<BiConsumer<World, Stage<Integer>>> settling = Arrays.asList(
+                (world, paid) -> paid.request().runAsync(() -> paid.complete(1)).named("pay"),
+                (world, paid) -> world.calls("a caller", () -> paid.complete(1)),
+                (world, paid) -> paid.request().supplyAsync(() -> paid.completeExceptionally(new IllegalStateException())),
+                (world, paid) -> paid.complete(1));
+        for (BiConsumer<World, Stage<Integer>> settles : settling) {
+            Set<String> seen = new HashSet<>();
+            Orders.of(world -> {
+                List<String> log = new ArrayList<>();
+                Stage<Integer> paid = world.service().request().promise();
+                Stage<Boolean> told = paid.handle((cents, error) -> log.add("told"));
+                world.settles(paid.handleAsync((cents, error) -> seen.add(log + " " + told.isDone()) | true));
+                settles.accept(world, paid);
+            }).seconds(60).whole().check();
+            is(seen, new HashSet<>(Arrays.asList("[] false", "[told] false", "[told] true")));
+        }
+        List<Function<Stage<Integer>, Boolean>> looks = Arrays.asList(it -> !it.isDone(), it -> !it.isCompletedExceptionally(), it -> !it.isCancelled(),
+                it -> it.getNow(0) == 0, it -> {
+                    try {
+                        return it.get(0, SECONDS) == 0;
+                    } catch (TimeoutException open) {
+                        return true;
+                    } catch (Exception failed) {
+                        return false;
+                    }
+                });
+        for (Function<Stage<Integer>, Boolean> isOpen : looks) {
+            Scenario asked = world -> {
+                List<Integer> charges = new ArrayList<>();
+                Stage<?>[] made = new Stage<?>[1];
+                Stage<Integer> price = world.arrives(4900, "price"), paid = price.thenApplyAsync(cents -> {
+                    @SuppressWarnings("unchecked")
+                    Stage<Integer> own = (Stage<Integer>) made[0];
+                    if (isOpen.apply(own)) {
+                        charges.add(cents);
+                    }
+                    return cents;
+                });
+                made[0] = paid.orTimeout(2, SECONDS);
+                world.check(() -> charges.size() <= 1, "charged at most once");
+                world.settles(paid.exceptionally(error -> {
+                    charges.add(4900);
+                    return 4900;
+                }));
+            };
+            is(why(asked), "charged at most once");
+        }
+        // Who cancels all looks at all, also at what is settled, or isn't attached yet.
+        Set<String> seen = new HashSet<>();
+        Orders.of(world -> {
+            Request request = world.service().request();
+            Stage<Integer> one = request.promise();
+            List<Stage<?>> attached = new ArrayList<>();
+            world.calls("completes", one, it -> it.complete(1));
+            world.calls("attaches", one, it -> attached.add(it.thenApply(x -> x)));
+            Stage<Integer> last = request.<Integer>promise().orTimeout(1, SECONDS);
+            request.cancelRestAfter(last);
+            world.atEnd(() -> seen.add(one.isCancelled() + " " + attached.get(0).isCancelled()) || true, "seen");
+        }).seconds(60).whole().check();
+        is(seen, new HashSet<>(Arrays.asList("false false", "false true", "true false", "true true")));
+        seen.clear();
+        Orders.of(world -> {
+            Request request = world.service().request();
+            Stage<Integer> one = request.promise();
+            world.calls("completes", one, it -> it.complete(1));
+            world.calls("cancels", request::cancelAll);
+            world.atEnd(() -> seen.add(one.isCancelled() + "") || true, "seen");
+        }).seconds(60).whole().check();
+        is(seen, new HashSet<>(Arrays.asList("false", "true")));
+    }
+
     public static void limits() {
         isSound(world -> {
             Request request = world.service().request();
