@@ -28,6 +28,9 @@ import java.util.function.Supplier;
  * </ul>
  */
 public final class StoredRequest {
+    /** How long a thread goes on to ask for payloads where the store is silent, in nanoseconds. */
+    private static final long LONGEST_SHOW = 1_000_000_000L;
+
     final String name;
     final long number;
     final AtomicBoolean isQueued = new AtomicBoolean();
@@ -45,6 +48,8 @@ public final class StoredRequest {
     /** The stages that were asked for, those of them that aren't shown to be settled, and those of these that are settled. */
     private final Map<Integer, StoredStage> stages = new HashMap<>();
     private final Set<StoredStage> open = new LinkedHashSet<>(), unshown = new LinkedHashSet<>();
+    /** Why nobody goes on with it here, or null where somebody does. */
+    private Throwable over;
 
     StoredRequest(StoreService service, RowView view) {
         this.service = service;
@@ -54,6 +59,8 @@ public final class StoredRequest {
         name = view.opened.name;
         number = view.opened.number;
         view.freedWith(this);
+        view.hears = service::hears;
+        view.learns = service::learns;
     }
 
     /** The request's name, by which other processes find it. */
@@ -415,17 +422,66 @@ public final class StoredRequest {
         if (stage == null) {
             stage = new StoredStage(this, number);
             stages.put(number, stage);
-            open.add(stage);
             if (view.isSettled(number)) {
+                open.add(stage);
                 unshown.add(stage);
+            } else if (over == null) {
+                open.add(stage);
+            } else {
+                stage.end.completeExceptionally(over);
             }
         }
         return stage;
     }
 
-    /** Settles the futures of stages that are settled by now. They are told without the lock. */
-    private void show() {
-        List<Runnable> tells = new ArrayList<>();
+    /**
+     * Settles the futures of stages that are settled by now. Their payloads are read, and those who wait are told, without the lock. What can't be read
+     * now is read soon by a thread of the service.
+     */
+    void show() {
+        Map<StoredStage, RowView.Ended> ends = settled();
+        if (ends.isEmpty()) {
+            return;
+        }
+        long until = service.host.nanoTime() + LONGEST_SHOW;
+        boolean areShown = false;
+        try {
+            boolean are = true;
+            for (Map.Entry<StoredStage, RowView.Ended> each : ends.entrySet()) {
+                are &= shows(each.getKey(), each.getValue());
+                if (!are && service.host.nanoTime() - until > 0) {
+                    return;
+                }
+            }
+            areShown = are;
+        } finally {
+            if (!areShown) {
+                service.showLater(this);
+            }
+        }
+    }
+
+    /** Whether the payload of a stage could be read, by one question, so that this is told. */
+    private boolean shows(StoredStage stage, RowView.Ended ended) {
+        try {
+            Runnable tells = telling(stage, ended);
+            if (takes(stage)) { // (else another thread tells it)
+                tells.run();
+            }
+            return true;
+        } catch (StoreException.Unknown silent) {
+            Throwable never = with(view -> {
+                if (over == null && unshown.remove(stage)) {
+                    unshown.add(stage); // (others come first then)
+                }
+                return over;
+            });
+            return never != null && takes(stage) && stage.end.completeExceptionally(never);
+        }
+    }
+
+    /** The stages that are to be shown, each with how it ended. */
+    private Map<StoredStage, RowView.Ended> settled() {
         lock.lock();
         try {
             for (int number : view.takeSettled()) {
@@ -434,33 +490,38 @@ public final class StoredRequest {
                     unshown.add(stage);
                 }
             }
-            unshown.removeIf(stage -> shows(stage, tells));
+            Map<StoredStage, RowView.Ended> ends = unshown.isEmpty() ? Collections.emptyMap() : new LinkedHashMap<>();
+            unshown.forEach(stage -> ends.put(stage, view.ended(stage.number)));
+            return ends;
         } finally {
             lock.unlock();
         }
-        tells.forEach(Runnable::run);
     }
 
-    /** Whether a settled stage can be shown now, which is to be told. */
-    private boolean shows(StoredStage stage, List<Runnable> tells) {
-        int[] outcome = view.outcome(stage.number);
+    /** What tells those who wait for a stage. */
+    private Runnable telling(StoredStage stage, RowView.Ended ended) {
         try {
-            Throwable fault = view.fault(outcome, stage.number);
-            Object value = fault == null ? view.value(outcome) : null;
-            tells.add(() -> service.host.tells(stage.end.getNumberOfDependents() > 0, () -> {
+            Throwable fault = ended.fault();
+            Object value = fault == null ? ended.value() : null;
+            return () -> service.host.tells(stage.end.getNumberOfDependents() > 0, () -> {
                 if (fault == null) {
                     stage.end.complete(value);
                 } else {
                     stage.end.completeExceptionally(fault);
                 }
-            }));
+            });
         } catch (StoreException.Unknown silent) {
-            return false; // It is shown later.
+            throw silent;
         } catch (StoreException broken) {
-            tells.add(() -> stage.end.completeExceptionally(broken));
+            return () -> stage.end.completeExceptionally(broken);
         }
-        open.remove(stage);
-        return true;
+    }
+
+    private boolean takes(StoredStage stage) {
+        return with(view -> {
+            open.remove(stage);
+            return unshown.remove(stage);
+        });
     }
 
     // What a search over a store looks at.
@@ -475,6 +536,7 @@ public final class StoredRequest {
         List<StoredStage> left;
         lock.lock();
         try {
+            over = fault;
             left = new ArrayList<>(open);
             open.clear();
             unshown.clear();
