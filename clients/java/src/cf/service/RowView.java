@@ -7,6 +7,7 @@ import java.util.Collections;
 import java.util.HashMap;
 import java.util.List;
 import java.util.Map;
+import java.util.Set;
 import java.util.TreeMap;
 import java.util.TreeSet;
 import java.util.concurrent.Callable;
@@ -33,6 +34,9 @@ final class RowView {
     /** The words that were seen, and whose each is. */
     private long[] words = new long[16], sessions = new long[16];
     private final StoredPlan plan;
+    /** A flow, and how many of its first steps are known to be the plan's. */
+    private StoredFlow alikeTo;
+    private int alike;
     /** Promises that composing stages were linked to, with the places of those words. */
     final TreeMap<Integer, Integer> links = new TreeMap<>();
     /** Composing stages that were settled, and whose promises may be waited for by nobody. */
@@ -521,6 +525,35 @@ final class RowView {
             stage.payload = null;
         }
         return stage.said;
+    }
+
+    /** The stage whose function a further try calls, or -1 where a stage isn't one. */
+    int triedAgain(int stage) {
+        int first = -1;
+        for (int again = said(stage).again; again >= 0; again = said(again).again) {
+            first = again;
+        }
+        return first;
+    }
+
+    /** The first attached stage of this form and these sources of which as much is said and which isn't left out, or -1. */
+    int attached(Form form, int[] of, StoredPlan.Said said, Set<Integer> leftOut) {
+        for (int stage = planned; stage < stages.size(); stage++) {
+            if (stages.get(stage).form == form && Arrays.equals(stages.get(stage).of, of) && !leftOut.contains(stage) && said(stage).isAlike(said)) {
+                return stage;
+            }
+        }
+        return -1;
+    }
+
+    /** Whether the steps of a flow up to this one are those of the plan that the request was begun with. */
+    boolean hasSteps(StoredFlow flow, int last) {
+        alike = flow == alikeTo ? alike : 0;
+        alikeTo = flow;
+        while (alike <= last && flow.hasStep(alike, plan)) {
+            alike++;
+        }
+        return alike > last;
     }
 
     /** What of the context of the place where a stage was attached goes along with its function. */

@@ -589,6 +589,8 @@ public final class StoreService implements AutoCloseable {
     /** A stage that this session has, with its function and what that is called with, or with what it ends in without a call. */
     private static final class Task {
         final int stage;
+        /** The stage whose function it is: the same, or that of which it is a further try. */
+        final int first;
         final String name;
         final Functions.Known function;
         final List<Object> args;
@@ -597,13 +599,14 @@ public final class StoreService implements AutoCloseable {
         final int to;
         final RemoteException ended;
 
-        Task(int stage, Functions.Known function, List<Object> args, StoredPlan.Said said, Map<String, Object> carried) {
+        Task(int stage, int first, Functions.Known function, List<Object> args, StoredPlan.Said said, int to, Map<String, Object> carried) {
             this.stage = stage;
+            this.first = first;
             name = said.function;
             this.function = function;
             this.args = args;
             named = said.named;
-            to = said.to;
+            this.to = to;
             this.carried = carried;
             ended = null;
         }
@@ -611,11 +614,11 @@ public final class StoreService implements AutoCloseable {
         Task(int stage, RemoteException ended) {
             this.stage = stage;
             this.ended = ended;
+            first = to = -1;
             name = null;
             function = null;
             args = null;
             named = carried = null;
-            to = -1;
         }
     }
 
@@ -790,7 +793,10 @@ public final class StoreService implements AutoCloseable {
     private Functions.Known function(RowView view, int stage) {
         StoredPlan.Said said = calledBy(view, stage);
         Functions.Known function = said.function == null ? null : functions.of(said.function, said.version);
-        if (function != null && !isFit(function.takes, view.form(stage), said)) {
+        if (function != null && function.takes == Functions.Takes.ELSEWHERE) {
+            return null;
+        }
+        if (function != null && !isFit(function.takes, view, stage, said)) {
             function = null;
         }
         if (function == null && unknown.add(said.function + " " + said.version)) {
@@ -800,25 +806,25 @@ public final class StoreService implements AutoCloseable {
         return function;
     }
 
-    /** Whether what a function takes is what a stage of this form has. */
-    private boolean isFit(Functions.Takes takes, Form form, StoredPlan.Said said) {
+    /** Whether what a function takes is what a stage has that calls it. */
+    private boolean isFit(Functions.Takes takes, RowView view, int stage, StoredPlan.Said said) {
         boolean hasAll = said.named.isEmpty() || takes == Functions.Takes.NAMED;
         boolean composes = takes == Functions.Takes.REQUEST;
-        return hasAll && composes == form.composes && (!composes || form == Form.COMPOSE && said.to >= 0)
+        return hasAll && composes == view.form(stage).composes && (!composes || view.said(stage).to >= 0)
                 && (takes != Functions.Takes.CONNECTION || store.isTransactional());
     }
 
     /** What is said of the stage whose function a stage calls: of itself, or of the one that it tries again. */
     private static StoredPlan.Said calledBy(RowView view, int stage) {
-        StoredPlan.Said said = view.said(stage);
-        return said.again < 0 ? said : view.said(said.again);
+        int first = view.triedAgain(stage);
+        return view.said(first < 0 ? stage : first);
     }
 
     private Task task(StoredRequest request, int stage, int[] reply) {
         return request.with(view -> {
             StoredPlan.Said said = calledBy(view, stage);
             List<Object> args = arguments(view, stage, reply);
-            int again = view.said(stage).again;
+            int again = view.triedAgain(stage);
             if (again >= 0) {
                 RemoteException thrown = passedOn(view, again, reply, (RemoteException) args.get(0));
                 if (thrown != null) {
@@ -827,7 +833,8 @@ public final class StoreService implements AutoCloseable {
                 args = argumentsAgain(view, again);
             }
             boolean isGiven = said.args != null && !said.args.isEmpty();
-            return new Task(stage, function(view, stage), isGiven ? new ArrayList<>(said.args) : args, said, view.carried(stage));
+            return new Task(stage, again < 0 ? stage : again, function(view, stage), isGiven ? new ArrayList<>(said.args) : args, said,
+                    view.said(stage).to, view.carried(stage));
         });
     }
 
@@ -865,7 +872,7 @@ public final class StoreService implements AutoCloseable {
     private static List<Object> got(RowView view, Form form, int[] outcome, int... of) {
         Throwable fault = view.fault(outcome, of);
         RemoteException thrown = fault == null ? null : remote(fault);
-        return form == Form.EXCEPTIONALLY ? Collections.singletonList(thrown)
+        return form == Form.EXCEPTIONALLY || form == Form.EXCEPTIONALLY_COMPOSE ? Collections.singletonList(thrown)
                 : Arrays.asList(fault == null ? view.value(outcome) : null, thrown);
     }
 
@@ -906,7 +913,7 @@ public final class StoreService implements AutoCloseable {
             if (task.ended != null) {
                 throw task.ended;
             }
-            Object value = host.call(task.name, () -> call(task, new Functions.Given(request, connection, task.args, task.named)));
+            Object value = value(request, task, connection);
             if (task.function.takes == Functions.Takes.REQUEST) {
                 if (!(value instanceof StoredStage) || ((StoredStage) value).request != request) {
                     throw new IllegalArgumentException("a function that composes has to give a stage of the request");
@@ -918,6 +925,18 @@ public final class StoreService implements AutoCloseable {
         } catch (Throwable thrown) { // (also an Error: the stage ends in it, and the thread goes on)
             host.passes(thrown);
             return RowView.Finish.throwing(task.stage, Json.write(RemoteException.of(thrown).written()));
+        }
+    }
+
+    /** What a function gives. One that composes attaches stages meanwhile, on this thread. */
+    private Object value(StoredRequest request, Task task, Connection connection) throws Throwable {
+        if (task.function.takes == Functions.Takes.REQUEST) {
+            request.beginComposing(task.stage, task.first);
+        }
+        try {
+            return host.call(task.name, () -> call(task, new Functions.Given(request, connection, task.args, task.named)));
+        } finally {
+            request.endComposing();
         }
     }
 
