@@ -4,7 +4,7 @@ from pathlib import Path
 from typing import List, NamedTuple, Optional, Sequence, Tuple
 
 from checking.crates import TOP
-from checking.tools import DEBIANS, JUNIT, POSTGRES, Tools
+from checking.tools import DEBIANS, JUNIT, POSTGRES, POSTGRES_JDBC, SQLITE_JDBC, Tools
 
 HEADER = "crates/cf_c/include"
 WARNED = ["-Wall", "-Wextra", "-pedantic", "-Werror"]
@@ -149,9 +149,6 @@ def rows_of_rust(tools: Tools, made: Path) -> List[Row]:
     ]
 
 
-SQLITE_JDBC = "/usr/share/java/sqlite-jdbc.jar"  # of Debian's libxerial-sqlite-jdbc-java; without it Java's tests leave stores out
-
-
 def rows_of_java(tools: Tools, made: Path) -> List[Row]:
     """The jar, with the library in it, is built once, by the first row."""
     javac, jar, tests = tools["JDK of 17 or later"], str(made / "java/cf-service.jar"), str(made / "java/tests")
@@ -160,11 +157,16 @@ def rows_of_java(tools: Tools, made: Path) -> List[Row]:
     junit, every_order = tools.found.get(JUNIT) or "", str(made / "java/junit")
     built = [["env", "JAVAC=" + javac, "CF_JUNIT=" + junit, "clients/java/build", "--quick", str(made / "java")],
              [javac, "-nowarn", "-encoding", "UTF-8", "-cp", jar, "-d", tests, *sources]]
-    java = [str(Path(javac).parent / "java"), "-Xmx64m", "-XX:+UseSerialGC", "-XX:TieredStopAtLevel=1", "-cp", f"{jar}:{tests}:{SQLITE_JDBC}"]
+    drivers = [tools.found[it] for it in [SQLITE_JDBC, POSTGRES_JDBC] if tools.found[it]]  # (Java's tests leave out what they have none for)
+    java = [str(Path(javac).parent / "java"), "-Xmx64m", "-XX:+UseSerialGC", "-XX:TieredStopAtLevel=1", "-cp", ":".join([jar, tests, *drivers])]
+    orders, order = made / "java-orders.db", " ".join(java + ["Order"])
     return [
         Row("Java's service", needs, [*built, [*java, "-Dcf.look=" + tools["cf_look"], "cf.service.AllTests"]]),
         Row("Java's first program", needs, [[*java, "First"]], ("clients/java", "First")),
         Row("Java's spans", needs, [[*java, "Traced"]], ("clients/java", "Traced")),
+        Row("Java's order that waits for an approval", [*needs, SQLITE_JDBC],
+            [["sh", "-c", f"rm -f {orders}* && {order} {orders} && {order} {orders} Ada && {order} {orders}"]], ("clients/java", "Order")),
+        Row("Java's requests in PostgreSQL", [*needs, POSTGRES, POSTGRES_JDBC], [[tools[POSTGRES], "conformance/stores/over", *java, "cf.service.AllTests"]]),
         Row("Java's order that charges twice", needs, [[*java, "Twice"]], ("docs/TESTING.md", "Twice")),
         Row("Java's orders that charge once", needs, [[*java, "Once"]], ("docs/TESTING.md", "Once")),
         Row("Java's process that is killed in every order", needs, [[*java, "Killed"]], ("docs/TESTING.md", "Killed")),
@@ -183,8 +185,8 @@ def rows_of_java(tools: Tools, made: Path) -> List[Row]:
 def rows_of_languages(tools: Tools, made: Path) -> List[Row]:
     """Requests that processes in three languages share. The jar is built once more, since rows of Java's may run at the same time."""
     python, javac, jar, classes = tools["python3"], tools["JDK of 17 or later"], str(made / "languages/cf-service.jar"), str(made / "languages/classes")
-    java = f"{Path(javac).parent / 'java'} -Xmx64m -XX:+UseSerialGC -XX:TieredStopAtLevel=1 -cp {jar}:{classes}:{SQLITE_JDBC} Faults"
-    workers = [f"CF_RUST_FAULTS={made / 'cargo/debug/examples/faults'}", *([f"CF_JAVA_FAULTS={java}"] if Path(SQLITE_JDBC).is_file() else [])]
+    java = f"{Path(javac).parent / 'java'} -Xmx64m -XX:+UseSerialGC -XX:TieredStopAtLevel=1 -cp {jar}:{classes}:{tools[SQLITE_JDBC]} Faults"
+    workers = [f"CF_RUST_FAULTS={made / 'cargo/debug/examples/faults'}", *([f"CF_JAVA_FAULTS={java}"] if tools.found[SQLITE_JDBC] else [])]
     return [Row("requests in SQLite that three languages share", ["library", "C compiler", "cargo", DEBIANS, "JDK of 17 or later", "python3", "cf_look"], [
         [python, "clients/rust/offline", "--debian", "build", "-q", "-p", "cf-store", "--features", "sqlite", "--example", "faults"],
         ["env", "JAVAC=" + javac, "clients/java/build", "--quick", str(made / "languages")],

@@ -15,6 +15,8 @@ DEBIANS = f"Debian's crates of {', '.join(CRATES)}"
 POSTGRES = "Debian's postgresql-15 and python3-psycopg2"
 JARS = Path("/usr/share/java")
 JUNIT = "JUnit 5, as Debian's junit5 has it"
+SQLITE_JDBC, POSTGRES_JDBC = (f"the driver for Java of {engine}, as Debian's {package} has it" for engine, package in
+                              [("SQLite", "libxerial-sqlite-jdbc-java"), ("PostgreSQL", "libpostgresql-jdbc-java")])
 NOTHING = "int main(void) { return 0; }\n"
 
 
@@ -43,6 +45,8 @@ class Tools:
         headers = javac and Path(os.path.realpath(javac)).parent.parent / "include/jni.h"
         self.found["JDK of 17 or later"] = javac if number and int(number[1]) >= 17 and headers.is_file() else None
         self.found[JUNIT] = junit()
+        for name, jar in [(SQLITE_JDBC, JARS / "sqlite-jdbc.jar"), (POSTGRES_JDBC, JARS / "postgresql.jar")]:
+            self.found[name] = str(jar) if jar.is_file() else None
         pythons = ["/usr/bin/python3", self["python3"]]
         self.found["setuptools and wheel for Python"] = self.importing(pythons, "setuptools, wheel, venv, ensurepip")
         self.found["Python's own tests"] = self.importing(pythons, "test.test_concurrent_futures")

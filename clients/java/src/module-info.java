@@ -1,7 +1,7 @@
 /** Completable futures whose requests leave one proved history each. */
 module cf.service {
     requires java.logging;
-    requires static transitive java.sql;
+    requires transitive java.sql;
     requires static jdk.jfr;
 
     exports cf.service;

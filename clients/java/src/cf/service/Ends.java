@@ -19,12 +19,19 @@ final class Ends<H> {
 
     private final Consumer<? super H> hook;
     private final ThreadPoolExecutor thread = new ThreadPoolExecutor(1, 1, IDLE_MILLIS, TimeUnit.MILLISECONDS, new LinkedBlockingQueue<>(MOST),
-            run -> new Thread(run, "cf-ends"));
+            Ends::waitedFor);
     private volatile boolean isFull;
 
     Ends(Consumer<? super H> hook) {
         this.hook = hook;
         thread.allowCoreThreadTimeOut(true);
+    }
+
+    /** A thread that the JVM waits for, also where a daemon makes it. */
+    private static Thread waitedFor(Runnable run) {
+        Thread made = new Thread(run, "cf-ends");
+        made.setDaemon(false);
+        return made;
     }
 
     /**

@@ -74,8 +74,8 @@ public final class Functions {
         Object call(Given given) throws Exception;
     }
 
-    /** Which of this a function takes, beside arguments. */
-    enum Takes { NOTHING, NAMED, REQUEST, CONNECTION }
+    /** Which of this a function takes, beside arguments. One that is elsewhere is called by other processes alone. */
+    enum Takes { NOTHING, NAMED, REQUEST, CONNECTION, ELSEWHERE }
 
     /** A function, and what it takes. */
     static final class Known {
@@ -131,6 +131,16 @@ public final class Functions {
         return add(name, version, Takes.CONNECTION, -1, given -> function.call(given.connection, given.args));
     }
 
+    /**
+     * Says that other processes have a function of this name and version. Here stages can be attached that call it, and it isn't called: so a process
+     * that only begins requests needs no function's code.
+     */
+    public Functions elsewhere(String name, int version) {
+        return add(name, version, Takes.ELSEWHERE, -1, given -> {
+            throw new IllegalStateException(name + " is elsewhere");
+        });
+    }
+
     private Functions add(String name, int version, Takes takes, int many, Any function) {
         Any checked = given -> {
             if (many >= 0 && given.args.size() != many) {
@@ -156,9 +166,11 @@ public final class Functions {
     int latest(String name, boolean composes) {
         TreeMap<Integer, Known> versions = known.get(name);
         if (versions == null) {
-            throw new IllegalArgumentException("no function \"" + name + "\" is registered: other processes know functions by name");
+            throw new IllegalArgumentException("no function \"" + name + "\" is registered: other processes know functions by name. One that only they"
+                    + " call is named by Functions.elsewhere");
         }
-        if (versions.lastEntry().getValue().takes == Takes.REQUEST != composes) {
+        Takes takes = versions.lastEntry().getValue().takes;
+        if (takes != Takes.ELSEWHERE && takes == Takes.REQUEST != composes) {
             throw new IllegalArgumentException("\"" + name + (composes ? "\" isn't registered as composing" : "\" composes: attach it by compose"));
         }
         return versions.lastKey();

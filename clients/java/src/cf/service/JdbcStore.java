@@ -152,14 +152,16 @@ public abstract class JdbcStore implements Store {
     static <T> Act<T> inTransaction(Act<T> act) {
         return it -> {
             it.db.setAutoCommit(false);
+            boolean stands = false;
             try {
                 T told = act.on(it);
                 it.db.commit();
+                stands = true;
                 return told;
-            } catch (SQLException | RuntimeException fault) {
-                it.db.rollback();
-                throw fault;
             } finally {
+                if (!stands) {
+                    it.db.rollback(); // (whatever was thrown: the next call would commit)
+                }
                 it.db.setAutoCommit(true);
             }
         };
@@ -325,12 +327,14 @@ public abstract class JdbcStore implements Store {
         return using(db -> put(db, put));
     }
 
-    private static final String PUT = "insert into cf_word (request, at, word, token, payload) ";
-    private static final String PUT_ONE = PUT + "select id, ?, ?, ?, ? from cf_request where id = ? on conflict do nothing";
-    private static final Map<Integer, String> PUT_GROUPS = new ConcurrentHashMap<>();
+    private static final String PUT = "insert into cf_word (request, at, word, token, payload) select id, ";
+    private final Map<Integer, String> putGroups = new ConcurrentHashMap<>();
+
+    /** What stands for the request of a number in a statement, as a table that is empty where it isn't there. ({@code where true} ends it for SQLite.) */
+    abstract String there();
 
     /** Puts a group by one statement, but for payloads of more bytes; whether its request is there and its first place was free. */
-    static boolean putAtOnce(PreparedConnection db, Put put, int most) throws SQLException {
+    final boolean putAtOnce(PreparedConnection db, Put put, int most) throws SQLException {
         int many = put.entries.size();
         Object[] values = new Object[4 * many + 1];
         for (int k = 0, at = 0; k < many; k++) {
@@ -342,13 +346,13 @@ public abstract class JdbcStore implements Store {
             values[at++] = payload == null || payload.length > most ? null : payload;
         }
         values[4 * many] = put.number;
-        return db.change(many == 1 ? PUT_ONE : PUT_GROUPS.computeIfAbsent(many, JdbcStore::putGroup), values) == many;
+        return db.change(putGroups.computeIfAbsent(many, this::putGroup), values) == many;
     }
 
     /** Of a group, a place that is taken is an error: else words behind it might stand. */
-    private static String putGroup(int many) {
+    private String putGroup(int many) {
         String values = String.join(", ", java.util.Collections.nCopies(many, "(?, ?, ?, ?)"));
-        return PUT + "select id, v.* from cf_request, (values " + values + ") as v where id = ?";
+        return many == 1 ? PUT + "?, ?, ?, ? from " + there() + " where true on conflict do nothing" : PUT + "v.* from (values " + values + ") as v, " + there();
     }
 
     /** The payload of a word, or null where it is large. */
@@ -420,8 +424,8 @@ public abstract class JdbcStore implements Store {
 
     @Override
     public final void setTimer(Timer timer) {
-        int kept = change("insert into cf_timer (request, stage, due, payload) select id, ?, ?, ? from cf_request where id = ? "
-                + "on conflict (request, stage) do update set due = excluded.due, payload = excluded.payload",
+        int kept = change("insert into cf_timer (request, stage, due, payload) select id, ?, ?, ? from " + there()
+                + " where true on conflict (request, stage) do update set due = excluded.due, payload = excluded.payload",
                 timer.stage, timer.due, timer.payload, timer.number);
         if (kept == 0) {
             throw new StoreException.Gone(timer.request);

@@ -84,7 +84,7 @@ final class PostgresStore extends JdbcStore {
     @Override
     boolean isAway(SQLException error) {
         String state = error.getSQLState();
-        return state == null || state.matches("(08|40|53|57|58).*|25006");
+        return state == null || state.matches("(08|40|53|55|57|58).*|25006");
     }
 
     @Override
@@ -111,6 +111,15 @@ final class PostgresStore extends JdbcStore {
     boolean undoes(PreparedConnection it) throws SQLException {
         it.db.rollback();
         return shown(it).get("transaction_read_only").equals("on");
+    }
+
+    /**
+     * Who puts has the request's row until the put stands, so that nobody drops it meanwhile, and finds none where another has dropped it. Whoever
+     * else puts, or closes the request, isn't kept waiting by that.
+     */
+    @Override
+    String there() {
+        return "(select id from cf_request where id = ? for key share) as there";
     }
 
     @Override

@@ -7,17 +7,19 @@ import java.util.Collections;
 import java.util.HashMap;
 import java.util.List;
 import java.util.Map;
+import java.util.Set;
 import java.util.TreeMap;
 import java.util.TreeSet;
 import java.util.concurrent.Callable;
 import java.util.concurrent.CancellationException;
 import java.util.concurrent.TimeoutException;
+import java.util.function.LongConsumer;
 
 /** What this session knows of one request's row, and how it puts words there. One thread at a time has it: its request's lock. */
 final class RowView {
     private static final int MOST_STAGES = 4096, ROOM = 8;
     /** How long the store may be silent, in nanoseconds. */
-    private static final long PATIENCE = 60_000_000_000L;
+    static final long PATIENCE = 60_000_000_000L;
 
     final Store.Opened opened;
     final long session;
@@ -32,6 +34,9 @@ final class RowView {
     /** The words that were seen, and whose each is. */
     private long[] words = new long[16], sessions = new long[16];
     private final StoredPlan plan;
+    /** A flow, and how many of its first steps are known to be the plan's. */
+    private StoredFlow alikeTo;
+    private int alike;
     /** Promises that composing stages were linked to, with the places of those words. */
     final TreeMap<Integer, Integer> links = new TreeMap<>();
     /** Composing stages that were settled, and whose promises may be waited for by nobody. */
@@ -43,6 +48,10 @@ final class RowView {
     /** Tokens of words of which it isn't known whether they stand, and the places where they would. */
     private final Map<Long, Integer> doubt = new HashMap<>();
     private final Map<Integer, byte[]> own = new HashMap<>();
+    /** Told of each other session whose word came since the row was first read; and that others have failed a stage which this session runs. */
+    LongConsumer hears = session -> {};
+    Runnable learns = () -> {};
+    private boolean isRead;
 
     /** A word that is wanted, with its payload. A value or an exception is named by the word's own place, so the word says only that there is one. */
     static final class Wanted {
@@ -261,6 +270,7 @@ final class RowView {
     /** Does what others have put. */
     void catchUp() {
         sure(host, () -> store.read(opened.name, opened.number, seen)).forEach(this::take);
+        isRead = true;
     }
 
     /** Puts words behind all that is seen, and does them; what they did, which is nothing where none was wanted. */
@@ -278,7 +288,7 @@ final class RowView {
             Store.Put put = planned(wanted);
             List<Store.Entry> stands;
             try {
-                stands = sure(host, () -> store.append(put));
+                stands = append(put);
             } catch (RuntimeException | Error fault) {
                 doubts(put);
                 throw fault;
@@ -298,6 +308,28 @@ final class RowView {
                 return own;
             }
         }
+    }
+
+    /** Puts until an answer comes. Where one is missing, and the same is refused then, what stands is read: it may be just that. */
+    private List<Store.Entry> append(Store.Put put) {
+        boolean[] isMissing = {false};
+        return sure(host, () -> {
+            try {
+                return store.append(put);
+            } catch (StoreException.Unknown silent) {
+                isMissing[0] = true;
+                throw silent;
+            } catch (StoreException refused) {
+                if (!isMissing[0] || refused instanceof StoreException.Broken) {
+                    throw refused;
+                }
+                List<Store.Entry> stands = store.read(opened.name, opened.number, put.at);
+                if (stands.isEmpty()) { // (what had no answer may still come)
+                    throw new StoreException.Unknown(refused.getMessage(), refused);
+                }
+                return stands;
+            }
+        });
     }
 
     /** Puts a word within a transaction, and lets that stand. Whether it does: where the place was taken, it doesn't. {@code Unknown} if it may. */
@@ -370,6 +402,8 @@ final class RowView {
     private Done take(Store.Entry entry) {
         int place = seen + 1;
         int[] changed;
+        long by = entry.token >>> Row.COUNT_BITS;
+        boolean failsOwn = by != session && Words.kind(entry.word) == Words.FAIL && isHeld(Words.stage(entry.word));
         try {
             if (Words.kind(entry.word) == Words.ATTACH) {
                 makeRoom(1);
@@ -383,6 +417,12 @@ final class RowView {
         }
         remember(entry);
         int[] reply = row.told.clone();
+        if (by != session && isRead) {
+            hears.accept(by);
+        }
+        if (failsOwn && reply[Row.ANSWER] != 0) {
+            learns.run();
+        }
         boolean isOwn = doubt.remove(entry.token) != null;
         if (isOwn) {
             host.did(opened.name, place, entry.word, reply[Row.ANSWER]);
@@ -487,6 +527,35 @@ final class RowView {
         return stage.said;
     }
 
+    /** The stage whose function a further try calls, or -1 where a stage isn't one. */
+    int triedAgain(int stage) {
+        int first = -1;
+        for (int again = said(stage).again; again >= 0; again = said(again).again) {
+            first = again;
+        }
+        return first;
+    }
+
+    /** The first attached stage of this form and these sources of which as much is said and which isn't left out, or -1. */
+    int attached(Form form, int[] of, StoredPlan.Said said, Set<Integer> leftOut) {
+        for (int stage = planned; stage < stages.size(); stage++) {
+            if (stages.get(stage).form == form && Arrays.equals(stages.get(stage).of, of) && !leftOut.contains(stage) && said(stage).isAlike(said)) {
+                return stage;
+            }
+        }
+        return -1;
+    }
+
+    /** Whether the steps of a flow up to this one are those of the plan that the request was begun with. */
+    boolean hasSteps(StoredFlow flow, int last) {
+        alike = flow == alikeTo ? alike : 0;
+        alikeTo = flow;
+        while (alike <= last && flow.hasStep(alike, plan)) {
+            alike++;
+        }
+        return alike > last;
+    }
+
     /** What of the context of the place where a stage was attached goes along with its function. */
     Map<String, Object> carried(int stage) {
         return stage < planned ? plan.carried : said(stage).carried;
@@ -565,12 +634,22 @@ final class RowView {
 
     /** What the payload of a place says, which is asked for where it isn't known. */
     private <T> T reading(int place, byte[] known, Reading<T> reading) {
-        byte[] payload = known == null ? payload(place) : known;
+        return read(opened, place, known == null ? payloadIfAny(place) : known, reading);
+    }
+
+    private static <T> T read(Store.Opened opened, int place, byte[] payload, Reading<T> reading) {
         try {
-            return reading.of(payload);
+            return reading.of(there(opened, place, payload));
         } catch (IllegalArgumentException | ClassCastException | NullPointerException fault) {
             throw new StoreException.Broken(opened.name, place, "its payload can't be read: " + fault.getMessage());
         }
+    }
+
+    private static byte[] there(Store.Opened opened, int place, byte[] payload) {
+        if (payload == null) {
+            throw new StoreException.Broken(opened.name, place, "no payload is there, and a word names it");
+        }
+        return payload;
     }
 
     private byte[] payloadIfAny(int place) {
@@ -579,11 +658,7 @@ final class RowView {
     }
 
     private byte[] payload(int place) {
-        byte[] payload = payloadIfAny(place);
-        if (payload == null) {
-            throw new StoreException.Broken(opened.name, place, "no payload is there, and a word names it");
-        }
-        return payload;
+        return there(opened, place, payloadIfAny(place));
     }
 
     /** The value of a kind and a number. */
@@ -593,23 +668,79 @@ final class RowView {
 
     /** The exception of an outcome that one of these stages has, or null where it is a value. */
     Throwable fault(int[] outcome, int... of) {
+        int place = outcome[0] == Row.VALUE ? 0 : placeOf(outcome, of);
+        return place == 0 ? fault(outcome[0], null) : reading(place, payload -> fault(outcome[0], payload));
+    }
+
+    Object value(int[] outcome) {
+        return value(outcome[Row.SOME], outcome[Row.GIVEN]);
+    }
+
+    /** The place of the payload that says more of an outcome which one of these stages has, or 0. */
+    private int placeOf(int[] outcome, int... of) {
         switch (outcome[0]) {
+            case Row.VALUE:
+                return outcome[Row.SOME] == 0 ? 0 : outcome[Row.GIVEN];
+            case Row.THROWN:
+                return outcome[Row.CODE];
+            case Row.TIMED_OUT:
+                return failedOf(of, Row.TIMED_OUT);
+            default:
+                return 0;
+        }
+    }
+
+    /** The exception of an outcome of a kind, by its payload if it has one; or null where it is a value. */
+    private static Throwable fault(int kind, byte[] payload) {
+        switch (kind) {
             case Row.VALUE:
                 return null;
             case Row.THROWN:
-                return reading(outcome[Row.CODE], payload -> RemoteException.read(Json.read(payload)));
+                return RemoteException.read(Json.read(payload));
             case Row.CANCELLED:
                 return new CancellationException();
             case Row.TIMED_OUT:
-                int place = failedOf(of, Row.TIMED_OUT);
-                return new TimeoutException(place == 0 ? null : reading(place, payload -> RemoteException.read(Json.read(payload)).text()));
+                return new TimeoutException(payload == null ? null : RemoteException.read(Json.read(payload)).text());
             default:
                 return new IllegalStateException("a stage waits for one for which it can't");
         }
     }
 
-    Object value(int[] outcome) {
-        return value(outcome[Row.SOME], outcome[Row.GIVEN]);
+    /** How a settled stage ended. */
+    Ended ended(int stage) {
+        int[] outcome = outcome(stage);
+        int place = placeOf(outcome, stage);
+        return new Ended(this, outcome[0], place, own.get(place));
+    }
+
+    /** How a stage ended. Any thread may read it, which asks the store at most once for each of both. */
+    static final class Ended {
+        private final Store store;
+        private final Store.Opened opened;
+        private final int kind, place;
+        private final byte[] payload;
+
+        Ended(RowView view, int kind, int place, byte[] payload) {
+            store = view.store;
+            opened = view.opened;
+            this.kind = kind;
+            this.place = place;
+            this.payload = payload;
+        }
+
+        /** Its exception, or null where it is a value. */
+        Throwable fault() {
+            return kind == Row.VALUE || place == 0 ? RowView.fault(kind, null) : read(given -> RowView.fault(kind, given));
+        }
+
+        /** Its value. */
+        Object value() {
+            return place == 0 ? null : read(Json::read);
+        }
+
+        private <T> T read(Reading<T> reading) {
+            return RowView.read(opened, place, payload == null ? store.payload(opened.name, opened.number, place) : payload, reading);
+        }
     }
 
     /** The numbers of a settled stage's outcome. */

@@ -38,6 +38,8 @@ final class SqliteStore extends JdbcStore {
     /** Codes of SQLite's: out of memory, and what is busy, locked, read-only, can't be read or written, full, or can't be opened. */
     private static final List<Integer> AWAY = Arrays.asList(5, 6, 7, 8, 10, 13, 14);
     private static final int CONSTRAINT = 19;
+    /** What SQLite says of a place that is taken, and not of a trigger of somebody's. */
+    private static final String TAKEN = "UNIQUE constraint failed: cf_word.";
 
     /** One by whose version it is seen what others have committed, and that version. */
     private PreparedConnection watch;
@@ -141,7 +143,7 @@ final class SqliteStore extends JdbcStore {
 
     @Override
     boolean isTaken(SQLException error) {
-        return (error.getErrorCode() & 0xff) == CONSTRAINT;
+        return (error.getErrorCode() & 0xff) == CONSTRAINT && String.valueOf(error.getMessage()).contains(TAKEN);
     }
 
     @Override
@@ -296,6 +298,11 @@ final class SqliteStore extends JdbcStore {
             }
         }
         return large;
+    }
+
+    @Override
+    String there() {
+        return "(select id from cf_request where id = ?) as there";
     }
 
     @Override

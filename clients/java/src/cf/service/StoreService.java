@@ -15,6 +15,7 @@ import java.util.concurrent.ConcurrentHashMap;
 import java.util.concurrent.RejectedExecutionException;
 import java.util.concurrent.TimeUnit;
 import java.util.concurrent.TimeoutException;
+import java.util.concurrent.atomic.AtomicInteger;
 import java.util.function.Consumer;
 
 /**
@@ -38,14 +39,22 @@ public final class StoreService implements AutoCloseable {
     /** Null where nobody is told of ends. */
     private final Ends<StoredHistory> ends;
     private final Watcher watcher;
-    private long nextBeat, nextLook;
+    private long nextBeat, nextLook, nextShow;
     private Object mark;
     private boolean isNamed;
     private final Map<String, StoredRequest> requests = new HashMap<>();
     /** Those that were closed, and that somebody here may have. */
     private final Map<String, WeakReference<StoredRequest>> left = new HashMap<>();
+    /** Those with stages that are settled, and whose payloads couldn't be read. */
+    private final Set<StoredRequest> unshown = ConcurrentHashMap.newKeySet();
     private final Set<String> broken = ConcurrentHashMap.newKeySet(), unknown = ConcurrentHashMap.newKeySet(), firing = ConcurrentHashMap.newKeySet();
     private volatile boolean stops;
+    /** Whether others have failed a stage that runs here, and this session hasn't said since that it is there. */
+    private volatile boolean isTakenForGone;
+    /** Until when what a function came to is put, once this service is closed. */
+    private volatile long lastPut;
+    /** How many jobs were handed to threads and haven't ended. */
+    private final AtomicInteger jobs = new AtomicInteger();
 
     /** Works on the requests that are opened here, with four threads and a lease of 10 s. The store is closed with the service. */
     public StoreService(Store store, Functions functions) {
@@ -188,6 +197,7 @@ public final class StoreService implements AutoCloseable {
 
     @Override
     public void close() {
+        lastPut = host.nanoTime() + RowView.PATIENCE;
         stops = true;
         boolean isInterrupted = false;
         try {
@@ -331,10 +341,12 @@ public final class StoreService implements AutoCloseable {
 
     /** Hands it to a thread, and says whether one takes it. */
     private boolean submit(Host.Job job, String name, StoredRequest request, Runnable act) {
+        jobs.incrementAndGet();
         try {
             host.execute(job, name, () -> guarded(name, request, act));
             return true;
         } catch (RejectedExecutionException | OutOfMemoryError noThread) {
+            jobs.decrementAndGet();
             if (!stops) {
                 host.warns("request \"" + name + "\"", name, noThread);
             }
@@ -350,6 +362,8 @@ public final class StoreService implements AutoCloseable {
         } catch (Throwable fault) {
             host.passes(fault);
             host.warns("request \"" + name + "\"", name, fault);
+        } finally {
+            jobs.decrementAndGet();
         }
     }
 
@@ -369,6 +383,21 @@ public final class StoreService implements AutoCloseable {
                 }
             }
         }
+        beatToTheEnd();
+    }
+
+    /** While functions run that the end waits for, nobody is to take this session for gone. */
+    private void beatToTheEnd() {
+        while (jobs.get() > 0) {
+            try {
+                host.sleep(Math.min(LONGEST_PAUSE, Math.max(1, lease / 5_000_000)));
+                beat();
+            } catch (InterruptedException interrupted) {
+                return;
+            } catch (RuntimeException | Error silent) {
+                // It is tried again.
+            }
+        }
     }
 
     void round() {
@@ -377,6 +406,10 @@ public final class StoreService implements AutoCloseable {
         if (now - nextLook >= 0) {
             nextLook = now + BETWEEN_TIMERS * 1_000_000;
             lookForTimers();
+        }
+        if (now - nextShow >= 0) {
+            nextShow = now + LONGEST_PAUSE * 1_000_000;
+            showUnshown();
         }
         mark = lookForNews(looks, mark);
     }
@@ -418,8 +451,43 @@ public final class StoreService implements AutoCloseable {
             if (request != null && (end > request.seen || (looks || end == 0) && needs(request))) {
                 serve(request);
             }
+            beat(); // (rows that are read for the first time may be many and long)
         });
         return news.mark;
+    }
+
+    /** A word of another session came, which is a sign of life as a beat is. */
+    void hears(long other) {
+        if (host.hears()) {
+            watcher.hears(other);
+        }
+    }
+
+    /** Others have failed a stage that runs here, as who takes this session for gone does. */
+    void learns() {
+        isTakenForGone = true;
+    }
+
+    /** Says that this session is there, where others took it for gone: before that it claims nothing, since they would fail that, too. */
+    private void comeBack() {
+        if (isTakenForGone) {
+            store.beat(session);
+            isTakenForGone = false;
+        }
+    }
+
+    /** Has a thread show the stages of a request soon whose payloads couldn't be read. */
+    void showLater(StoredRequest request) {
+        unshown.add(request);
+    }
+
+    private void showUnshown() {
+        for (StoredRequest request : unshown) {
+            unshown.remove(request);
+            if (!submit(Host.Job.WORK, request.name, request, request::show)) {
+                unshown.add(request);
+            }
+        }
     }
 
     private void pause() {
@@ -521,6 +589,8 @@ public final class StoreService implements AutoCloseable {
     /** A stage that this session has, with its function and what that is called with, or with what it ends in without a call. */
     private static final class Task {
         final int stage;
+        /** The stage whose function it is: the same, or that of which it is a further try. */
+        final int first;
         final String name;
         final Functions.Known function;
         final List<Object> args;
@@ -529,13 +599,14 @@ public final class StoreService implements AutoCloseable {
         final int to;
         final RemoteException ended;
 
-        Task(int stage, Functions.Known function, List<Object> args, StoredPlan.Said said, Map<String, Object> carried) {
+        Task(int stage, int first, Functions.Known function, List<Object> args, StoredPlan.Said said, int to, Map<String, Object> carried) {
             this.stage = stage;
+            this.first = first;
             name = said.function;
             this.function = function;
             this.args = args;
             named = said.named;
-            to = said.to;
+            this.to = to;
             this.carried = carried;
             ended = null;
         }
@@ -543,11 +614,11 @@ public final class StoreService implements AutoCloseable {
         Task(int stage, RemoteException ended) {
             this.stage = stage;
             this.ended = ended;
+            first = to = -1;
             name = null;
             function = null;
             args = null;
             named = carried = null;
-            to = -1;
         }
     }
 
@@ -628,11 +699,16 @@ public final class StoreService implements AutoCloseable {
 
     /**
      * Puts a finish, and with it the claim of the next stage, if there is one; what was claimed. While the store is away a finish is put again and
-     * again: its function has run. A value that the store refuses fails its stage.
+     * again: its function has run. So it is while the store takes nothing. A value that it refuses twice, while it takes something else, fails its
+     * stage.
      */
     private Task next(StoredRequest request, RowView.Finish finish) {
         RowView.Finish told = finish;
+        int refused = 0; // times in a row that the value was, while the store took something else
         List<Integer> chosen = new ArrayList<>();
+        if (finish == null) {
+            comeBack();
+        }
         while (true) {
             try {
                 RowView.Finish put = told;
@@ -653,21 +729,37 @@ public final class StoreService implements AutoCloseable {
             } catch (StoreException.Broken fault) {
                 throw fault;
             } catch (StoreException fault) {
-                if (finish == null || stops) {
+                if (finish == null || stops && host.nanoTime() - lastPut > 0) {
                     throw fault;
                 }
                 host.warns(request + ": " + fault.getMessage(), request.name, null);
                 if (!(fault instanceof StoreException.Unknown)) {
-                    told = RowView.Finish.throwing(finish.stage,
-                            Json.write(new RemoteException("StoreError", String.valueOf(fault.getMessage())).written()));
-                    pause();
+                    refused = told == finish && takesBeats() ? refused + 1 : 0;
+                    told = refused > 1 ? refused(finish, fault) : finish;
+                    if (refused == 0) {
+                        pause();
+                    }
                 }
             }
         }
     }
 
+    /** Whether the store can write now: else it isn't due to a value that it is refused. */
+    private boolean takesBeats() {
+        try {
+            store.beat(session);
+            return true;
+        } catch (StoreException cannot) {
+            return false;
+        }
+    }
+
+    private static RowView.Finish refused(RowView.Finish finish, StoreException fault) {
+        return RowView.Finish.throwing(finish.stage, Json.write(new RemoteException("StoreError", String.valueOf(fault.getMessage())).written()));
+    }
+
     private Task claimed(StoredRequest request, List<Integer> chosen, List<RowView.Done> done) {
-        if (chosen.size() > 1) {
+        if (chosen.size() > 1 || isTakenForGone) {
             goOn(request);
         }
         RowView.Done last = done.isEmpty() ? null : done.get(done.size() - 1);
@@ -685,7 +777,7 @@ public final class StoreService implements AutoCloseable {
 
     /** Up to two stages that this session could claim: those that are ready, or that the finish makes ready. */
     private List<Integer> choice(RowView view, RowView.Finish finish) {
-        if (stops || threads == 0) {
+        if (stops || threads == 0 || isTakenForGone) {
             return Collections.emptyList();
         }
         List<Integer> chosen = new ArrayList<>();
@@ -701,7 +793,10 @@ public final class StoreService implements AutoCloseable {
     private Functions.Known function(RowView view, int stage) {
         StoredPlan.Said said = calledBy(view, stage);
         Functions.Known function = said.function == null ? null : functions.of(said.function, said.version);
-        if (function != null && !isFit(function.takes, view.form(stage), said)) {
+        if (function != null && function.takes == Functions.Takes.ELSEWHERE) {
+            return null;
+        }
+        if (function != null && !isFit(function.takes, view, stage, said)) {
             function = null;
         }
         if (function == null && unknown.add(said.function + " " + said.version)) {
@@ -711,25 +806,25 @@ public final class StoreService implements AutoCloseable {
         return function;
     }
 
-    /** Whether what a function takes is what a stage of this form has. */
-    private boolean isFit(Functions.Takes takes, Form form, StoredPlan.Said said) {
+    /** Whether what a function takes is what a stage has that calls it. */
+    private boolean isFit(Functions.Takes takes, RowView view, int stage, StoredPlan.Said said) {
         boolean hasAll = said.named.isEmpty() || takes == Functions.Takes.NAMED;
         boolean composes = takes == Functions.Takes.REQUEST;
-        return hasAll && composes == form.composes && (!composes || form == Form.COMPOSE && said.to >= 0)
+        return hasAll && composes == view.form(stage).composes && (!composes || view.said(stage).to >= 0)
                 && (takes != Functions.Takes.CONNECTION || store.isTransactional());
     }
 
     /** What is said of the stage whose function a stage calls: of itself, or of the one that it tries again. */
     private static StoredPlan.Said calledBy(RowView view, int stage) {
-        StoredPlan.Said said = view.said(stage);
-        return said.again < 0 ? said : view.said(said.again);
+        int first = view.triedAgain(stage);
+        return view.said(first < 0 ? stage : first);
     }
 
     private Task task(StoredRequest request, int stage, int[] reply) {
         return request.with(view -> {
             StoredPlan.Said said = calledBy(view, stage);
             List<Object> args = arguments(view, stage, reply);
-            int again = view.said(stage).again;
+            int again = view.triedAgain(stage);
             if (again >= 0) {
                 RemoteException thrown = passedOn(view, again, reply, (RemoteException) args.get(0));
                 if (thrown != null) {
@@ -738,7 +833,8 @@ public final class StoreService implements AutoCloseable {
                 args = argumentsAgain(view, again);
             }
             boolean isGiven = said.args != null && !said.args.isEmpty();
-            return new Task(stage, function(view, stage), isGiven ? new ArrayList<>(said.args) : args, said, view.carried(stage));
+            return new Task(stage, again < 0 ? stage : again, function(view, stage), isGiven ? new ArrayList<>(said.args) : args, said,
+                    view.said(stage).to, view.carried(stage));
         });
     }
 
@@ -776,7 +872,7 @@ public final class StoreService implements AutoCloseable {
     private static List<Object> got(RowView view, Form form, int[] outcome, int... of) {
         Throwable fault = view.fault(outcome, of);
         RemoteException thrown = fault == null ? null : remote(fault);
-        return form == Form.EXCEPTIONALLY ? Collections.singletonList(thrown)
+        return form == Form.EXCEPTIONALLY || form == Form.EXCEPTIONALLY_COMPOSE ? Collections.singletonList(thrown)
                 : Arrays.asList(fault == null ? view.value(outcome) : null, thrown);
     }
 
@@ -798,14 +894,18 @@ public final class StoreService implements AutoCloseable {
         }
         Form form = view.form(stage);
         int[] of = view.sources(stage);
-        if (form.handles) {
-            return got(view, form, view.outcome(of[0]), of);
+        if (form.handles) { // (of an open source it is a bad answer, as in Python)
+            return got(view, form, view.isSettled(of[0]) ? view.outcome(of[0]) : new int[Row.GIVEN + 1], of);
         }
         List<Object> args = new ArrayList<>();
-        for (int source : of) {
-            args.add(view.isSettled(source) ? view.value(view.outcome(source)) : null);
+        for (int source : form == Form.APPLY_EITHER ? new int[] {hasValue(view, of[0]) || !hasValue(view, of[1]) ? of[0] : of[1]} : of) {
+            args.add(hasValue(view, source) ? view.value(view.outcome(source)) : null);
         }
-        return form == Form.APPLY_EITHER ? Collections.singletonList(args.get(args.get(0) == null ? 1 : 0)) : args;
+        return args;
+    }
+
+    private static boolean hasValue(RowView view, int stage) {
+        return view.isSettled(stage) && view.outcome(stage)[0] == Row.VALUE;
     }
 
     private RowView.Finish called(StoredRequest request, Task task, Connection connection) {
@@ -813,7 +913,7 @@ public final class StoreService implements AutoCloseable {
             if (task.ended != null) {
                 throw task.ended;
             }
-            Object value = host.call(task.name, () -> call(task, new Functions.Given(request, connection, task.args, task.named)));
+            Object value = value(request, task, connection);
             if (task.function.takes == Functions.Takes.REQUEST) {
                 if (!(value instanceof StoredStage) || ((StoredStage) value).request != request) {
                     throw new IllegalArgumentException("a function that composes has to give a stage of the request");
@@ -825,6 +925,18 @@ public final class StoreService implements AutoCloseable {
         } catch (Throwable thrown) { // (also an Error: the stage ends in it, and the thread goes on)
             host.passes(thrown);
             return RowView.Finish.throwing(task.stage, Json.write(RemoteException.of(thrown).written()));
+        }
+    }
+
+    /** What a function gives. One that composes attaches stages meanwhile, on this thread. */
+    private Object value(StoredRequest request, Task task, Connection connection) throws Throwable {
+        if (task.function.takes == Functions.Takes.REQUEST) {
+            request.beginComposing(task.stage, task.first);
+        }
+        try {
+            return host.call(task.name, () -> call(task, new Functions.Given(request, connection, task.args, task.named)));
+        } finally {
+            request.endComposing();
         }
     }
 
@@ -935,52 +1047,81 @@ public final class StoreService implements AutoCloseable {
     }
 
     /**
-     * Which sessions are gone, by this process's own clock: those whose beat stood still for a lease in which the store answered. A pause between two
-     * looks counts for half of it at most, since this process, or the machine, stood still then, and others may have, too.
+     * Which sessions are gone, by this process's own clock: those of which no sign of life came for a lease in which the store answered, be it a beat
+     * or a word. Time counts from an answer of the store to the next question alone, and for half a lease at most: this process, or the machine, may
+     * have stood still in a longer pause, and others, too.
      */
     static final class Watcher {
         private static final long LONG_GONE = 100; // leases
         private final long lease;
         private final Host host;
-        private final Map<Long, long[]> seen = new HashMap<>(); // a count, or -1, and since when
-        private long time, last;
+        /** By session, how often it beat, or -1 where that isn't known, and when its last sign of life came. */
+        private final Map<Long, long[]> seen = new HashMap<>();
+        private long time, answered;
+        /** Whether the last question was answered. */
+        private boolean isAnswered;
 
         Watcher(long lease, Host host) {
             this.lease = lease;
             this.host = host;
-            last = host.nanoTime();
         }
 
-        /** Reads all beats, and drops those of sessions that are long gone. */
-        synchronized void look(Store store) {
-            long now = host.nanoTime();
-            time += Math.min(now - last, lease / 2);
-            last = now;
+        /** Reads all beats, and drops those of sessions that are long gone. Nobody who asks waits for the store meanwhile. */
+        void look(Store store) {
+            ask();
             Map<Long, Long> beats;
             try {
                 beats = store.beats();
             } catch (StoreException.Unknown silent) {
-                seen.clear(); // While the store was away nobody could beat.
+                forget();
                 return;
             }
+            take(beats).forEach(store::dropBeat);
+        }
+
+        /** The time that has counted by now. */
+        private long counted() {
+            return isAnswered ? time + Math.min(host.nanoTime() - answered, lease / 2) : time;
+        }
+
+        private synchronized void ask() {
+            time = counted();
+            isAnswered = false;
+        }
+
+        /** While the store was away nobody could beat. */
+        private synchronized void forget() {
+            seen.clear();
+        }
+
+        /** Takes over what stands, and gives those that are long gone. */
+        private synchronized List<Long> take(Map<Long, Long> beats) {
+            isAnswered = true;
+            answered = host.nanoTime();
             beats.forEach((session, count) -> {
                 long[] known = seen.get(session);
                 if (known == null || known[0] != count) {
                     seen.put(session, new long[] {count, time});
                 }
             });
-            seen.entrySet().removeIf(it -> {
-                boolean isLongGone = it.getValue()[0] >= 0 && it.getValue()[1] < time - LONG_GONE * lease;
-                if (isLongGone) {
-                    store.dropBeat(it.getKey());
+            List<Long> longGone = new ArrayList<>();
+            seen.forEach((session, known) -> {
+                if (known[0] >= 0 && known[1] < time - LONG_GONE * lease) {
+                    longGone.add(session);
                 }
-                return isLongGone;
             });
+            seen.keySet().removeAll(longGone);
+            return longGone;
         }
 
-        /** Whether a session's beat stood still for so long. One that never beat counts from now on. */
+        /** A session has put a word. */
+        synchronized void hears(long session) {
+            seen.computeIfAbsent(session, it -> new long[] {-1, 0})[1] = counted();
+        }
+
+        /** Whether no sign of life of a session came for so long. One that never beat counts from now on. */
         synchronized boolean isGone(long session) {
-            return time - seen.computeIfAbsent(session, it -> new long[] {-1, time})[1] > lease;
+            return time - seen.computeIfAbsent(session, it -> new long[] {-1, counted()})[1] > lease;
         }
     }
 }

@@ -6,6 +6,7 @@ import java.util.Arrays;
 import java.util.LinkedHashMap;
 import java.util.List;
 import java.util.Map;
+import java.util.stream.Collectors;
 
 /**
  * A plan of stages with functions that are known by name, built once by one thread, and done again for each request in a store:
@@ -134,6 +135,18 @@ public final class StoredFlow {
         said.put("name", name);
         stages.add(said);
         return new Step(stages.size() - 1);
+    }
+
+    /** Whether its step of a number is the same as in a plan that a request was begun with. */
+    boolean hasStep(int number, StoredPlan plan) {
+        Map<String, Object> step = stages.get(number);
+        return name.equals(plan.flow) && number < plan.forms.size() && plan.forms.get(number).text.equals(step.get("form"))
+                && plan.said.get(number).name.equals(step.get("name"))
+                && Arrays.stream(plan.sources.get(number)).boxed().collect(Collectors.toList()).equals(step.get("of"));
+    }
+
+    String nameOf(Step step) {
+        return (String) stages.get(step.number).get("name");
     }
 
     /** The text of the plan, with the latest versions of its functions, and with what goes along with them. */

@@ -6,11 +6,14 @@ import java.util.Collections;
 import java.util.LinkedHashMap;
 import java.util.List;
 import java.util.Map;
+import java.util.Objects;
 
 /** The text of a request's plan, of which each process builds the same graph, and what payloads say of attached stages. */
 final class StoredPlan {
     private static final long FORMAT = 3;
 
+    /** The name of its flow, which is empty where there is none. */
+    final String flow;
     /** Form and sources of each stage, and what is said of it. */
     final List<Form> forms = new ArrayList<>();
     final List<int[]> sources = new ArrayList<>();
@@ -39,6 +42,7 @@ final class StoredPlan {
             if (!Long.valueOf(FORMAT).equals(read.get("cf"))) {
                 throw new IllegalArgumentException("it is of version " + read.get("cf"));
             }
+            flow = String.valueOf(read.get("flow"));
             List<Integer> numbers = new ArrayList<>();
             for (Object it : (List<?>) read.get("stages")) {
                 add((Map<?, ?>) it, numbers);
@@ -81,11 +85,14 @@ final class StoredPlan {
         final List<?> args;
         /** Arguments by name, and what of the context goes along. */
         final Map<String, Object> named, carried;
-        /** The stage whose function a further try calls, and the promise for what a composing stage's function gives; or -1. */
-        final int again, to;
+        /**
+         * The stage whose function a further try calls, the promise for what a composing stage's function gives, and the composing stage whose function
+         * has attached it; or -1.
+         */
+        final int again, to, by;
 
         Said(Map<?, ?> read, int number) {
-            name = (String) java.util.Objects.requireNonNull(read.get("name"), "a stage has no name");
+            name = (String) Objects.requireNonNull(read.get("name"), "a stage has no name");
             function = (String) read.get("fn");
             version = read.get("version") == null ? 0 : Math.toIntExact((Long) read.get("version"));
             args = (List<?>) read.get("args");
@@ -93,6 +100,17 @@ final class StoredPlan {
             carried = named(read.get("context"));
             again = lower(read.get("again"), number);
             to = lower(read.get("to"), number);
+            by = lower(read.get("by"), number);
+        }
+
+        /** Whether as much is said of another stage, but for what goes along, and for its promise. */
+        boolean isAlike(Said other) {
+            return name.equals(other.name) && Objects.equals(function, other.function) && version == other.version && again == other.again
+                    && by == other.by && named.equals(other.named) && given(args).equals(given(other.args));
+        }
+
+        private static List<?> given(List<?> args) {
+            return args == null ? Collections.emptyList() : args;
         }
 
         private static int lower(Object stage, int number) {

@@ -5,6 +5,7 @@ import java.util.ArrayList;
 import java.util.Arrays;
 import java.util.Collections;
 import java.util.HashMap;
+import java.util.HashSet;
 import java.util.LinkedHashMap;
 import java.util.LinkedHashSet;
 import java.util.List;
@@ -28,6 +29,9 @@ import java.util.function.Supplier;
  * </ul>
  */
 public final class StoredRequest {
+    /** How long a thread goes on to ask for payloads where the store is silent, in nanoseconds. */
+    private static final long LONGEST_SHOW = 1_000_000_000L;
+
     final String name;
     final long number;
     final AtomicBoolean isQueued = new AtomicBoolean();
@@ -42,9 +46,13 @@ public final class StoredRequest {
     private final Lock writes, lock;
     /** The threads that run a transactional function of it. */
     private final Set<Thread> transacts = ConcurrentHashMap.newKeySet();
+    /** By the threads that run them, the stages whose functions attach stages to it. */
+    private final Map<Thread, Composing> composes = new ConcurrentHashMap<>();
     /** The stages that were asked for, those of them that aren't shown to be settled, and those of these that are settled. */
     private final Map<Integer, StoredStage> stages = new HashMap<>();
     private final Set<StoredStage> open = new LinkedHashSet<>(), unshown = new LinkedHashSet<>();
+    /** Why nobody goes on with it here, or null where somebody does. */
+    private Throwable over;
 
     StoredRequest(StoreService service, RowView view) {
         this.service = service;
@@ -54,6 +62,8 @@ public final class StoredRequest {
         name = view.opened.name;
         number = view.opened.number;
         view.freedWith(this);
+        view.hears = service::hears;
+        view.learns = service::learns;
     }
 
     /** The request's name, by which other processes find it. */
@@ -124,8 +134,17 @@ public final class StoredRequest {
         return said;
     }
 
-    /** The stage of a step of the flow that the request was started by. */
+    /**
+     * The stage of a step of the flow that the request was begun with, in any process: of a flow of the same name, whose steps up to this one have the
+     * same forms, sources and names.
+     *
+     * @throws IllegalArgumentException it was begun with another one
+     */
     public StoredStage stage(StoredFlow.Step step) {
+        if (!with(view -> view.hasSteps(step.flow(), step.number))) {
+            throw new IllegalArgumentException(this + " wasn't begun with this flow " + step.flow().name + ": it has no such step "
+                    + step.flow().nameOf(step));
+        }
         return stage(step.number);
     }
 
@@ -194,7 +213,12 @@ public final class StoredRequest {
     }
 
     StoredStage behind(Form form, String function, int... of) {
-        return attach(form, service.said(function, false), of);
+        return attach(form, saidOf(function, false), of);
+    }
+
+    /** What is said of a stage that calls a registered function. */
+    Map<String, Object> saidOf(String function, boolean composes) {
+        return service.said(function, composes);
     }
 
     /** What is said of a stage without a function. */
@@ -212,8 +236,9 @@ public final class StoredRequest {
     }
 
     StoredStage attach(Form form, Map<String, ?> said, int... of) {
-        byte[] payload = Json.write(said);
-        return attached(1, view -> {
+        Map<String, Object> all = withComposing(said);
+        byte[] payload = Json.write(all);
+        return attached(form, of, all, view -> {
             int function = form.calls ? view.size() : 0;
             return Collections.singletonList(attaching(form, of, function, payload));
         });
@@ -224,19 +249,35 @@ public final class StoredRequest {
         return new RowView.Wanted(Words.attach(0, form, of.length, first, second, function), payload);
     }
 
-    /** A stage that composes has a promise before it, which stands for what its function gives. */
-    StoredStage compose(StoredStage source, String function) {
-        Map<String, Object> said = service.said(function, true);
-        byte[] promise = Json.write(said("what " + function + " gives"));
-        return attached(2, view -> {
-            said.put("to", view.size());
-            return Arrays.asList(attaching(Form.SOURCE, new int[0], 0, promise),
-                    attaching(Form.COMPOSE, new int[] {source.number}, view.size() + 1, Json.write(said)));
+    /** A stage that composes, or a further try of one, has a promise before it, which stands for what its function gives. */
+    StoredStage compose(Form form, StoredStage source, Map<String, Object> said) {
+        Map<String, Object> all = withComposing(said);
+        int[] of = {source.number};
+        byte[] promise = Json.write(said("what " + said.get("name") + " gives"));
+        return attached(form, of, all, view -> {
+            Map<String, Object> own = new LinkedHashMap<>(all);
+            own.put("to", view.size());
+            return Arrays.asList(attaching(Form.SOURCE, new int[0], 0, promise), attaching(form, of, view.size() + 1, Json.write(own)));
         });
     }
 
-    /** Puts words that attach so many stages, and gives the last of these. */
-    private StoredStage attached(int many, RowView.Decision decision) {
+    /** What is said of a stage, with the composing one whose function attaches it on this thread, if any does. */
+    private Map<String, Object> withComposing(Map<String, ?> said) {
+        Map<String, Object> all = new LinkedHashMap<>(said);
+        Composing composing = composes.get(Thread.currentThread());
+        if (composing != null) {
+            all.put("by", composing.first);
+        }
+        return all;
+    }
+
+    /**
+     * Puts words that attach stages, and gives the last of these, which is of this form; or gives the one that an earlier try of the function has
+     * attached which runs on this thread.
+     */
+    private StoredStage attached(Form form, int[] of, Map<String, Object> said, RowView.Decision decision) {
+        Composing composing = composes.get(Thread.currentThread());
+        int[] found = {-1};
         boolean mayBeClosed = view.isPlanned() || isClosed;
         if (mayBeClosed) { // (also where this call fails a thread of the service does it)
             reopens = true;
@@ -245,7 +286,11 @@ public final class StoredRequest {
         List<RowView.Done> done;
         try {
             done = act(view -> {
-                if (view.size() + many > 4096) {
+                found[0] = composing == null ? -1 : composing.found(view, form, of, said);
+                if (found[0] >= 0) {
+                    return Collections.emptyList();
+                }
+                if (view.size() + (form.composes ? 2 : 1) > 4096) {
                     throw new RequestFullException(name);
                 }
                 return decision.of(view);
@@ -254,7 +299,41 @@ public final class StoredRequest {
         } finally {
             service.serveKnown(this);
         }
-        return stage(done.get(many - 1).reply[Row.NUMBER]);
+        int number = found[0] >= 0 ? found[0] : done.get(done.size() - 1).reply[Row.NUMBER];
+        if (composing != null) {
+            composing.taken.add(number);
+        }
+        return stage(number);
+    }
+
+    /** A stage of this session's whose function runs, and attaches stages. */
+    private static final class Composing {
+        /** The stage, and the one whose function it is: the same, or that of which it is a further try. */
+        final int stage, first;
+        /** What was attached, and what of an earlier try was found in the place of that. */
+        final Set<Integer> taken = new HashSet<>();
+
+        Composing(int stage, int first) {
+            this.stage = stage;
+            this.first = first;
+        }
+
+        /** What an earlier try has attached in the place of such a stage, or -1. It throws where the stage isn't this session's any more. */
+        int found(RowView view, Form form, int[] of, Map<String, Object> said) {
+            if (view.isSettled(stage) || !view.isHeld(stage)) {
+                throw new RemoteException(RemoteException.ABANDONED, view.said(first).name + " is settled, and its function attaches nothing any more");
+            }
+            return first == stage ? -1 : view.attached(form, of, new StoredPlan.Said((Map<?, ?>) Json.read(Json.write(said)), view.size()), taken);
+        }
+    }
+
+    /** A function that attaches stages runs on this thread from now on, for a stage that is the first try of its function, or a further one of that. */
+    void beginComposing(int stage, int first) {
+        composes.put(Thread.currentThread(), new Composing(stage, first));
+    }
+
+    void endComposing() {
+        composes.remove(Thread.currentThread());
     }
 
     /** An attached stage has at most two sources; a tree of them tells what one stage of all would. */
@@ -415,17 +494,66 @@ public final class StoredRequest {
         if (stage == null) {
             stage = new StoredStage(this, number);
             stages.put(number, stage);
-            open.add(stage);
             if (view.isSettled(number)) {
+                open.add(stage);
                 unshown.add(stage);
+            } else if (over == null) {
+                open.add(stage);
+            } else {
+                stage.end.completeExceptionally(over);
             }
         }
         return stage;
     }
 
-    /** Settles the futures of stages that are settled by now. They are told without the lock. */
-    private void show() {
-        List<Runnable> tells = new ArrayList<>();
+    /**
+     * Settles the futures of stages that are settled by now. Their payloads are read, and those who wait are told, without the lock. What can't be read
+     * now is read soon by a thread of the service.
+     */
+    void show() {
+        Map<StoredStage, RowView.Ended> ends = settled();
+        if (ends.isEmpty()) {
+            return;
+        }
+        long until = service.host.nanoTime() + LONGEST_SHOW;
+        boolean areShown = false;
+        try {
+            boolean are = true;
+            for (Map.Entry<StoredStage, RowView.Ended> each : ends.entrySet()) {
+                are &= shows(each.getKey(), each.getValue());
+                if (!are && service.host.nanoTime() - until > 0) {
+                    return;
+                }
+            }
+            areShown = are;
+        } finally {
+            if (!areShown) {
+                service.showLater(this);
+            }
+        }
+    }
+
+    /** Whether the payload of a stage could be read, by one question, so that this is told. */
+    private boolean shows(StoredStage stage, RowView.Ended ended) {
+        try {
+            Runnable tells = telling(stage, ended);
+            if (takes(stage)) { // (else another thread tells it)
+                tells.run();
+            }
+            return true;
+        } catch (StoreException.Unknown silent) {
+            Throwable never = with(view -> {
+                if (over == null && unshown.remove(stage)) {
+                    unshown.add(stage); // (others come first then)
+                }
+                return over;
+            });
+            return never != null && takes(stage) && stage.end.completeExceptionally(never);
+        }
+    }
+
+    /** The stages that are to be shown, each with how it ended. */
+    private Map<StoredStage, RowView.Ended> settled() {
         lock.lock();
         try {
             for (int number : view.takeSettled()) {
@@ -434,33 +562,38 @@ public final class StoredRequest {
                     unshown.add(stage);
                 }
             }
-            unshown.removeIf(stage -> shows(stage, tells));
+            Map<StoredStage, RowView.Ended> ends = unshown.isEmpty() ? Collections.emptyMap() : new LinkedHashMap<>();
+            unshown.forEach(stage -> ends.put(stage, view.ended(stage.number)));
+            return ends;
         } finally {
             lock.unlock();
         }
-        tells.forEach(Runnable::run);
     }
 
-    /** Whether a settled stage can be shown now, which is to be told. */
-    private boolean shows(StoredStage stage, List<Runnable> tells) {
-        int[] outcome = view.outcome(stage.number);
+    /** What tells those who wait for a stage. */
+    private Runnable telling(StoredStage stage, RowView.Ended ended) {
         try {
-            Throwable fault = view.fault(outcome, stage.number);
-            Object value = fault == null ? view.value(outcome) : null;
-            tells.add(() -> service.host.tells(stage.end.getNumberOfDependents() > 0, () -> {
+            Throwable fault = ended.fault();
+            Object value = fault == null ? ended.value() : null;
+            return () -> service.host.tells(stage.end.getNumberOfDependents() > 0, () -> {
                 if (fault == null) {
                     stage.end.complete(value);
                 } else {
                     stage.end.completeExceptionally(fault);
                 }
-            }));
+            });
         } catch (StoreException.Unknown silent) {
-            return false; // It is shown later.
+            throw silent;
         } catch (StoreException broken) {
-            tells.add(() -> stage.end.completeExceptionally(broken));
+            return () -> stage.end.completeExceptionally(broken);
         }
-        open.remove(stage);
-        return true;
+    }
+
+    private boolean takes(StoredStage stage) {
+        return with(view -> {
+            open.remove(stage);
+            return unshown.remove(stage);
+        });
     }
 
     // What a search over a store looks at.
@@ -475,6 +608,7 @@ public final class StoredRequest {
         List<StoredStage> left;
         lock.lock();
         try {
+            over = fault;
             left = new ArrayList<>(open);
             open.clear();
             unshown.clear();

@@ -70,23 +70,27 @@ public final class StoredStage {
      * @return the stage that calls the function
      */
     public StoredStage compose(String function) {
-        return request.compose(this, function);
+        return request.compose(Form.COMPOSE, this, request.saidOf(function, true));
     }
 
     /**
      * Plans further tries, for the case that the process that runs this stage's function dies. The function may have done its work before, and does
-     * it once more with each try.
+     * it once more with each try. Each try takes one stage, and two where the stage composes. What an earlier try of a function that composes has
+     * attached isn't attached once more where the function attaches the same, on its own thread: a stage of the same kind, name, function, arguments
+     * and sources. What it doesn't attach again stays, and is run.
      *
      * @return the last try, which passes on the value of an earlier one
-     * @throws IllegalArgumentException the stage has no function, or composes: the stages that its function attaches may have further tries
+     * @throws IllegalArgumentException the stage has no function
      */
     public StoredStage again(int times) {
         StoredStage last = this;
-        if (request.with(view -> view.form(number).composes || !view.form(number).calls)) {
-            throw new IllegalArgumentException("it has no function of its own, or composes; stages that its function attaches may have further tries");
+        Form form = request.with(view -> view.form(number));
+        if (!form.calls) {
+            throw new IllegalArgumentException("it has no function of its own");
         }
         for (int k = 0; k < times; k++) {
-            last = request.attach(Form.EXCEPTIONALLY, request.again(this), last.number);
+            last = form.composes ? request.compose(Form.EXCEPTIONALLY_COMPOSE, last, request.again(this))
+                    : request.attach(Form.EXCEPTIONALLY, request.again(this), last.number);
         }
         return last;
     }

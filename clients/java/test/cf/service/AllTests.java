@@ -18,6 +18,22 @@ public final class AllTests {
     /** Runs the tests of these names, or all. */
     public static void main(String[] args) {
         chosen = args.length == 0 ? null : new LinkedHashSet<>(Arrays.asList(args));
+        if (StoresTest.InPostgres.address() == null) {
+            allTests();
+        } else {
+            overDatabase(StoresTest.InPostgres::new, "PostgreSQL", "database");
+            over(StoresTest.InPostgres::new, "puts beside a drop", StoreFaultsTest::dropped);
+            over(StoresTest.InPostgres::new, "locks that aren't free in time", StoreFaultsTest::lockedOut);
+        }
+        if (chosen != null && !chosen.isEmpty()) {
+            System.err.println("there are no tests " + chosen);
+            System.exit(2);
+        }
+        System.out.println(tests + " tests passed, with " + Native.version() + " on Java " + System.getProperty("java.version"));
+        System.exit(0);
+    }
+
+    private static void allTests() {
         test("Java's own classes", JavasFuturesTest::statics);
         test("Java's methods that take stages", JavasFuturesTest::takenByJava);
         test("who only asks", AskingTest::onlyAsks);
@@ -178,29 +194,20 @@ public final class AllTests {
         test("orders over a store by chance", StoredOrdersTest::byChance);
         test("JSON", StoresTest::json);
         test("who is gone", StoresTest::gone);
+        test("which errors of PostgreSQL say that it is away", StoreFaultsTest::away);
+        test("the module of JDBC", StoresTest::module);
         if (StoresTest.hasDriver()) {
-            over(StoresTest.InFile::new, "puts to SQLite", StoresTest::puts);
             over(StoresTest.InFile::new, "puts of several threads to SQLite", StoresTest::together);
-            over(StoresTest.InFile::new, "functions of requests in SQLite", StoresTest::functions);
-            over(StoresTest.InFile::new, "services that share a file", StoresTest::others);
-            over(StoresTest.InFile::new, "closed requests in SQLite", StoresTest::closed);
-            over(StoresTest.InFile::new, "timers in SQLite", StoresTest::timers);
-            over(StoresTest.InFile::new, "stages in SQLite, settled once", StoresTest::settled);
-            test("a process that dies", StoresTest::dies);
-            test("what hangs on an abandoned stage", StoresTest::hangs);
-            test("a further try whose process is gone", StoresTest::onceMore);
-            test("another request of a name", StoresTest::another);
             test("jobs that no thread took", StoresTest::noThread);
-            test("a value that can't be read once", StoresTest::unread);
-            test("rows that can't be gone on with", StoresTest::broken);
-            over(StoresTest.InFile::new, "functions that compose in SQLite", StoredFunctionsTest::composing);
-            over(StoresTest.InFile::new, "arguments by name", StoredFunctionsTest::named);
-            over(StoresTest.InFile::new, "transactional functions", StoredFunctionsTest::transactions);
-            over(StoresTest.InFile::new, "a process that dies in a transaction", StoredFunctionsTest::dies);
-            over(StoresTest.InFile::new, "contexts in SQLite", StoredFunctionsTest::contexts);
-            over(StoresTest.InFile::new, "flows in SQLite", StoredFunctionsTest::flows);
-            over(StoresTest.InFile::new, "ends of requests in SQLite", StoredFunctionsTest::ends);
-            over(StoresTest.InFile::new, "histories of requests in SQLite", StoredFunctionsTest::histories);
+            overDatabase(StoresTest.InFile::new, "SQLite", "file");
+            over(StoresTest.InFile::new, "who reads many requests at first", StoreFaultsTest::beats);
+            over(StoresTest.InFile::new, "a process that comes back", StoreFaultsTest::comesBack);
+            over(StoresTest.InFile::new, "further tries of what composes", StoreFaultsTest::composesAgain);
+            over(StoresTest.InFile::new, "functions that run at the end", StoreFaultsTest::closes);
+            over(StoresTest.InFile::new, "who waits at the end", StoreFaultsTest::over);
+            over(StoresTest.InFile::new, "a store that takes nothing for a while", StoreFaultsTest::refused);
+            over(StoresTest.InFile::new, "puts that are refused behind a missing answer", StoreFaultsTest::refusedLater);
+            over(StoresTest.InFile::new, "payloads that can't be read for a while", StoreFaultsTest::unread);
             if (StoresTest.onPath("flock")) {
                 over(StoresTest.InFile::new, "the line of who writes to a file", StoredFunctionsTest::line);
             } else {
@@ -232,16 +239,38 @@ public final class AllTests {
         } else {
             System.out.println("left out requests in etcd: there is no etcd, as Debian's etcd-server has it");
         }
-        if (chosen != null && !chosen.isEmpty()) {
-            System.err.println("there are no tests " + chosen);
-            System.exit(2);
-        }
-        System.out.println(tests + " tests passed, with " + Native.version() + " on Java " + System.getProperty("java.version"));
-        System.exit(0);
+    }
+
+    /** What holds of an engine of JDBC's. */
+    private static <P extends StoresTest.Database> void overDatabase(Callable<P> place, String engine, String kind) {
+        over(place, "puts to " + engine, StoresTest::puts);
+        over(place, "functions of requests in " + engine, StoresTest::functions);
+        over(place, "services that share a " + kind, StoresTest::others);
+        over(place, "closed requests in " + engine, StoresTest::closed);
+        over(place, "timers in " + engine, StoresTest::timers);
+        over(place, "stages in " + engine + ", settled once", StoresTest::settled);
+        over(place, "a process that dies", StoresTest::dies);
+        over(place, "what hangs on an abandoned stage", StoresTest::hangs);
+        over(place, "further tries of what was settled by hand", StoresTest::again);
+        over(place, "a further try whose process is gone", StoresTest::onceMore);
+        over(place, "another request of a name", StoresTest::another);
+        over(place, "a value that can't be read once", StoresTest::unread);
+        over(place, "rows that can't be gone on with", StoresTest::broken);
+        over(place, "functions that compose in " + engine, StoredFunctionsTest::composing);
+        over(place, "functions of other processes", StoredFunctionsTest::elsewhere);
+        over(place, "arguments by name", StoredFunctionsTest::named);
+        over(place, "transactional functions", StoredFunctionsTest::transactions);
+        over(place, "a process that dies in a transaction", StoredFunctionsTest::dies);
+        over(place, "contexts in " + engine, StoredFunctionsTest::contexts);
+        over(place, "flows in " + engine, StoredFunctionsTest::flows);
+        over(place, "ends of requests in " + engine, StoredFunctionsTest::ends);
+        over(place, "histories of requests in " + engine, StoredFunctionsTest::histories);
+        over(place, "calls that are broken off", StoreFaultsTest::brokenOff);
+        over(place, "transactions that are undone", StoreFaultsTest::undone);
     }
 
     /** Runs a test where its requests stand. */
-    private static <P extends StoresTest.Place> void over(Callable<P> place, String name, PlaceTest<P> test) {
+    private static <P extends StoresTest.Place> void over(Callable<P> place, String name, PlaceTest<? super P> test) {
         test(name, () -> {
             try (P at = place.call()) {
                 test.run(at);

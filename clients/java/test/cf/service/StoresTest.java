@@ -6,8 +6,11 @@ import static cf.service.Checks.thrown;
 import cf.service.watch.Host;
 import java.io.File;
 import java.io.IOException;
+import java.lang.module.ModuleDescriptor;
+import java.lang.module.ModuleFinder;
 import java.lang.reflect.InvocationTargetException;
 import java.lang.reflect.Proxy;
+import java.net.URI;
 import java.nio.charset.StandardCharsets;
 import java.nio.file.Files;
 import java.nio.file.Path;
@@ -37,9 +40,9 @@ public final class StoresTest {
 
     private StoresTest() {}
 
-    /** With a file, it is the process that dies in a function. */
+    /** With a database's address, it is the process that dies in a function. */
     public static void main(String[] args) throws Exception {
-        try (StoreService service = service(() -> JdbcStore.open("jdbc:sqlite:" + args[0]), new Functions().with("inc", 1, number -> {
+        try (StoreService service = service(() -> JdbcStore.open(args[0]), new Functions().with("inc", 1, number -> {
             Runtime.getRuntime().halt(7);
             return number;
         }))) {
@@ -68,16 +71,68 @@ public final class StoresTest {
         default void close() throws Exception {}
     }
 
+    /** One that has an address of JDBC's. */
+    interface Database extends Place {
+        String url();
+
+        @Override
+        default JdbcStore open() {
+            return JdbcStore.open(url());
+        }
+
+        /** A connection to the engine itself. */
+        default Connection connect() throws SQLException {
+            return DriverManager.getConnection(url());
+        }
+    }
+
+    /** A schema of its own in the database of PostgreSQL's that {@code CF_STORES} names, for as long as a test runs. */
+    static final class InPostgres implements Database {
+        private static final AtomicInteger SCHEMAS = new AtomicInteger();
+        private final String schema = "cf_test_" + ProcessHandle.current().pid() + "_" + SCHEMAS.incrementAndGet();
+
+        InPostgres() throws SQLException {
+            execute("create schema " + schema);
+        }
+
+        /** The address, or null where none is named. */
+        static String address() {
+            for (String named : System.getenv().getOrDefault("CF_STORES", "").split(" ")) {
+                if (named.startsWith("postgresql://")) {
+                    URI uri = URI.create(named);
+                    return "jdbc:postgresql://" + uri.getHost() + ":" + uri.getPort() + uri.getPath() + "?user=" + uri.getUserInfo();
+                }
+            }
+            return null;
+        }
+
+        private static void execute(String statement) throws SQLException {
+            try (Connection at = DriverManager.getConnection(address()); Statement asked = at.createStatement()) {
+                asked.execute(statement);
+            }
+        }
+
+        @Override
+        public String url() {
+            return address() + "&currentSchema=" + schema;
+        }
+
+        @Override
+        public void close() throws SQLException {
+            execute("drop schema " + schema + " cascade");
+        }
+    }
+
     /** A file of its own, for as long as a test runs. */
-    static final class InFile implements Place {
+    static final class InFile implements Database {
         final Path folder = Files.createTempDirectory("cf-store");
         final String path = folder.resolve("db").toString();
 
         InFile() throws IOException {}
 
         @Override
-        public JdbcStore open() {
-            return JdbcStore.open("jdbc:sqlite:" + path);
+        public String url() {
+            return "jdbc:sqlite:" + path;
         }
 
         @Override
@@ -98,7 +153,7 @@ public final class StoresTest {
     }
 
     /** A store of which this sees each call first. What it gives that isn't null is the answer. */
-    private static Store seen(Store store, BiFunction<String, Object[], Object> sees) {
+    static Store seen(Store store, BiFunction<String, Object[], Object> sees) {
         return (Store) Proxy.newProxyInstance(Store.class.getClassLoader(), new Class<?>[] {Store.class}, (proxy, method, args) -> {
             Object answer = sees.apply(method.getName(), args);
             try {
@@ -343,31 +398,29 @@ public final class StoresTest {
         }
     }
 
-    static void dies() throws Exception {
-        try (InFile file = new InFile()) {
-            int once, again;
-            Functions functions = new Functions().with("inc", 1, number -> (Long) number + 1);
-            try (StoreService planner = service(file, functions, 0, false)) {
-                StoredRequest request = planner.request("dies");
-                StoredStage number = request.promise("number"), inc = number.then("inc");
-                once = inc.number();
-                again = inc.again(1).number();
-                number.complete(1);
-            }
-            String java = System.getProperty("java.home") + "/bin/java";
-            Process child = new ProcessBuilder(java, "-cp", System.getProperty("java.class.path"), StoresTest.class.getName(), file.path).inheritIO().start();
-            is(child.waitFor(), 7);
-            try (StoreService service = service(file, functions)) {
-                StoredRequest request = service.open("dies");
-                is(remote(request.stage(once)).getMessage(), "Abandoned: the worker that ran inc is gone, and it may have run");
-                is(end(request.stage(again)), 2L);
-            }
+    static void dies(Database file) throws Exception {
+        int once, again;
+        Functions functions = new Functions().with("inc", 1, number -> (Long) number + 1);
+        try (StoreService planner = service(file, functions, 0, false)) {
+            StoredRequest request = planner.request("dies");
+            StoredStage number = request.promise("number"), inc = number.then("inc");
+            once = inc.number();
+            again = inc.again(1).number();
+            number.complete(1);
+        }
+        String java = System.getProperty("java.home") + "/bin/java";
+        Process child = new ProcessBuilder(java, "-cp", System.getProperty("java.class.path"), StoresTest.class.getName(), file.url()).inheritIO().start();
+        is(child.waitFor(), 7);
+        try (StoreService service = service(file, functions)) {
+            StoredRequest request = service.open("dies");
+            is(remote(request.stage(once)).getMessage(), "Abandoned: the worker that ran inc is gone, and it may have run");
+            is(end(request.stage(again)), 2L);
         }
     }
 
-    static void hangs() throws Exception {
+    static void hangs(Place place) throws Exception {
         Functions functions = new Functions().with("null", 1, value -> 1L).with("nulls", 1, (one, other) -> 1L);
-        try (InFile file = new InFile(); StoreService service = service(file, functions)) {
+        try (StoreService service = service(place, functions)) {
             StoredRequest request = service.request("hangs");
             StoredStage one = request.promise("one"), two = request.promise("two");
             StoredStage[] tries = {one.then("null").again(2), one.either(two, "null").again(2), one.combine(two, "nulls").again(2)};
@@ -379,14 +432,56 @@ public final class StoresTest {
         }
     }
 
-    static void onceMore() throws Exception {
+    /** A further try of a stage that was settled by hand is called with what its sources hold, the first one that has a value where one is enough. */
+    static void again(Place place) throws Exception {
+        Functions functions = new Functions().with("say", 1, value -> "with " + value).with("both", 1, (one, other) -> "with " + one + " and " + other)
+                .with("handled", 1, (value, thrown) -> "with " + value + ", " + (thrown == null ? null : ((RemoteException) thrown).kind()));
+        Object failed = "failed", open = "open";
+        Object[][] ends = {{null, 5}, {failed, 5}, {open, open}};
+        String[] either = {"null", "5", "null"};
+        try (StoreService plans = service(place, functions, 0, false)) {
+            List<StoredStage> tries = new ArrayList<>();
+            for (int k = 0; k < ends.length; k++) {
+                StoredRequest request = plans.request("again " + k);
+                StoredStage[] of = {request.promise("one"), request.promise("other")};
+                StoredStage[] stages = {of[0].either(of[1], "say"), of[0].combine(of[1], "both"), of[0].handle("handled")};
+                for (StoredStage stage : stages) {
+                    tries.add(stage.again(1));
+                    stage.fail(new RemoteException(RemoteException.ABANDONED, "by hand"));
+                }
+                for (int n = 0; n < 2; n++) {
+                    if (ends[k][n] == failed) {
+                        of[n].fail(new RemoteException("Closed", "we are closed"));
+                    } else if (ends[k][n] != open) {
+                        of[n].complete(ends[k][n]);
+                    }
+                }
+            }
+            try (StoreService works = service(place, functions, 4, true)) {
+                for (int k = 0; k < ends.length; k++) {
+                    Object[] of = new Object[2];
+                    for (int n = 0; n < 2; n++) {
+                        of[n] = ends[k][n] == failed || ends[k][n] == open ? null : ends[k][n];
+                    }
+                    String fault = ends[k][0] == failed ? "Closed" : ends[k][0] == open ? "BadAnswer" : "null";
+                    String[] wanted = {either[k], of[0] + " and " + of[1], of[0] + ", " + fault};
+                    for (int n = 0; n < wanted.length; n++) {
+                        StoredRequest request = works.open("again " + k);
+                        is(end(request.stage(tries.get(3 * k + n).number())), "with " + wanted[n]);
+                    }
+                }
+            }
+        }
+    }
+
+    static void onceMore(Place place) throws Exception {
         Functions functions = new Functions().with("null", 1, value -> 1L);
-        try (InFile file = new InFile(); StoreService planner = service(file, functions, 0, false)) {
+        try (StoreService planner = service(place, functions, 0, false)) {
             StoredRequest request = planner.request("once more");
             StoredStage one = request.promise("one"), last = one.then("null").again(2);
             is(one.fail(new RemoteException("Closed", "we are closed")), true);
             is(request.stage(last.number() - 1).fail(new RemoteException(RemoteException.ABANDONED, "gone")), true);
-            try (StoreService service = service(file, functions)) {
+            try (StoreService service = service(place, functions)) {
                 is(end(service.open("once more").stage(last.number())).toString().contains("we are closed"), true);
             }
         }
@@ -394,7 +489,7 @@ public final class StoresTest {
 
     /** Who is gone: not where this process stood still, or the store was away. The beats of who is long gone are dropped. */
     static void gone() {
-        long[] now = {0};
+        long[] now = {0}, takes = {0};
         boolean[] isAway = {false};
         Map<Long, Long> beats = new HashMap<>(Collections.singletonMap(1L, 1L));
         Host host = new Host() {
@@ -404,6 +499,7 @@ public final class StoresTest {
             }
         };
         Store store = seen(null, (call, args) -> {
+            now[0] += takes[0];
             if (isAway[0]) {
                 throw new StoreException.Unknown("away", null);
             }
@@ -426,6 +522,28 @@ public final class StoresTest {
             watcher.look(store);
         }
         is(watcher.isGone(7) + " " + beats, "true {}");
+        beats.put(2L, 1L);
+        watcher.look(store);
+        for (int looks = 0; looks < 4; looks++) { // (an answer that takes long is nobody's silence, and a word is a sign of life)
+            takes[0] = 60;
+            watcher.look(store);
+            takes[0] = 0;
+            is(watcher.isGone(2), false);
+        }
+        for (int looks = 0; looks < 4; looks++) {
+            now[0] += 40;
+            watcher.look(store);
+            watcher.hears(2);
+            is(watcher.isGone(2), false);
+        }
+        now[0] += 50;
+        watcher.look(store);
+        now[0] += 50;
+        watcher.look(store);
+        is(watcher.isGone(2), false);
+        now[0] += 1;
+        watcher.look(store);
+        is(watcher.isGone(2), true);
     }
 
     /** For the first job of each kind no thread can be started: what none took is taken later. */
@@ -453,9 +571,9 @@ public final class StoresTest {
     }
 
     /** Drops a request, as Python's processes can. */
-    private static void drop(InFile file, StoredRequest request) throws SQLException {
-        try (Connection at = DriverManager.getConnection("jdbc:sqlite:" + file.path); Statement asked = at.createStatement()) {
-            for (String table : new String[] {"cf_word", "cf_large", "cf_name"}) {
+    private static void drop(Database file, StoredRequest request) throws SQLException {
+        try (Connection at = file.connect(); Statement asked = at.createStatement()) {
+            for (String table : file instanceof InFile ? new String[] {"cf_word", "cf_large", "cf_name"} : new String[] {"cf_word", "cf_name"}) {
                 asked.execute("delete from " + table + " where request = " + request.number);
             }
             asked.execute("delete from cf_request where id = " + request.number);
@@ -463,10 +581,10 @@ public final class StoresTest {
     }
 
     /** A request is dropped, and another of its name opened: who has the first is told so, its timer is nothing to the second, and that goes on. */
-    static void another() throws Exception {
+    static void another(Database file) throws Exception {
         Functions functions = new Functions().with("inc", 1, number -> (Long) number + 1);
         List<Store.Timer> old = Collections.synchronizedList(new ArrayList<>());
-        try (InFile file = new InFile(); Store store = file.open(); StoreService other = service(file, functions, 0, false)) {
+        try (Store store = file.open(); StoreService other = service(file, functions, 0, false)) {
             Place keeping = () -> seen(store, (call, args) -> {
                 if (call.equals("dropTimer")) {
                     old.remove(args[0]);
@@ -496,14 +614,14 @@ public final class StoresTest {
     }
 
     /** A value can't be read once, behind the claim that is called with it: the function is called all the same. */
-    static void unread() throws Exception {
+    static void unread(Place place) throws Exception {
         Functions functions = new Functions().with("inc", 1, number -> (Long) number + 1);
         AtomicInteger reads = new AtomicInteger();
-        try (InFile file = new InFile(); StoreService asks = service(file, functions, 0, false)) {
+        try (StoreService asks = service(place, functions, 0, false)) {
             StoredStage number = asks.request("unread").promise("number");
             number.complete(1);
             StoredStage inc = number.then("inc");
-            Store store = file.open();
+            Store store = place.open();
             Place failing = () -> seen(store, (call, args) -> {
                 if (call.equals("payload") && args[2].equals(2) && reads.getAndIncrement() == 0) {
                     throw new StoreException("the value is away");
@@ -517,9 +635,8 @@ public final class StoresTest {
         }
     }
 
-    static void broken() throws Exception {
-        try (InFile file = new InFile(); JdbcStore store = file.open();
-                StoreService service = service(file, new Functions())) {
+    static void broken(Place place) throws Exception {
+        try (Store store = place.open(); StoreService service = service(place, new Functions())) {
             store.open("no plan", "{}");
             store.open("old plan", "{\"cf\":2,\"flow\":\"\",\"stages\":[]}");
             store.open("no source", "{\"cf\":3,\"flow\":\"\",\"stages\":[{\"form\":\"apply\",\"name\":\"a\",\"of\":[7]}]}");
@@ -528,5 +645,13 @@ public final class StoresTest {
             }
             thrown(StoreException.class, () -> JdbcStore.open("jdbc:other:x"));
         }
+    }
+
+    /** Who requires this module alone has that of JDBC, too: its public classes name it. */
+    static void module() throws Exception {
+        Path jar = Path.of(Request.class.getProtectionDomain().getCodeSource().getLocation().toURI());
+        ModuleDescriptor found = ModuleFinder.of(jar).find("cf.service").get().descriptor();
+        Set<ModuleDescriptor.Requires.Modifier> modifiers = found.requires().stream().filter(it -> it.name().equals("java.sql")).findFirst().get().modifiers();
+        is(modifiers, Collections.singleton(ModuleDescriptor.Requires.Modifier.TRANSITIVE));
     }
 }

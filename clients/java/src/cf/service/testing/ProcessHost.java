@@ -95,6 +95,11 @@ final class ProcessHost extends Host {
     }
 
     @Override
+    public boolean hears() {
+        return false;
+    }
+
+    @Override
     public void looked() {
         world.touch(process.thing, How.READS);
     }

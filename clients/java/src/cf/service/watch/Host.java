@@ -107,6 +107,11 @@ public class Host {
     /** A word of this service's was told to stand at a place of a request's row, and this is the answer that its event has. */
     public void did(String request, int place, long word, int answer) {}
 
+    /** Whether a word of a session says that the session is there. In a search no time passes with words, so they don't. */
+    public boolean hears() {
+        return true;
+    }
+
     /** Somebody looks at a stage, as this process has read it. */
     public void looked() {}
 
