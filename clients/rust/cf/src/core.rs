@@ -9,7 +9,9 @@ use crate::inner::{kept_of, After, Feed, Hands, Inner, Kept, News};
 use crate::ledger::Ledger;
 use crate::name::Made;
 use crate::slot::Held;
-use crate::spawn::{as_worker, guarded, in_turn, inline, is_inline_free, quietly, running, worker, Job, Payload, Row, Spawn, Turn, CLOCK, RELAY};
+use crate::spawn::{
+    as_worker, guarded, in_drop, in_turn, inline, is_inline_free, quietly, running, worker, Job, Payload, Row, Spawn, Turn, CLOCK, RELAY,
+};
 use crate::task::{Polling, Task};
 use crate::value::{Call, Gave, Given, Val};
 use crate::word::Form;
@@ -689,7 +691,7 @@ impl Drop for Core {
         }
         let kept = self.inner.get_mut().unwrap_or_else(PoisonError::into_inner).kept();
         if !kept.is_empty() {
-            in_turn(&DROPPED, kept, drop);
+            in_drop(|| in_turn(&DROPPED, kept, drop));
         }
     }
 }

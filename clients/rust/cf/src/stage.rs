@@ -90,7 +90,7 @@ use crate::error::{BoxError, Error, Refusal};
 use crate::help::Helper;
 use crate::name::Made;
 use crate::request::{later, Request};
-use crate::spawn::{here, Resting, StandIn, CALLER};
+use crate::spawn::{here, in_drop, Resting, StandIn, CALLER};
 use crate::value::{self, Call, Gave, Given, Val};
 use crate::word::Form;
 use sealed::Sealed;
@@ -759,7 +759,9 @@ impl<T: Clone + Send + Sync + 'static> Future for CancelOnDrop<T> {
 
 impl<T> Drop for CancelOnDrop<T> {
     fn drop(&mut self) {
-        self.0.cancel();
+        in_drop(|| {
+            self.0.cancel();
+        });
     }
 }
 
