@@ -82,6 +82,8 @@ mod core;
 mod describe;
 mod ends;
 mod error;
+#[cfg(test)]
+mod held;
 mod help;
 mod history;
 mod inner;
@@ -89,6 +91,8 @@ mod inner;
 mod json;
 mod ledger;
 mod name;
+#[cfg(test)]
+mod programs;
 mod record;
 mod request;
 #[cfg(feature = "tokio")]
@@ -99,6 +103,8 @@ mod slot;
 mod spans;
 mod spawn;
 mod stage;
+#[cfg(test)]
+mod states;
 mod task;
 #[cfg(feature = "testing")]
 pub mod testing;
