@@ -8,6 +8,7 @@ use cf_sys as sys;
 
 /// What a caller was told. `place` counts events of the history.
 #[derive(Clone, Copy, PartialEq, Eq, Debug)]
+#[non_exhaustive]
 pub enum Record {
     /// A changing call, which is the event at its place, and its reply.
     Did { place: u32, event: Event, reply: Reply },

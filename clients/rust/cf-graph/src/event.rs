@@ -14,6 +14,7 @@ pub enum Of {
 
 /// A changing call.
 #[derive(Clone, Copy, PartialEq, Eq, Debug)]
+#[non_exhaustive]
 pub enum Call {
     Complete(u16, Value),
     Fail(u16, u32),

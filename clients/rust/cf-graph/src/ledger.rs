@@ -40,6 +40,7 @@ pub struct Changes {
 
 /// Where a stage stands.
 #[derive(Clone, Copy, PartialEq, Eq, Debug)]
+#[non_exhaustive]
 pub enum State {
     /// It waits for its sources, or for whoever completes it.
     Pending,

@@ -9,6 +9,7 @@ use cf_sys as sys;
 /// How a stage depends on its sources; the names are those of Java's `CompletionStage`.
 #[derive(Clone, Copy, PartialEq, Eq, Debug)]
 #[repr(u32)]
+#[non_exhaustive]
 pub enum Form {
     Source,
     Supply,
@@ -60,6 +61,7 @@ pub(crate) fn form_out(number: u32) -> Form {
 
 /// What a limit does to a stage that isn't settled at its moment.
 #[derive(Clone, Copy, PartialEq, Eq, Debug)]
+#[non_exhaustive]
 pub enum Limit {
     Timeout,
     Give(Value),

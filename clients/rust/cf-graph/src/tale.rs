@@ -8,6 +8,7 @@ use cf_sys as sys;
 /// What texts are said of.
 #[derive(Clone, Copy, PartialEq, Eq, Debug)]
 #[repr(u32)]
+#[non_exhaustive]
 pub enum Said {
     /// The name of the whole, which is one text.
     Name = sys::CF_SAY_NAME,
@@ -24,6 +25,7 @@ pub enum Said {
 /// As what a tale is told.
 #[derive(Clone, Copy, PartialEq, Eq, Debug)]
 #[repr(u32)]
+#[non_exhaustive]
 pub enum Telling {
     /// For people: a line for each event, and one for each stage that it settled.
     Lines = sys::CF_LINES,

@@ -7,6 +7,7 @@ use std::fmt;
 
 /// Why a script has no report.
 #[derive(Clone, PartialEq, Eq, Debug)]
+#[non_exhaustive]
 pub enum ScriptFault {
     /// It has a fault, which `cf run` tells by this line.
     Line(String),

@@ -10,6 +10,7 @@ pub enum Value {
 
 /// Why a stage ended without a value.
 #[derive(Clone, Copy, PartialEq, Eq, Debug)]
+#[non_exhaustive]
 pub enum Cause {
     Thrown(u32),
     Cancelled,
@@ -19,6 +20,7 @@ pub enum Cause {
 
 /// With which cause, other than a thrown code and a cancellation, a caller fails a stage.
 #[derive(Clone, Copy, PartialEq, Eq, Debug)]
+#[non_exhaustive]
 pub enum Failure {
     /// Time ran out for it.
     TimedOut,
@@ -52,6 +54,7 @@ pub enum Answer {
 
 /// What is told of a stage at present.
 #[derive(Clone, Copy, PartialEq, Eq, Debug)]
+#[non_exhaustive]
 pub enum Now {
     Absent(Value),
     Value(Value),
@@ -60,6 +63,7 @@ pub enum Now {
 }
 
 #[derive(Clone, Copy, PartialEq, Eq, Debug)]
+#[non_exhaustive]
 pub enum Claimed {
     Granted(Args),
     Settled,
@@ -68,6 +72,7 @@ pub enum Claimed {
 }
 
 #[derive(Clone, Copy, PartialEq, Eq, Debug)]
+#[non_exhaustive]
 pub enum Finished {
     Won,
     Late,
@@ -76,6 +81,7 @@ pub enum Finished {
 
 /// How many limits settled their stage, or that a later moment was handed in before.
 #[derive(Clone, Copy, PartialEq, Eq, Debug)]
+#[non_exhaustive]
 pub enum Ticked {
     Fired(u32),
     Past,
@@ -83,6 +89,7 @@ pub enum Ticked {
 
 /// What a changing call was answered.
 #[derive(Clone, Copy, PartialEq, Eq, Debug)]
+#[non_exhaustive]
 pub enum Reply {
     /// Of complete, fail, fail as and cancel.
     Flag(bool),

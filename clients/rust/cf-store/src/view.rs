@@ -495,6 +495,7 @@ impl View {
                 let place = self.failed_of(of, Cause::TimedOut);
                 Err(Error::TimedOut(if place > 0 { Some(self.failure(place)?) } else { None }))
             }
+            Outcome::Fault { cause, .. } => unreachable!("{cause:?} is a cause of another library"),
         })
     }
 
@@ -559,6 +560,7 @@ impl View {
             Outcome::Fault { cause: Cause::BadAnswer, .. } => {
                 wanted(Call::FailAs(promise, Failure::BadAnswer), self.payload_if_any(self.stages[usize::from(given)].failed)?)
             }
+            Outcome::Fault { cause, .. } => unreachable!("{cause:?} is a cause of another library"),
         }
     }
 }

@@ -2,6 +2,7 @@
 use crate::spawn::quietly;
 use std::collections::VecDeque;
 use std::fmt;
+use std::io::{stderr, Write};
 use std::mem::replace;
 use std::sync::{Arc, Condvar, Mutex, MutexGuard, PoisonError};
 use std::thread;
@@ -58,7 +59,8 @@ impl<T: Send + 'static> Aside<T> {
         if is_full {
             drop(queue);
             if !was_losing {
-                eprintln!("cf: {MOST} histories of ended requests wait for their function, and further ones aren't told");
+                // This may be in a `Drop`, and standard error may be closed.
+                let _ = writeln!(stderr(), "cf: {MOST} histories of ended requests wait for their function, and further ones aren't told");
             }
             return;
         }

@@ -1,6 +1,6 @@
 //! What time it is, and who rings when it is later.
 use crate::core::Core;
-use crate::spawn::{guarded, quietly};
+use crate::spawn::{guarded, in_drop, quietly};
 use std::cmp::{self, Reverse};
 use std::collections::BinaryHeap;
 use std::fmt;
@@ -113,7 +113,7 @@ impl Alarm {
 impl Drop for Alarm {
     fn drop(&mut self) {
         if let Some(core) = self.core.upgrade() {
-            core.never_rung(self.number);
+            in_drop(|| core.never_rung(self.number));
         }
     }
 }

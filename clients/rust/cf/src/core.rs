@@ -9,7 +9,9 @@ use crate::inner::{kept_of, After, Feed, Hands, Inner, Kept, News};
 use crate::ledger::Ledger;
 use crate::name::Made;
 use crate::slot::Held;
-use crate::spawn::{as_worker, guarded, in_turn, inline, is_inline_free, quietly, running, worker, Job, Payload, Row, Spawn, Turn, CLOCK, RELAY};
+use crate::spawn::{
+    as_worker, guarded, in_drop, in_turn, inline, is_inline_free, quietly, running, worker, Job, Payload, Row, Spawn, Turn, CLOCK, RELAY,
+};
 use crate::task::{Polling, Task};
 use crate::value::{Call, Gave, Given, Val};
 use crate::word::Form;
@@ -85,42 +87,44 @@ impl Core {
         Ok(core)
     }
 
-    /// No code of a user runs under the lock, so what a panic leaves behind it is whole.
+    /// No code of a user runs under the lock, and the machine changes nothing where it is refused memory. So what a panic leaves is whole, and the
+    /// next one takes the lock as if there had been none.
     #[inline(always)]
-    pub(crate) fn lock(&self) -> MutexGuard<'_, Inner> {
+    pub(crate) fn lock(&self) -> Hold<'_> {
         self.lock_seeing().0
     }
 
     /// The lock, and whether another thread had it just now.
     #[inline(always)]
-    fn lock_seeing(&self) -> (MutexGuard<'_, Inner>, bool) {
+    fn lock_seeing(&self) -> (Hold<'_>, bool) {
         #[cfg(test)]
         crate::search::turn();
         match self.inner.try_lock() {
-            Ok(inner) => (inner, false),
-            Err(_) => (self.lock_taken(), true),
+            Ok(inner) => (held(inner), false),
+            Err(TryLockError::Poisoned(inner)) => (held(inner.into_inner()), false),
+            Err(TryLockError::WouldBlock) => (self.lock_taken(), true),
         }
     }
 
     #[cold]
-    fn lock_taken(&self) -> MutexGuard<'_, Inner> {
+    fn lock_taken(&self) -> Hold<'_> {
         let mut pauses = 1;
         for _ in 1..LOOKS {
             (0..pauses).for_each(|_| std::hint::spin_loop());
             pauses = PAUSES.min(2 * pauses);
             match self.inner.try_lock() {
-                Ok(inner) => return inner,
-                Err(TryLockError::Poisoned(inner)) => return inner.into_inner(),
+                Ok(inner) => return held(inner),
+                Err(TryLockError::Poisoned(inner)) => return held(inner.into_inner()),
                 Err(TryLockError::WouldBlock) => {}
             }
         }
-        self.inner.lock().unwrap_or_else(PoisonError::into_inner)
+        held(self.inner.lock().unwrap_or_else(PoisonError::into_inner))
     }
 
     /// The lock for a worker that comes back from a function, the moment, and whether it gives way: where functions are short, one worker does them
     /// sooner than several that take the lock from one another.
     #[inline(always)]
-    fn lock_behind(&self, since: u64) -> (MutexGuard<'_, Inner>, u64, bool) {
+    fn lock_behind(&self, since: u64) -> (Hold<'_>, u64, bool) {
         let now = self.now();
         let (inner, was_taken) = self.lock_seeing();
         let gives_way = was_taken && now.saturating_sub(since) < SHORT && self.busy.load(Ordering::Relaxed) > 1;
@@ -130,14 +134,14 @@ impl Core {
     /// The lock for a worker that has nothing in its hands, and the moment; it doesn't give way again. Those that have a stage in theirs come first,
     /// and may do what is ready sooner than this one would.
     #[inline(never)]
-    fn lock_at_leisure(&self) -> (MutexGuard<'_, Inner>, u64, bool) {
+    fn lock_at_leisure(&self) -> (Hold<'_>, u64, bool) {
         #[cfg(test)]
         crate::search::turn();
         for look in 0..LEISURELY_LOOKS {
             let now = self.now();
             match self.inner.try_lock() {
-                Ok(inner) => return (inner, now, false),
-                Err(TryLockError::Poisoned(inner)) => return (inner.into_inner(), now, false),
+                Ok(inner) => return (held(inner), now, false),
+                Err(TryLockError::Poisoned(inner)) => return (held(inner.into_inner()), now, false),
                 Err(TryLockError::WouldBlock) if self.busy.load(Ordering::Relaxed) == 0 => break,
                 Err(TryLockError::WouldBlock) if look == 0 => std::hint::spin_loop(),
                 Err(TryLockError::WouldBlock) => std::thread::sleep(SLEEP),
@@ -166,42 +170,48 @@ impl Core {
     /// Lets something be done under the lock at this moment, and what comes of it be told behind it.
     #[inline]
     pub(crate) fn change<T>(self: &Arc<Core>, act: impl FnOnce(&mut Inner, &mut After) -> T) -> T {
-        let (mut after, now) = (After::default(), self.now());
+        let (mut after, now, mut panicked) = (After::default(), self.now(), None);
         let mut inner = self.lock();
         inner.ledger.record.go_on(now);
-        let done = act(&mut inner, &mut after);
-        inner.cancel_relays(&mut after);
+        let done = guarded(&mut panicked, || {
+            let done = act(&mut inner, &mut after);
+            inner.cancel_relays(&mut after);
+            done
+        });
         inner.hire(self, false, &mut after);
         if after.jobs > 0 && self.is_inline && is_inline_free() {
-            self.begin_here(inner, after);
+            self.begin_here(inner, after, &mut panicked);
         } else {
             drop(inner);
             let (jobs, news) = after.into_parts();
             if jobs > 0 || news.is_some() {
-                self.tell_now(jobs, news);
+                self.tell(jobs, news, &mut panicked);
             }
         }
         #[cfg(feature = "testing")]
         self.watched(|watch| watch.changed());
-        done
+        match (done, panicked) {
+            (Some(done), None) => done,
+            (_, panicked) => resume_unwind(panicked.expect("what wasn't done has panicked")),
+        }
     }
 
     /// Begins the job that a change asks for under the same hold of the lock, where [`Inline`](crate::Inline) would begin it at once. Then what came
     /// of the change is told.
     #[inline(never)]
-    fn begin_here(self: &Arc<Core>, mut inner: MutexGuard<'_, Inner>, mut after: After) {
+    fn begin_here(self: &Arc<Core>, mut inner: Hold<'_>, mut after: After, panicked: &mut Option<Payload>) {
         let mut hands = Hands::empty();
-        let first = inner.step(worker(), &mut hands, &mut after).expect("a stage is ready for which a job is asked");
+        let first = guarded(panicked, || inner.step(worker(), &mut hands, &mut after)).flatten();
         inner.coming -= 1;
+        inner.jobs -= usize::from(first.is_none());
         drop(inner);
-        let (mut panicked, (_, mut news)) = (None, after.into_parts());
-        self.ask_for_alarm(&mut news, &mut panicked);
-        inline(|| as_worker(|who| self.work_on(who, Core::TURN, &mut hands, Some(first))), &mut panicked);
-        if let Some(news) = news {
-            self.tell_news(news, &mut panicked);
+        let (_, mut news) = after.into_parts();
+        self.ask_for_alarm(&mut news, panicked);
+        if let Some(first) = first {
+            inline(|| as_worker(|who| self.work_on(who, Core::TURN, &mut hands, Some(first))), panicked);
         }
-        if let Some(payload) = panicked {
-            resume_unwind(payload);
+        if let Some(news) = news {
+            self.tell_news(news, panicked);
         }
     }
 
@@ -455,14 +465,18 @@ impl Core {
             };
             since = now;
             inner.ledger.record.go_on(now);
-            next = if left > 0 && !gives_way {
-                inner.step(who, hands, &mut after)
-            } else {
-                inner.last(who, hands, &mut after);
-                None
-            };
-            inner.cancel_relays(&mut after);
-            let ends = next.is_none() && (left == 0 || !gives_way);
+            let stepped = guarded(&mut panicked, || {
+                let next = if left > 0 && !gives_way {
+                    inner.step(who, hands, &mut after)
+                } else {
+                    inner.last(who, hands, &mut after);
+                    None
+                };
+                inner.cancel_relays(&mut after);
+                next
+            });
+            let ends = stepped.as_ref().map_or(true, |next| next.is_none() && (left == 0 || !gives_way));
+            next = stepped.flatten();
             if begins || ends {
                 inner.coming -= usize::from(begins);
                 inner.jobs -= usize::from(ends);
@@ -583,7 +597,7 @@ impl Core {
     /// How many jobs there may be at present.
     #[inline]
     pub(crate) fn most(&self) -> usize {
-        self.most + self.resting.load(Ordering::SeqCst)
+        self.most.saturating_add(self.resting.load(Ordering::SeqCst))
     }
 
     /// What a function gave, or None where that comes later. A waker or a `Drop` that panics as a future is begun doesn't end the worker's row.
@@ -601,15 +615,6 @@ impl Core {
     /// Finishes a claimed stage.
     pub(crate) fn end(self: &Arc<Core>, who: u8, stage: u16, gave: Gave) {
         self.change(|inner, after| inner.finish(self, who, stage, gave, after));
-    }
-
-    /// Tells what came of a change. What a waker or a `Drop` panics with goes on.
-    fn tell_now(self: &Arc<Core>, jobs: usize, news: Option<Box<News>>) {
-        let mut panicked = None;
-        self.tell(jobs, news, &mut panicked);
-        if let Some(payload) = panicked {
-            resume_unwind(payload);
-        }
     }
 
     /// Tells what came of changes. The lock is free. A waker or a `Drop` that panics doesn't keep the others from being
@@ -672,6 +677,20 @@ impl Core {
     }
 }
 
+/// The lock of a request.
+#[cfg(not(test))]
+pub(crate) type Hold<'a> = MutexGuard<'a, Inner>;
+/// The lock of a request, of which tests know that this thread has it.
+#[cfg(test)]
+pub(crate) type Hold<'a> = crate::held::Known<MutexGuard<'a, Inner>>;
+
+#[inline(always)]
+fn held(inner: MutexGuard<'_, Inner>) -> Hold<'_> {
+    #[cfg(test)]
+    let inner = crate::held::Known::new(inner);
+    inner
+}
+
 thread_local! {
     static DROPPED: Row<Kept> = const { Row::new() };
 }
@@ -689,7 +708,7 @@ impl Drop for Core {
         }
         let kept = self.inner.get_mut().unwrap_or_else(PoisonError::into_inner).kept();
         if !kept.is_empty() {
-            in_turn(&DROPPED, kept, drop);
+            in_drop(|| in_turn(&DROPPED, kept, drop));
         }
     }
 }
@@ -732,17 +751,35 @@ mod tests {
 
     const LONG: Duration = Duration::from_secs(20);
 
-    /// A thread for each job, two at a time.
-    struct Two;
+    /// A thread for each job, so many at a time.
+    struct Threads(usize);
 
-    impl Spawn for Two {
+    impl Spawn for Threads {
         fn spawn(&self, job: Job) -> Result<(), Job> {
             thread::spawn(move || job.run());
             Ok(())
         }
 
         fn parallelism(&self) -> usize {
-            2
+            self.0
+        }
+    }
+
+    /// Whatever bound an executor says, a function that waits takes no other's place.
+    #[test]
+    fn who_rests_takes_no_place_under_any_bound() {
+        for most in [0, 1, usize::MAX] {
+            let request = Request::new("bounds", Threads(most));
+            let gate = request.promise::<i32>();
+            let of = gate.clone();
+            // A wait for a while runs no function meanwhile.
+            let rests = request.supply(move || of.wait_timeout(LONG).expect("it is settled").unwrap());
+            while request.0.resting.load(Ordering::SeqCst) == 0 {
+                thread::yield_now();
+            }
+            assert_eq!(request.supply(|| 3).wait_timeout(LONG).expect("it is run").unwrap(), 3, "{most}");
+            gate.complete(4).unwrap();
+            assert_eq!(rests.wait_timeout(LONG).expect("it ends").unwrap(), 4);
         }
     }
 
@@ -759,7 +796,7 @@ mod tests {
     #[test]
     fn who_gives_way_goes_on() {
         // The clock stands, so each function is short.
-        let request = Request::with_clock("gives way", Arc::new(Two), Arc::new(HandClock::new()));
+        let request = Request::with_clock("gives way", Arc::new(Threads(2)), Arc::new(HandClock::new()));
         let ((opens, open), (goes, go)) = (channel::<()>(), channel::<()>());
         let long = request.supply(move || open.recv().unwrap());
         let next = request.supply(move || go.recv().unwrap()).then(|()| 2).then(|n| n + 1);
@@ -779,7 +816,7 @@ mod tests {
     /// What it finishes is too late, so nothing else asks for a job that would run what is ready.
     #[test]
     fn who_gives_way_too_late_leaves_nothing() {
-        let request = Request::with_clock("too late", Arc::new(Two), Arc::new(HandClock::new()));
+        let request = Request::with_clock("too late", Arc::new(Threads(2)), Arc::new(HandClock::new()));
         let ((opens, open), (goes, go)) = (channel::<()>(), channel::<()>());
         let long = request.supply(move || open.recv().unwrap());
         let late = request.supply(move || go.recv().unwrap());

@@ -133,6 +133,7 @@ impl History {
             Cause::Cancelled => "cancelled".into(),
             Cause::TimedOut => "timed out".into(),
             Cause::BadAnswer => "a bad answer".into(),
+            _ => "an error".into(),
         }
     }
 

@@ -15,7 +15,7 @@ use crate::task::Task;
 use crate::value::{Call, Gave, Given, Val};
 use crate::wakers::Wakers;
 use crate::word::{self, Form, BAD_ANSWER, CANCEL, CLAIM, COMPLETE, FAIL, FAIL_AS, FINISH, LINKS, SOME, THROWS, TIMED_OUT};
-use cf_graph::{Answer, Args, Cause, Claimed, Finished, Outcome, Reply, Task as Claim, Value};
+use cf_graph::{Answer, Args, Cause, Claimed, Finished, Outcome, Refused, Reply, Task as Claim, Value};
 #[cfg(feature = "tokio")]
 use std::any::Any;
 use std::borrow::Cow;
@@ -360,10 +360,17 @@ impl Inner {
                 (kind, tail, Held::Error(Box::new(error)))
             }
         };
-        if matches!(self.ledger.act(word::of(kind, who, stage, tail)), Reply::Flag(true)) {
-            self.hold(stage, holds, after);
-            self.show(after);
-            return Ok(());
+        match self.ledger.act(word::of(kind, who, stage, tail)) {
+            Ok(Reply::Flag(true)) => {
+                self.hold(stage, holds, after);
+                self.show(after);
+                return Ok(());
+            }
+            Ok(_) => {}
+            Err(why) => {
+                Inner::let_drop(holds, after);
+                refused(why)
+            }
         }
         Err(match holds {
             Held::Value(value) => Ok(value),
@@ -525,7 +532,10 @@ impl Inner {
             return gives;
         }
         let moment = u64::try_from(wait.as_nanos()).map_or(NEVER, |wait| self.ledger.record.now().saturating_add(wait));
-        self.ledger.deadline(stage, moment, gives.is_some());
+        if let Err(why) = self.ledger.deadline(stage, moment, gives.is_some()) {
+            Inner::let_drop(gives.map_or(Held::Nothing, Held::Value), after);
+            refused(why);
+        }
         let others = self.limits_of(stage);
         self.awaited.stages += u16::from(others.is_empty());
         self.limits.insert(others.end, Limit { stage, moment, wait, gives });
@@ -577,8 +587,9 @@ impl Inner {
 
     /// Time passes up to a moment. Then the next alarm is asked for.
     pub(crate) fn pass(&mut self, moment: u64, after: &mut After) {
-        self.ledger.pass(moment);
+        let passed = self.ledger.pass(moment);
         self.show_by(0, after, Inner::came_due);
+        passed.unwrap_or_else(|why| refused(why));
         if let Some(next) = self.ledger.next_deadline() {
             self.await_alarm(next, after);
         }
@@ -629,7 +640,7 @@ impl Inner {
             hands.task.answer(answer_of(stage, &hands.keeps));
             self.hold(stage, take(&mut hands.keeps), after);
         }
-        self.ledger.step(who, &mut hands.task);
+        self.ledger.step(who, &mut hands.task).unwrap_or_else(|why| refused(why));
         self.show_each(after);
         let stage = match hands.task.stage() {
             Some(stage) => stage,
@@ -695,8 +706,9 @@ impl Inner {
     /// Claims a stage that is ready.
     pub(crate) fn claim(&mut self, who: u8, stage: u16, _after: &mut After) -> Todo {
         match self.ledger.act(word::of(CLAIM, who, stage, 0)) {
-            Reply::Claimed(Claimed::Granted(args)) => self.taken(stage, args),
-            _ => unreachable!("the stage is ready"),
+            Ok(Reply::Claimed(Claimed::Granted(args))) => self.taken(stage, args),
+            Err(why) => refused(why),
+            Ok(_) => unreachable!("the stage is ready"),
         }
     }
 
@@ -766,7 +778,7 @@ impl Inner {
             Answer::Link(target) => LINKS | u64::from(target),
         };
         self.hold(stage, keeps, after);
-        self.ledger.act(word::of(FINISH, who, stage, tail));
+        self.ledger.act(word::of(FINISH, who, stage, tail)).unwrap_or_else(|why| refused(why));
         self.show(after);
     }
 
@@ -776,10 +788,14 @@ impl Inner {
         let relay = stage - 1;
         let target = if is_own && number < stage { number } else { relay };
         let reply = self.ledger.act(word::of(FINISH, who, stage, LINKS | u64::from(target)));
+        if let Err(why) = reply {
+            after.news().dropped.push(Held::Core(of));
+            refused(why);
+        }
         self.show(after);
         // Who waits for this stage may have to run what it hangs on now.
         after.news().wakers.append(&mut self.helpers);
-        if reply != Reply::Finished(Finished::Won) || (is_own && target == number) {
+        if reply != Ok(Reply::Finished(Finished::Won)) || (is_own && target == number) {
             // It may be the other request's last handle.
             after.news().dropped.push(Held::Core(of));
             return;
@@ -792,7 +808,7 @@ impl Inner {
         }
         self.names.insert(target, format!("relay of {number}").into());
         self.slot(target).follows = true;
-        self.ledger.follow(target, number);
+        self.ledger.follow(target, number).unwrap_or_else(|why| refused(why));
         self.show(after);
     }
 
@@ -848,6 +864,13 @@ impl Inner {
         }
         std::iter::successors(self.ledger.lowest_ready(0), |stage| self.ledger.lowest_ready(stage + 1)).collect()
     }
+}
+
+/// The machine was refused memory for an event, and has changed nothing. The caller has nothing of a user's in its hands: what this panics with
+/// goes on once the lock is free.
+#[cold]
+fn refused(why: Refused) -> ! {
+    panic!("no memory for an event: {why}")
 }
 
 /// What is kept of what a function gave.

@@ -117,11 +117,13 @@ impl Ledger {
 
     /// The machine, and where it tells what it settles.
     #[inline(always)]
-    fn machine(&mut self) -> (&mut Request, &mut Told) {
+    fn machine(&mut self) -> Result<(&mut Request, &mut Told), Refused> {
+        #[cfg(test)]
+        crate::held::memory()?;
         if self.machine.is_none() {
-            self.resume().expect("memory for a machine");
+            self.resume()?;
         }
-        (self.machine.as_mut().expect("it was resumed"), &mut self.told)
+        Ok((self.machine.as_mut().expect("it was resumed"), &mut self.told))
     }
 
     /// The same, or nothing where it rests: then no stage is ready, and none is due.
@@ -162,27 +164,29 @@ impl Ledger {
 
     /// Does the event of a word.
     #[inline]
-    pub(crate) fn act(&mut self, word: u64) -> Reply {
-        let (machine, told) = self.machine();
-        let reply = machine.apply(word, LANE, told).expect("memory for a word");
+    pub(crate) fn act(&mut self, word: u64) -> Result<Reply, Refused> {
+        let (machine, told) = self.machine()?;
+        let reply = machine.apply(word, LANE, told)?;
         self.record.done(1);
-        reply
+        Ok(reply)
     }
 
     /// A worker's step: finishes the stage that it has in its hands, if it has one, and claims the lowest ready stage, if there is one.
     #[inline(always)]
-    pub(crate) fn step(&mut self, who: u8, task: &mut Task) {
+    pub(crate) fn step(&mut self, who: u8, task: &mut Task) -> Result<(), Refused> {
         let held = task.stage().is_some();
-        let (machine, told) = self.machine();
-        machine.step(who, LANE, task, told).expect("memory for two words, and an open claim of what is held");
+        let (machine, told) = self.machine()?;
+        machine.step(who, LANE, task, told)?;
         self.record.done(u64::from(held) + u64::from(task.stage().is_some()));
+        Ok(())
     }
 
     /// Lets a stage end as another one does.
-    pub(crate) fn follow(&mut self, relay: u16, stage: u16) {
-        let (machine, told) = self.machine();
-        machine.follow(relay, stage, told).expect("memory for a relay");
+    pub(crate) fn follow(&mut self, relay: u16, stage: u16) -> Result<(), Refused> {
+        let (machine, told) = self.machine()?;
+        machine.follow(relay, stage, told)?;
         self.relays.push((relay, stage));
+        Ok(())
     }
 
     /// The stage that a relay of this request follows.
@@ -192,18 +196,21 @@ impl Ledger {
     }
 
     /// Sets a deadline of a stage, at which that gets the value of its own number, or times out.
-    pub(crate) fn deadline(&mut self, stage: u16, moment: u64, gives: bool) {
+    pub(crate) fn deadline(&mut self, stage: u16, moment: u64, gives: bool) -> Result<(), Refused> {
         let limit = if gives { Limit::Give(Value::Int(i32::from(stage))) } else { Limit::Timeout };
-        self.machine().0.deadline(stage, moment, limit).expect("memory for a deadline");
+        self.machine()?.0.deadline(stage, moment, limit)
     }
 
-    /// Lets time pass up to a moment. A clock may have told of a later one by now.
-    pub(crate) fn pass(&mut self, moment: u64) {
+    /// Lets time pass up to a moment. A clock may have told of a later one by now. Where memory is refused, what was due before that is told.
+    pub(crate) fn pass(&mut self, moment: u64) -> Result<(), Refused> {
         let passed = self.passed.max(moment);
         self.passed = passed;
         match &mut self.machine {
-            Some(machine) => machine.pass(passed, &mut self.told).expect("memory for what is due"),
-            None => self.told = Told::default(),
+            Some(machine) => machine.pass(passed, &mut self.told),
+            None => {
+                self.told = Told::default();
+                Ok(())
+            }
         }
     }
 
@@ -249,16 +256,16 @@ impl Ledger {
             return Err(Refusal::Full);
         }
         let word = word::attach(who, form, of, if has_function { number } else { 0 });
-        if self.machine.is_none() {
-            self.resume().map_err(|_| Refusal::NoLedger)?;
-        }
-        let (machine, told) = self.machine();
+        let (machine, told) = self.machine().map_err(|_| Refusal::NoLedger)?;
         let mut applied = machine.apply(word, LANE, told);
         if applied == Err(Refused::NO_ROOM) {
             machine.grow().map_err(|_| Refusal::NoLedger)?;
             applied = machine.apply(word, LANE, told);
         }
-        applied.expect("memory for a word");
+        if applied == Err(Refused::NO_MEMORY) {
+            return Err(Refusal::NoLedger);
+        }
+        applied.expect("a form, and sources that are there");
         self.record.done(1);
         self.stages = number + 1;
         Ok(number)
@@ -269,14 +276,12 @@ impl Ledger {
         if of.len() > usize::from(self.left()) + 1 || self.left() == 0 {
             return Err(Refusal::Full);
         }
-        if self.machine.is_none() {
-            self.resume().map_err(|_| Refusal::NoLedger)?;
-        }
-        let (machine, told) = self.machine();
+        let (machine, told) = self.machine().map_err(|_| Refusal::NoLedger)?;
         let root = loop {
             match machine.gather(who, form, of, told) {
                 Err(Refused::NO_ROOM) => machine.grow().map_err(|_| Refusal::NoLedger)?,
-                gathered => break gathered.expect("memory for words"),
+                Err(Refused::NO_MEMORY) => return Err(Refusal::NoLedger),
+                gathered => break gathered.expect("a form, and sources that are there"),
             }
         };
         self.record.done(u64::from(root + 1 - self.stages));
@@ -406,7 +411,7 @@ mod tests {
     }
 
     fn settle(ledger: &mut Ledger, stage: u16, outcomes: &mut Vec<Option<Outcome>>) -> Reply {
-        let reply = ledger.act(word::of(COMPLETE, 0, stage, 0));
+        let reply = ledger.act(word::of(COMPLETE, 0, stage, 0)).unwrap();
         show(ledger, outcomes);
         reply
     }
@@ -426,7 +431,7 @@ mod tests {
         assert!(ledger.machine.is_none());
 
         // It is asked, and goes on resting.
-        ledger.pass(5);
+        ledger.pass(5).unwrap();
         assert_eq!(
             (ledger.told.len(), ledger.ready(), ledger.lowest_ready(0), ledger.is_ready(late), ledger.next_deadline()),
             (0, 0, None, false, None)
@@ -462,7 +467,7 @@ mod tests {
         }
         let mut outcomes = vec![None; 2];
         for word in [word::of(COMPLETE, 0, 0, SOME), word::of(COMPLETE, 0, 0, SOME | 1), word::of(CANCEL, 0, 1, 0)] {
-            ledger.act(word);
+            ledger.act(word).unwrap();
             ledger.told.iter().for_each(|(stage, outcome)| outcomes[usize::from(stage)] = Some(outcome));
         }
         let words = ledger.words();

@@ -69,8 +69,8 @@
 //! # Costs
 //!
 //! On four cores of 2.5 GHz: about 0.1 µs to attach a stage, 0.25 to claim, call and finish its function on one thread, and 0.2 to 0.5 a stage
-//! where eight threads run trivial functions; 180 bytes a settled stage, of which 48 are this crate's. Values, errors and the history are kept
-//! until nobody has the request or one of its stages any more.
+//! where eight threads run trivial functions. README.md says what takes the time, and what a stage takes in memory. Values, errors and the history
+//! are kept until nobody has the request or one of its stages any more.
 #![cfg_attr(docsrs, feature(doc_cfg))]
 #![forbid(unsafe_code)]
 #![warn(missing_docs, missing_debug_implementations, unreachable_pub, rust_2018_idioms)]
@@ -82,6 +82,8 @@ mod core;
 mod describe;
 mod ends;
 mod error;
+#[cfg(test)]
+mod held;
 mod help;
 mod history;
 mod inner;
@@ -89,6 +91,8 @@ mod inner;
 mod json;
 mod ledger;
 mod name;
+#[cfg(test)]
+mod programs;
 mod record;
 mod request;
 #[cfg(feature = "tokio")]
@@ -99,6 +103,8 @@ mod slot;
 mod spans;
 mod spawn;
 mod stage;
+#[cfg(test)]
+mod states;
 mod task;
 #[cfg(feature = "testing")]
 pub mod testing;

@@ -7,7 +7,7 @@ use crate::ends::{Ending, Ends};
 use crate::error::{BoxError, Error, Refusal};
 use crate::history::History;
 use crate::name::Made;
-use crate::spawn::{here, Spawn};
+use crate::spawn::{here, in_drop, Spawn};
 use crate::stage::{sealed::Adopted, sealed::Sealed, AnyStage, Stage};
 use crate::value::{self, Call, Gave};
 use crate::word::Form;
@@ -341,7 +341,7 @@ impl Deref for Scope {
 
 impl Drop for Scope {
     fn drop(&mut self) {
-        self.0.cancel_all();
+        in_drop(|| self.0.cancel_all());
     }
 }
 

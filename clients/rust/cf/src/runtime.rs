@@ -78,6 +78,13 @@ impl Spawn for Tasks {
     }
 }
 
+/// Panics where this thread is driving tasks of a runtime, as tokio's own calls do that block.
+pub(crate) fn may_block() {
+    if let Ok(runtime) = Handle::try_current() {
+        runtime.block_on(async {});
+    }
+}
+
 /// tokio's clock, which its tests can pause.
 ///
 /// ```

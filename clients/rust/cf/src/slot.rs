@@ -99,6 +99,7 @@ impl Slot {
                     Cause::Cancelled => (Fault::Cancelled, 0),
                     Cause::TimedOut => (Fault::TimedOut, from),
                     Cause::BadAnswer => (Fault::BadAnswer, from),
+                    cause => unreachable!("{cause:?} is a cause of another library"),
                 };
                 (if wrapped { Told::Wrapped(fault) } else { Told::Fault(fault) }, number)
             }

@@ -29,6 +29,15 @@ pub(crate) fn quietly(act: impl FnOnce()) {
     catch_unwind(AssertUnwindSafe(act)).unwrap_or_else(forget);
 }
 
+/// Does it in a `Drop`: what it panics with goes on, unless the thread unwinds already. Then one more panic would end the process.
+pub(crate) fn in_drop(act: impl FnOnce()) {
+    if thread::panicking() {
+        quietly(act);
+    } else {
+        act();
+    }
+}
+
 fn forget(payload: Payload) {
     if let Err(again) = catch_unwind(AssertUnwindSafe(|| drop(payload))) {
         std::mem::forget(again);
@@ -48,8 +57,8 @@ impl Drop for Job {
     fn drop(&mut self) {
         match self.0.take() {
             None => {}
-            Some(Turn::Work(core)) => in_turn(&REFUSED, core, |core| core.refuse()),
-            Some(Turn::Poll(polling)) => polling.refuse(),
+            Some(Turn::Work(core)) => in_drop(|| in_turn(&REFUSED, core, |core| core.refuse())),
+            Some(Turn::Poll(polling)) => in_drop(|| polling.refuse()),
         }
     }
 }

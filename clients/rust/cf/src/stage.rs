@@ -90,7 +90,7 @@ use crate::error::{BoxError, Error, Refusal};
 use crate::help::Helper;
 use crate::name::Made;
 use crate::request::{later, Request};
-use crate::spawn::{here, Resting, StandIn, CALLER};
+use crate::spawn::{here, in_drop, Resting, StandIn, CALLER};
 use crate::value::{self, Call, Gave, Given, Val};
 use crate::word::Form;
 use sealed::Sealed;
@@ -294,6 +294,11 @@ impl<T> Stage<T> {
     }
 
     fn wait_value(&self, wait: Option<Duration>) -> Option<Result<Val, Error>> {
+        // A function may wait, and somebody else goes on with its runtime if that can be.
+        #[cfg(feature = "tokio")]
+        if here() == CALLER && wait != Some(Duration::ZERO) {
+            crate::runtime::may_block();
+        }
         if let Some(told) = self.told() {
             return Some(told);
         }
@@ -641,6 +646,10 @@ impl<T: Send + Sync + 'static> Stage<T> {
     ///
     /// What the stage failed with.
     ///
+    /// # Panics
+    ///
+    /// As [`wait`](Stage::wait) does.
+    ///
     /// ```
     /// struct Large(u32);
     /// let request = cf::Request::new("order 17", cf::Inline);
@@ -682,6 +691,11 @@ impl<T: Clone + Send + Sync + 'static> Stage<T> {
     ///
     /// What the stage failed with.
     ///
+    /// # Panics
+    ///
+    /// With the feature `tokio`, in an async task of tokio, as tokio's own calls do that block: await the stage there. Without the feature nobody
+    /// sees that it is one, and the task holds up a thread of its runtime.
+    ///
     /// ```
     /// let request = cf::Request::new("order 17", cf::Pool::new(1));
     /// assert_eq!(request.supply(|| 49).wait().unwrap(), 49);
@@ -692,6 +706,10 @@ impl<T: Clone + Send + Sync + 'static> Stage<T> {
 
     /// Blocks the thread until it is settled, but no longer than this: None where it isn't then. The stage goes on. The thread runs no function
     /// meanwhile, since it can't know how long that would take.
+    ///
+    /// # Panics
+    ///
+    /// As [`wait`](Stage::wait) does, but for a wait of no time.
     ///
     /// ```
     /// use std::time::Duration;
@@ -759,7 +777,9 @@ impl<T: Clone + Send + Sync + 'static> Future for CancelOnDrop<T> {
 
 impl<T> Drop for CancelOnDrop<T> {
     fn drop(&mut self) {
-        self.0.cancel();
+        in_drop(|| {
+            self.0.cancel();
+        });
     }
 }
 

@@ -5,7 +5,7 @@ use crate::spawn::{quietly, running, Job, Turn, CLOCK};
 use crate::value::{Gave, Later};
 use std::panic::{catch_unwind, resume_unwind, AssertUnwindSafe};
 use std::sync::atomic::{AtomicBool, AtomicU8, Ordering};
-use std::sync::{Arc, Mutex, PoisonError};
+use std::sync::{Arc, Mutex, PoisonError, TryLockError};
 use std::task::{Context, Poll, Wake, Waker};
 
 /// A future that a stage's function gave. A stage that is settled otherwise drops it. It doesn't keep its request alive: its wakers do.
@@ -138,7 +138,8 @@ impl Task {
     fn drop_future(&self, core: &Arc<Core>) {
         let future = match self.future.try_lock() {
             Ok(mut held) => held.take(),
-            Err(_) => None,
+            Err(TryLockError::Poisoned(held)) => held.into_inner().take(),
+            Err(TryLockError::WouldBlock) => None,
         };
         if future.is_some() {
             let dropped = catch_unwind(AssertUnwindSafe(|| drop(future)));
@@ -160,5 +161,31 @@ impl Wake for Polling {
         if self.task.at.fetch_update(Ordering::SeqCst, Ordering::SeqCst, woken) == Ok(RESTS) {
             self.queue();
         }
+    }
+}
+
+#[cfg(test)]
+mod tests {
+    use crate::{Error, Inline, Request};
+    use std::panic::{catch_unwind, AssertUnwindSafe};
+    use std::sync::Arc;
+
+    #[test]
+    fn a_future_whose_lock_a_panic_has_left_is_dropped() {
+        let (alive, request) = (Arc::new(()), Request::new("left", Inline));
+        let held = Arc::clone(&alive);
+        let stage = request.spawn(async move {
+            let _held = held;
+            std::future::pending::<Result<i32, Error>>().await
+        });
+        let task = request.0.lock().extra(0).task.clone().expect("it is pending");
+        let panics = || {
+            let _future = task.future.lock();
+            panic!("under the lock");
+        };
+        assert!(catch_unwind(AssertUnwindSafe(panics)).is_err());
+        assert!(stage.cancel() && Arc::strong_count(&alive) == 1);
+        let history = request.history().to_string();
+        assert_eq!(history.matches("claims").count(), history.matches("finishes").count(), "{history}");
     }
 }

@@ -43,6 +43,33 @@ fn a_future_that_nobody_can_wake_goes_with_its_request() {
     assert_eq!(Arc::strong_count(&alive), 1);
 }
 
+/// Requests whose futures await pending stages of each other keep one another in memory, until the futures' stages are cancelled, as with the scope
+/// of a client that hangs up, or time out.
+#[test]
+fn requests_that_await_each_other_go_with_what_ends_their_futures() {
+    for is_limited in [false, true] {
+        let (alive, clock) = (Arc::new(()), HandClock::new());
+        let freed = ["one", "two"].map(|name| Request::with_clock(name, Arc::new(Inline), Arc::new(clock.clone())));
+        let awaited = [0, 1].map(|other| freed[1 - other].promise::<i32>());
+        for (request, of) in freed.iter().zip(awaited) {
+            let held = Arc::clone(&alive);
+            let stage = request.spawn(async move {
+                let _held = held;
+                of.await
+            });
+            drop(if is_limited { stage.or_timeout(Duration::from_secs(1)) } else { stage });
+        }
+        assert_eq!(Arc::strong_count(&alive), 3);
+        if is_limited {
+            drop(freed);
+            clock.turn(Duration::from_secs(1));
+        } else {
+            drop(freed.map(Request::cancel_on_drop));
+        }
+        assert_eq!(Arc::strong_count(&alive), 1, "limited: {is_limited}");
+    }
+}
+
 /// All that a request does, it does also once all its stages were settled, when a large one has its words alone.
 #[test]
 fn a_large_request_goes_on_once_it_was_over() {

@@ -3,9 +3,10 @@ mod common;
 
 use cf::{Alarm, Clock, Error, Inline, Job, Pool, Request, Spawn, Stage};
 use common::{comes_back, poll, Counts, Drops, Keeps, Panics, Throws, LONG};
-use std::panic::{catch_unwind, AssertUnwindSafe};
+use std::any::Any;
+use std::panic::{catch_unwind, panic_any, AssertUnwindSafe};
 use std::sync::atomic::{AtomicBool, AtomicUsize, Ordering};
-use std::sync::Arc;
+use std::sync::{Arc, Mutex};
 use std::task::Waker;
 use std::time::Duration;
 
@@ -184,5 +185,48 @@ fn payloads_that_panic_keep_nobody_from_being_told() {
         assert!(panicking.promise::<i32>().cancel());
         let history = panicking.history().to_string();
         assert!(history.trim_end().lines().rev().any(|line| line.contains("caller") && line.contains("cancels")), "{history}");
+    });
+}
+
+/// Drops that tell others are left by a thread that unwinds, and the first who is told panics: once more, which would end the process.
+#[test]
+fn a_thread_that_unwinds_tells_all() {
+    /// Keeps an alarm until it is dropped.
+    struct Holds(Arc<Mutex<Vec<Alarm>>>);
+    impl Clock for Holds {
+        fn now(&self) -> Duration {
+            Duration::ZERO
+        }
+        fn after(&self, _wait: Duration, alarm: Alarm) {
+            self.0.lock().unwrap().push(alarm);
+        }
+    }
+    type Way = fn(&Stage<i32>, &Keeps, &Mutex<Vec<Alarm>>) -> Box<dyn Any>;
+    let ways: [Way; 5] = [
+        |stage, _, _| Box::new(stage.request().cancel_on_drop()),
+        |stage, _, _| Box::new(stage.clone().cancel_on_drop()),
+        |_, jobs, _| Box::new(std::mem::take(&mut *jobs.0.lock().unwrap())),
+        |_, _, alarms| Box::new(std::mem::take(&mut *alarms.lock().unwrap())),
+        |_, _, _| {
+            let last = Request::new("last", Inline);
+            assert!(last.supply(|| Drops).is_settled());
+            Box::new(last)
+        },
+    ];
+    comes_back(move || {
+        for (at, way) in ways.into_iter().enumerate() {
+            let (jobs, alarms, counts) = (Keeps::default(), Arc::default(), Arc::new(Counts::default()));
+            let panicking = Request::with_clock("unwinds", Arc::new(jobs.clone()), Arc::new(Holds(Arc::clone(&alarms))));
+            let panicking_stage = panicking.supply(|| 1).or_timeout(LONG);
+            let [mut waits, mut other] = [(); 2].map(|()| panicking_stage.clone());
+            assert!(!counts.polls(&mut waits) && !poll(&mut other, &Waker::from(Arc::new(Panics))));
+            let payload = catch_unwind(AssertUnwindSafe(|| {
+                let _left = way(&panicking_stage, &jobs, &alarms);
+                panic_any("the first");
+            }));
+            assert_eq!(payload.unwrap_err().downcast_ref(), Some(&"the first"));
+            assert_eq!((counts.count(), panicking_stage.is_settled()), (usize::from(at < 4), at < 4), "way {at}");
+            drop(catch_unwind(AssertUnwindSafe(|| panicking.cancel_all())));
+        }
     });
 }

@@ -307,3 +307,27 @@ fn nothing_waits_for_a_runtime_that_is_gone() {
     assert!(matches!(late.wait_timeout(LONG), Some(Err(Error::Refused(Refusal::NoClock)))));
     assert!(!ran.load(Ordering::SeqCst), "no function begins once its runtime is gone");
 }
+
+/// A wait in an async task would hold up a thread of its runtime, so it panics there, as tokio's own calls do that block.
+#[tokio::test(flavor = "multi_thread", worker_threads = 1)]
+async fn a_wait_in_an_async_task_panics() {
+    let pool = Request::new("pool", Pool::new(1));
+    let (open, ready) = (pool.promise::<i32>(), pool.supply(|| 3));
+    let _ = ready.clone().await;
+    let waits: [fn(&Stage<i32>) -> bool; 3] =
+        [|stage| stage.wait().is_ok(), |stage| stage.wait_arc().is_ok(), |stage| stage.wait_timeout(LONG).is_some()];
+    for (wait, stage) in waits.into_iter().flat_map(|wait| [(wait, open.clone()), (wait, ready.clone())]) {
+        let of = stage.clone();
+        let panicked = tokio::spawn(async move { wait(&of) }).await.unwrap_err().into_panic();
+        let text = panicked.downcast_ref::<&str>().map_or_else(|| panicked.downcast_ref::<String>().cloned(), |text| Some(text.to_string()));
+        assert!(text.unwrap().contains("Cannot start a runtime from within a runtime"));
+    }
+    assert!(open.wait_timeout(Duration::ZERO).is_none());
+    // A thread that blocks by its runtime's leave waits, and so do functions, whoever runs them.
+    let (of, other) = (open.clone(), open.clone());
+    let blocks = tokio::task::spawn_blocking(move || of.wait().unwrap());
+    let runs = tasks().supply(move || other.wait().unwrap());
+    open.complete(4).unwrap();
+    assert_eq!((blocks.await.unwrap(), runs.await.unwrap()), (4, 4));
+    assert_eq!(tokio::task::block_in_place(|| ready.wait().unwrap()), 3);
+}

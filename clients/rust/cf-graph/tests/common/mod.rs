@@ -51,7 +51,10 @@ pub fn replayed(plan: &mut Plan, room: u16, mut closed: Closed) -> Graph {
     for caller in 0..closed.callers() {
         let mut last = 0;
         for record in closed.records(caller).unwrap() {
-            let (Record::Did { place, .. } | Record::Saw { place, .. } | Record::SawNow { place, .. }) = record;
+            let place = match record {
+                Record::Did { place, .. } | Record::Saw { place, .. } | Record::SawNow { place, .. } => place,
+                other => panic!("{other:?}"),
+            };
             assert!(last <= place);
             if let Record::Did { event, reply, .. } = record {
                 let at = place as usize - 1;

@@ -96,7 +96,7 @@ impl Rows {
                 Ok(Call::Finish(stage, Answer::Throw(_))) => (stage, "has failed"),
                 Ok(Call::Finish(stage, Answer::Link(_))) => (stage, "is linked"),
                 Ok(Call::Finish(stage, _)) => (stage, "is finished"),
-                Ok(Call::Tick(_)) | Err(_) => return "something is changed".into(),
+                Ok(_) | Err(_) => return "something is changed".into(),
             };
             format!("{} {does}", self.stage(put.request, stage))
         };

@@ -68,6 +68,63 @@ fn each_sound_service_is_sound_in_all_orders() {
     }
 }
 
+/// Who asks whether a payment is settled, and charges then, charges twice where the payment is under way. It is so behind a wait, and behind a
+/// limit of a stage of its own.
+#[test]
+fn who_asks_before_he_charges_charges_twice() {
+    let waits = |world: &World| {
+        let (charges, request) = (Shared::new(0), world.request("order 17"));
+        let (once, again) = (charges.clone(), charges.clone());
+        let paid = request.supply(move || *once.get() += 1);
+        world.check("charged at most once", move || *charges.get() <= 1);
+        request.supply(move || {
+            if paid.wait_timeout(SECOND).is_none() && !paid.is_settled() {
+                *again.get() += 1;
+            }
+        })
+    };
+    let asks = |world: &World| {
+        let (charges, request) = (Shared::new(0), world.request("order 17"));
+        let (once, again) = (charges.clone(), charges.clone());
+        let paid = request.supply(move || *once.get() += 1);
+        world.check("charged at most once", move || *charges.get() <= 1);
+        request.promise().or_timeout(SECOND).recover(move |_| {
+            if !paid.is_settled() {
+                *again.get() += 1;
+            }
+        })
+    };
+    for report in [orders(waits), orders(asks)] {
+        assert_eq!(report.failed.iter().map(|failure| &*failure.why).collect::<Vec<_>>(), ["charged at most once"], "{report}");
+    }
+}
+
+/// What is told of a stage, and what is behind it, come in either order, whoever is attached first.
+#[test]
+fn who_is_told_of_a_stage_comes_behind_what_is_behind_it_too() {
+    let report = |is_told_first: bool| {
+        orders(move |world: &World| {
+            let seen = Shared::new(String::new());
+            let (tells, does) = (seen.clone(), seen.clone());
+            let gate = world.arrives(world.request("order 17").promise(), 1);
+            let (told, behind) = (gate.clone(), gate);
+            let tell = || drop(told.inspect(move |_| tells.get().push_str("told ")));
+            if is_told_first {
+                tell();
+                drop(behind.then(move |_| does.get().push_str("done ")));
+            } else {
+                drop(behind.then(move |_| does.get().push_str("done ")));
+                tell();
+            }
+            world.end_is(move || seen.get().clone());
+        })
+    };
+    for report in [report(true), report(false)] {
+        is_sound(&report);
+        assert_eq!(report.ends.into_keys().collect::<Vec<_>>(), ["done told ", "told done "]);
+    }
+}
+
 // Failures.
 
 fn charged(world: &World) -> Stage<u32> {
