@@ -12,6 +12,7 @@ PROGRAMS = ["cf", "cf_look", "cf_bench"]  # that rows call
 DEBIAN = Path("/usr/share/cargo/registry")
 CRATES = ["base64", "futures", "getrandom", "rayon", "rusqlite", "rustix", "serde", "serde_json", "tokio", "tokio-postgres", "tracing"]
 DEBIANS = f"Debian's crates of {', '.join(CRATES)}"
+POSTGRES = "Debian's postgresql-15 and python3-psycopg2"
 JARS = Path("/usr/share/java")
 JUNIT = "JUnit 5, as Debian's junit5 has it"
 NOTHING = "int main(void) { return 0; }\n"
@@ -45,6 +46,7 @@ class Tools:
         pythons = ["/usr/bin/python3", self["python3"]]
         self.found["setuptools and wheel for Python"] = self.importing(pythons, "setuptools, wheel, venv, ensurepip")
         self.found["Python's own tests"] = self.importing(pythons, "test.test_concurrent_futures")
+        self.found[POSTGRES] = Path("/usr/lib/postgresql/15/bin/initdb").is_file() and self.importing(pythons, "psycopg2") or None
         crates = [list(DEBIAN.glob(name + "-[0-9]*")) for name in CRATES]
         self.found[DEBIANS] = str(DEBIAN) if all(crates) else None
         browser = shutil.which("chromedriver") and (shutil.which("chromium") or shutil.which("google-chrome"))

@@ -480,7 +480,17 @@ impl Transaction for Open<'_> {
     }
 
     fn append(&mut self, put: Put<'_>) -> Result<bool, StoreError> {
-        self.inside.0.all("release savepoint cf_function")?; // (it is there, unless the function has ended its transaction)
+        let released = self.inside.0.within(async {
+            match self.inside.0.client.batch_execute("release savepoint cf_function").await {
+                Err(error) if [Some(&SqlState::S_E_INVALID_SPECIFICATION), Some(&SqlState::NO_ACTIVE_SQL_TRANSACTION)].contains(&error.code()) => {
+                    Ok(false)
+                }
+                told => told.map(|()| true),
+            }
+        })?;
+        if !released {
+            return Err(StoreError::Refused("the function has ended its transaction".into()));
+        }
         let values = PutValues::new(&put);
         let (statement, values) = values.all();
         let rows = self.inside.0.rows(&format!("{statement} on conflict do nothing returning 1"), &values)?;
