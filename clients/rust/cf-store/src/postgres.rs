@@ -31,9 +31,12 @@ const SCHEMA: &str = "
     create table if not exists cf_name (request bigint, session bigint, name text not null,
         primary key (request, session));
 ";
-/// One statement: where a place is taken nothing of it stands. The server reads that of one word in less time.
-const PUT_ONE: &str = "insert into cf_word select id, $2::int, $3::bigint, $4::bigint, $5::bytea from cf_request where id = $1";
-const PUT: &str = "insert into cf_word select id, v.* from cf_request, unnest($2::int[], $3::bigint[], $4::bigint[], $5::bytea[]) as v where id = $1";
+/// One statement: where a place is taken nothing of it stands. The server reads that of one word in less time. It holds its request's row, so that who
+/// drops a request waits for the puts that are under way, and deletes their words, too.
+const PUT_ONE: &str = "insert into cf_word select id, $2::int, $3::bigint, $4::bigint, $5::bytea \
+                       from (select id from cf_request where id = $1 for key share) as there";
+const PUT: &str = "insert into cf_word select id, v.* from (select id from cf_request where id = $1 for key share) as there, \
+                   unnest($2::int[], $3::bigint[], $4::bigint[], $5::bytea[]) as v";
 const NOW: &str = "extract(epoch from clock_timestamp())::double precision";
 const MARK: &str = "pg_snapshot_xmin(pg_current_snapshot())::text::bigint";
 /// The number of the lock under which tables are made.
@@ -419,7 +422,7 @@ impl Store for Postgres {
     }
 
     fn set_timer(&self, timer: &Timer) -> Result<(), StoreError> {
-        let statement = "insert into cf_timer select id, $1, $2, $3 from cf_request where id = $4 \
+        let statement = "insert into cf_timer select id, $1, $2, $3 from (select id from cf_request where id = $4 for key share) as there \
                          on conflict (request, stage) do update set due = excluded.due, payload = excluded.payload returning 1";
         self.ask_of(&timer.request, statement, &[&i32::from(timer.stage), &timer.due, &timer.payload, &timer.number]).map(|_| ())
     }
