@@ -117,6 +117,14 @@ impl Connection {
         Ok(rows.first().map(|row| row.get(0)).unwrap_or_default())
     }
 
+    /// Whether all tables and indexes are there. Where they are none is made: an index that is made waits for open transactions, and all puts wait for
+    /// it.
+    fn is_set_up(&mut self) -> Result<bool, StoreError> {
+        let parts: Vec<_> = SCHEMA.split("if not exists ").skip(1).filter_map(|it| it.split_whitespace().next()).collect();
+        let rows = self.rows("select count(to_regclass(name)) from unnest($1::text[]) as name", &[&parts])?;
+        Ok(rows[0].get::<_, i64>(0) == parts.len() as i64)
+    }
+
     /// Statements without values.
     fn all(&self, statements: &str) -> Result<(), StoreError> {
         self.within(self.client.batch_execute(statements))
@@ -164,10 +172,12 @@ impl Postgres {
     pub fn connect(address: &str) -> Result<Postgres, StoreError> {
         let mut config: Config = address.parse().map_err(|error: Failed| StoreError::Refused(error.to_string()))?;
         config.connect_timeout(Duration::from_secs(5)).keepalives_idle(Duration::from_secs(10));
-        let first = Connection::new(&config)?;
-        first.all(&format!("select pg_advisory_lock({SET_UP})"))?; // (two that make a table at once are refused)
-        first.all(SCHEMA)?;
-        first.all(&format!("select pg_advisory_unlock({SET_UP})"))?;
+        let mut first = Connection::new(&config)?;
+        if !first.is_set_up()? {
+            first.all(&format!("select pg_advisory_lock({SET_UP})"))?; // (two that make a table at once are refused)
+            first.all(SCHEMA)?;
+            first.all(&format!("select pg_advisory_unlock({SET_UP})"))?;
+        }
         Ok(Postgres { config, idle: Mutex::new(vec![first]), listens: Mutex::default(), notices: Arc::default() })
     }
 

@@ -59,3 +59,12 @@ fn a_drop_and_what_is_kept_for_its_request_wait_for_each_other() {
     assert_eq!(impatient.set_timer(&timer), Err(StoreError::Gone("r".into())));
     assert_eq!(place.query("select word::text from cf_word union all select stage::text from cf_timer"), [""; 0]);
 }
+
+#[test]
+fn who_connects_waits_for_no_transaction() {
+    let Some((place, address)) = impatient("connects") else { return };
+    let store = place.store();
+    let mut puts = store.transaction().unwrap();
+    rows(puts.connection(), "insert into cf_word values (1, 1, 1, 1)").unwrap();
+    assert_eq!(AnyStore::open(&address).find("r"), Ok(None), "its tables are there");
+}
