@@ -871,21 +871,20 @@ fn again_with(view: &mut View, stage: u16) -> Result<Vec<Json>, StoreError> {
     }
     let (form, of) = view.form(stage);
     let (mut values, mut failed) = (Vec::with_capacity(2), Json::Null);
-    for source in of.to_vec() {
-        match view.end_of(source)? {
-            Some(Ok(value)) => values.push(value),
+    for source in of {
+        values.push(match view.end_of(source)? {
+            Some(Ok(value)) => Some(value),
             Some(Err(error)) => {
-                values.push(Json::Null);
                 failed = failure(error)?;
             }
-            None => values.push(Json::Null),
-        }
+            None => None,
+        });
     }
     Ok(match form {
         Form::Exceptionally => vec![failed],
-        Form::Handle | Form::WhenComplete => vec![values.swap_remove(0), failed],
-        Form::ApplyEither => vec![values.into_iter().find(|it| !it.is_null()).unwrap_or_default()],
-        _ => values,
+        Form::Handle | Form::WhenComplete => vec![values.next().flatten().unwrap_or_default(), failed],
+        Form::ApplyEither => vec![values.flatten().next().unwrap_or_default()], // (null is a value, too)
+        _ => values.map(Option::unwrap_or_default).collect(),
     })
 }
 
@@ -904,6 +903,7 @@ fn failure(error: Error) -> Result<Json, StoreError> {
 }
 
 /// Which sessions are gone, by this process's own clock: those whose beat stood still for a lease in which the store answered. A pause between two
+    let of = of.to_vec();
 /// looks counts for half of it at most, since this process, or the machine, stood still then, and others may have, too.
 struct Watcher {
     /// The count of each session's beats, where it was read, and since when it is that.
@@ -916,6 +916,7 @@ struct Watcher {
 impl Watcher {
     /// Takes in all beats, and gives the sessions that are long gone. While the store is away nobody can beat.
     fn look(&mut self, now: Instant, beats: Result<BTreeMap<u64, i64>, StoreError>) -> Vec<u64> {
+    let mut values = values.into_iter();
         self.time += (now - self.last).min(self.lease / 2);
         self.last = now;
         let Ok(beats) = beats else {

@@ -235,6 +235,32 @@ fn a_try_whose_process_is_gone_is_done_once_more() {
     assert_eq!(told, Err(Error::Failed(Failed::new("Closed", "we are closed"))));
 }
 
+/// The further try of a stage that was settled by hand, and whose function wasn't called, is called with what its sources hold.
+#[test]
+fn a_try_of_what_was_settled_by_hand() {
+    let place = Place::new("by hand");
+    let functions = || Functions::new().with("say", 1, |it: Value| Ok::<_, String>(json!({ "got": it })));
+    let mut nobody = quick();
+    nobody.threads = 0;
+    let planner = Service::with(place.store(), functions(), nobody).unwrap();
+    let request = planner.request("by hand").unwrap();
+    let tried = |first: Value, second: Value| {
+        let (one, two) = (request.promise("one").unwrap(), request.promise("two").unwrap());
+        let either = one.either(&two, "say").unwrap();
+        let again = either.again(1).unwrap();
+        assert!(one.complete(&first).unwrap() && two.complete(&second).unwrap());
+        assert!(either.fail(&Failed::new("Abandoned", "by hand")).unwrap());
+        again.number()
+    };
+    let rows = [(json!(null), json!(5)), (json!(5), json!(null)), (json!(5), json!(6)), (json!(null), json!(null))];
+    let tries = rows.clone().map(|(first, second)| (tried(first.clone(), second), first));
+    let service = Service::with(place.store(), functions(), quick()).unwrap();
+    let request = service.open("by hand").unwrap();
+    for (again, first) in tries {
+        assert_eq!(settled::<Value>(&request.stage(again).unwrap()), Ok(json!({ "got": first })), "null is a value, too");
+    }
+}
+
 #[test]
 fn what_is_no_row_is_told() {
     let place = Place::new("broken");
