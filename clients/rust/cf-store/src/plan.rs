@@ -67,6 +67,8 @@ pub(crate) fn text_of(flow: &str, stages: Vec<(Form, Vec<u16>, Said)>, context: 
     let stages = stages.into_iter().map(|(form, of, said)| Row { form: name(form).into(), of, said }).collect();
     let text = Text { cf: FORMAT, flow: flow.into(), stages, context };
     serde_json::to_string(&text).map_err(|error| StoreError::Refused(error.to_string()))
+    /// The name of its flow.
+    pub(crate) flow: String,
 }
 
 /// Whether two texts are of one plan, wherever it was begun.
@@ -95,7 +97,7 @@ pub(crate) fn read(text: &str, request: &str) -> Result<SharedPlan, StoreError> 
         stages.push((form, row.of, checked(row.said, number).map_err(|why| broken(&why))?));
     }
     let plan = builder.build().map_err(|refused| broken(&refused))?;
-    Ok(SharedPlan { plan, stages, context: text.context.unwrap_or_default() })
+    Ok(SharedPlan { plan, flow: text.flow, stages, context: text.context.unwrap_or_default() })
 }
 
 /// What the payload of an attached stage says.

@@ -26,7 +26,8 @@ use std::time::{Duration, Instant};
 /// - [`StoreError::Unknown`] where the store didn't answer for a minute: what was asked may stand or not;
 /// - [`StoreError::Broken`] and [`StoreError::Gone`] where the row can't be gone on with;
 /// - [`StoreError::Full`] where there would be more than 4,096 stages;
-/// - [`StoreError::NotRegistered`] where a function isn't registered.
+/// - [`StoreError::NotRegistered`] where a function isn't registered;
+/// - [`StoreError::Refused`] where a stage is another request's.
 #[derive(Clone)]
 pub struct Request {
     pub(crate) inner: Arc<Inner>,
@@ -225,9 +226,11 @@ impl Request {
         row.pop().ok_or_else(|| StoreError::Refused("a list of nothing needs no stage".into()))
     }
 
-    /// The stage of a step of the request's flow.
+    /// The stage of a step of the flow with which the request was begun. Nothing where that was another one: it had another name, or was otherwise up
+    /// to this step.
     pub fn step(&self, step: Step) -> Option<Stage> {
-        self.stage(step.number())
+        let has_step = self.inner.view().has_step(step);
+        has_step.then(|| Stage::of(self, step.number()))
     }
 
     /// The stage of a number, in the order in which they were attached, if there is one by what this process has read.
@@ -312,6 +315,7 @@ impl Request {
             self.inner.reopens.store(true, Ordering::Relaxed);
             self.service.keep(&self.inner);
         }
+        self.has_all(of)?;
         let done = self.inner.act(decide);
         let reopened = if done.is_ok() { self.service.reopen(&self.inner) } else { Ok(()) };
         self.service.go_on(&self.inner);
@@ -453,8 +457,18 @@ impl Stage {
 
     fn settle(&self, call: Call, payload: Option<Vec<u8>>, waits: bool) -> Result<bool, StoreError> {
         let (inner, number) = (&self.request.inner, self.number);
+    fn has_all(&self, of: &[&Stage]) -> Result<(), StoreError> {
+        match of.iter().find(|it| !Arc::ptr_eq(&it.request.inner, &self.inner)) {
+            None => Ok(()),
+            Some(other) => {
+                Err(StoreError::Refused(format!("stage {} is one of request {:?}, not of {:?}", other.number, other.request.name(), self.name())))
+            }
+        }
+    }
+
         let done = inner.act(|view| {
             let rests = view.is_settled(number) || waits && view.holder(number)?.is_some();
+        self.has_all(of)?;
             Ok(if rests { vec![] } else { vec![Wanted { call, payload: payload.clone() }] })
         });
         self.request.service.go_on(inner);
@@ -500,11 +514,13 @@ impl Stage {
     pub fn wait_timeout<T: DeserializeOwned>(&self, wait: Duration) -> Result<Option<T>, Error> {
         self.wait_until(Some(self.request.service.host.now() + wait))
     }
+        self.request.has_all(&[other])?;
 
     /// What the stage has come to by what this process has read, if it is settled.
     pub fn peek<T: DeserializeOwned>(&self) -> Result<Option<T>, Error> {
         self.wait_until(Some(self.request.service.host.now()))
     }
+        self.request.has_all(&[other])?;
 
     fn wait_until<T: DeserializeOwned>(&self, until: Option<Instant>) -> Result<Option<T>, Error> {
         let inner = &self.request.inner;

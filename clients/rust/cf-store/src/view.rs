@@ -1,5 +1,6 @@
 //! What this session knows of one request's row, and how it puts words there.
 use crate::error::{Error, Failed, StoreError, ABANDONED};
+use crate::flow::{Prints, Step};
 use crate::host::Host;
 use crate::plan::{self, Said};
 use crate::store::{Opened, Put, Store, Transaction};
@@ -71,6 +72,8 @@ pub(crate) struct View {
     planned: usize,
     /// What goes along with their functions.
     context: Map<String, Json>,
+    /// Which steps of flows these are.
+    steps: Prints,
     room: usize,
     /// How many entries were seen.
     seen: usize,
@@ -90,7 +93,8 @@ pub(crate) struct View {
 
 impl View {
     pub(crate) fn new(store: Arc<dyn Store>, host: Arc<dyn Host>, opened: Opened, session: u64) -> Result<View, StoreError> {
-        let plan::SharedPlan { mut plan, stages, context } = plan::read(&opened.plan, &opened.name)?;
+        let plan::SharedPlan { mut plan, flow, stages, context } = plan::read(&opened.plan, &opened.name)?;
+        let steps = Prints::of(&flow, &stages);
         // by chance: where two have one session, their tokens differ all the same; and half of all are left at least
         let first = host.number(COUNT_BITS - 1) as u32;
         let mut room = ROOM.min(MOST_STAGES - stages.len());
@@ -105,7 +109,7 @@ impl View {
         let (links, unlinked) = Default::default();
         let (found, granted, doubt, own) = Default::default();
         let stages = stages.into_iter().map(known).collect();
-        Ok(View { opened, session, store, host, row, stages, planned, context, room, seen: 0, links, unlinked, found, granted, doubt, own })
+        Ok(View { opened, session, store, host, row, stages, planned, steps, context, room, seen: 0, links, unlinked, found, granted, doubt, own })
     }
 
     /// How many entries were seen.
@@ -145,6 +149,11 @@ impl View {
 
     /// The stages whose claim is open, rising, each with the session to which it was granted. Some may be settled already.
     fn claims(&mut self) -> Result<Vec<(u16, u64)>, StoreError> {
+    /// Whether a step is of the flow with which the request was begun.
+    pub(crate) fn has_step(&self, step: Step) -> bool {
+        self.steps.have(step)
+    }
+
         rising(|from| self.row.open_claim(from), |claim| claim.0)
     }
 

@@ -250,6 +250,10 @@ fn a_flow_is_begun_once() {
     let mut strange = Flow::new("strange");
     strange.then(sum, "inc");
     assert!(matches!(service.start(&strange, "strange", &[]), Err(StoreError::Refused(_))));
+    let mut late = Flow::new("late");
+    let gift = late.promise("gift");
+    late.combine(first, gift, "add");
+    assert!(matches!(service.start(&late, "late", &[]), Err(StoreError::Refused(_))), "first is a step of another flow");
     let mut wide = Flow::new("wide");
     let many: Vec<_> = (0..40).map(|_| wide.promise("promise")).collect();
     let given: Vec<_> = (0..40).map(|it| if it == 35 { Value::Null } else { json!(it) }).collect();
@@ -332,4 +336,49 @@ fn python_begins_the_same_flow() {
     assert_eq!(settled::<Value>(&request.step(paid).unwrap()), Ok(json!("5 for anna of anna")));
     assert_eq!(settled::<Value>(&request.stage(5).unwrap()), Ok(json!("2 for python of anna")));
     assert_eq!(settled::<Value>(&request.stage(6).unwrap()), Ok(json!("8 for bert of anna")));
+}
+
+/// A flow gets a further promise. Whoever has its new steps doesn't take another stage for them in a request of the old ones.
+#[test]
+fn a_step_of_another_flow_is_no_stage() {
+    let place = Place::new("steps");
+    let functions = Functions::new().with("ship", 1, |_: Value, _: Value| Ok::<_, String>(1));
+    let service = Service::with(place.store(), functions, quick()).unwrap();
+    let (mut old, mut new, mut renamed) = (Flow::new("order"), Flow::new("order"), Flow::new("orders"));
+    let (order, approval) = (old.promise("order"), old.promise("approval"));
+    let shipped = old.combine(order, approval, "ship");
+    let (same, fraud, moved) = (new.promise("order"), new.promise("fraud score"), new.promise("approval"));
+    let handled = new.combine(same, moved, "ship");
+    let other = renamed.promise("order");
+    service.start(&old, "order 17", &[json!(17)]).unwrap();
+    let request = service.open("order 17").unwrap();
+    let named = |step| request.step(step).map(|it| it.name().unwrap());
+    assert_eq!([order, approval, shipped].map(named), ["order", "approval", "ship"].map(|it| Some(it.to_owned())));
+    assert_eq!(named(same), Some("order".into()), "up to this step the flows are one");
+    assert_eq!([fraud, moved, handled, other].map(named), [None, None, None, None]);
+    let mut turned = Flow::new("order");
+    let (order, approval) = (turned.promise("order"), turned.promise("approval"));
+    assert_eq!(named(turned.combine(approval, order, "ship")), None, "its sources are others");
+    assert!(service.request("no flow's").unwrap().step(order).is_none());
+}
+
+#[test]
+fn a_stage_of_another_request_is_no_source() {
+    let place = Place::new("strangers");
+    let functions = Functions::new().with("add", 1, |a: i64, b: i64| Ok::<_, String>(a + b)).with("inc", 1, add_one);
+    let service = Service::with(place.store(), functions, quick()).unwrap();
+    let [one, other] = ["one", "other"].map(|name| service.request(name).unwrap());
+    let (own, stranger) = (one.promise("own").unwrap(), other.promise("stranger").unwrap());
+    let refused = [
+        own.combine(&stranger, "add"),
+        own.either(&stranger, "inc"),
+        one.all_of(&[&own, &stranger]),
+        one.first_of(&[&own, &stranger]),
+        one.gather(&[&own, &stranger]),
+    ];
+    for it in refused {
+        assert!(matches!(it, Err(StoreError::Refused(_))), "{it:?}");
+    }
+    assert!(one.stage(1).is_none(), "nothing was attached");
+    assert!(own.combine(&one.stage(0).unwrap(), "add").is_ok());
 }
