@@ -3,6 +3,7 @@ use crate::error::{Error, Failed, StoreError, ABANDONED};
 use crate::flow::{Prints, Step};
 use crate::host::Host;
 use crate::plan::{self, Said};
+use crate::sessions::Sessions;
 use crate::store::{Opened, Put, Store, Transaction};
 use cf_graph::{
     Answer, Args, Call, Cause, Claimed, Entry, Event, Failure, Finished, Form, Of, Outcome, Refused, Reply, Row, RowOpening, State, Value,
@@ -66,6 +67,7 @@ pub(crate) struct View {
     pub(crate) session: u64,
     store: Arc<dyn Store>,
     host: Arc<dyn Host>,
+    sessions: Arc<Sessions>,
     row: Row,
     stages: Vec<Known>,
     /// How many stages the plan has.
@@ -77,6 +79,8 @@ pub(crate) struct View {
     room: usize,
     /// How many entries were seen.
     seen: usize,
+    /// Whether the row was read: what stood then may be old.
+    is_read: bool,
     /// Promises that composing stages were linked to, with the places of those words.
     links: BTreeMap<u16, usize>,
     /// Composing stages that were settled, and whose promises may be waited for by nobody.
@@ -92,7 +96,8 @@ pub(crate) struct View {
 }
 
 impl View {
-    pub(crate) fn new(store: Arc<dyn Store>, host: Arc<dyn Host>, opened: Opened, session: u64) -> Result<View, StoreError> {
+    pub(crate) fn new(store: Arc<dyn Store>, host: Arc<dyn Host>, opened: Opened, sessions: Arc<Sessions>) -> Result<View, StoreError> {
+        let session = sessions.own;
         let plan::SharedPlan { mut plan, flow, stages, context } = plan::read(&opened.plan, &opened.name)?;
         let steps = Prints::of(&flow, &stages);
         // by chance: where two have one session, their tokens differ all the same; and half of all are left at least
@@ -109,7 +114,28 @@ impl View {
         let (links, unlinked) = Default::default();
         let (found, granted, doubt, own) = Default::default();
         let stages = stages.into_iter().map(known).collect();
-        Ok(View { opened, session, store, host, row, stages, planned, steps, context, room, seen: 0, links, unlinked, found, granted, doubt, own })
+        let (seen, is_read) = (0, false);
+        Ok(View {
+            opened,
+            session,
+            store,
+            host,
+            sessions,
+            row,
+            stages,
+            planned,
+            steps,
+            context,
+            room,
+            seen,
+            is_read,
+            links,
+            unlinked,
+            found,
+            granted,
+            doubt,
+            own,
+        })
     }
 
     /// How many entries were seen.
@@ -225,7 +251,9 @@ impl View {
     pub(crate) fn catch_up(&mut self) -> Result<Vec<Done>, StoreError> {
         let (name, number, seen) = (self.opened.name.clone(), self.opened.number, self.seen);
         let entries = sure(&*self.host, || self.store.read(&name, number, seen))?;
-        entries.into_iter().map(|entry| self.take(entry)).collect()
+        let done = entries.into_iter().map(|entry| self.take(entry)).collect();
+        self.is_read = true;
+        done
     }
 
     /// Puts words behind all that is seen, and does them. `decide` says by this view which words are wanted, if any; it is asked again each time
@@ -320,6 +348,7 @@ impl View {
         if matches!(call, Call::Attach(..)) {
             self.make_room(1)?;
         }
+        self.hear(entry, call)?;
         let broken = |refused: Refused| StoreError::broken(&self.opened.name, place, format!("the word {} can't be done: {refused}", entry.word));
         let reply = self.row.saw(entry).map_err(broken)?;
         self.seen = place;
@@ -348,6 +377,19 @@ impl View {
         self.take_news(call, place);
         let done = Done { call, reply };
         if is_own {
+    /// What a word that comes tells of sessions: whose it is is there, and who fails a stage that this one has may have taken it for gone.
+    fn hear(&mut self, entry: Entry, call: Call) -> Result<(), StoreError> {
+        let session = entry.session();
+        if session == self.session || !self.is_read {
+            return Ok(());
+        }
+        self.sessions.heard(session);
+        if matches!(call, Call::Fail(stage, _) if self.has(stage)?) {
+            self.sessions.give_up();
+        }
+        Ok(())
+    }
+
             self.tells(entry.word, &done);
         }
         Ok(done)

@@ -1,0 +1,269 @@
+//! Services whose clock and threads a test leads by hand, over rows in memory.
+use crate::error::{Error, StoreError};
+use crate::flow::Flow;
+use crate::functions::Functions;
+use crate::host::{Host, Machine};
+use crate::request::{Request, Stage};
+use crate::service::{Job, Looks, Options, Service};
+use crate::store::{Mark, Opened, Put, Store, Timer};
+use crate::testing::Memory;
+use crate::view::Wanted;
+use cf_graph::{Call, Entry, Event};
+use std::collections::{BTreeMap, VecDeque};
+use std::sync::atomic::{AtomicBool, AtomicU32, Ordering::SeqCst};
+use std::sync::{mpsc, Arc, Mutex};
+use std::thread;
+use std::time::{Duration, Instant};
+
+const LEASE: Duration = Duration::from_secs(10);
+/// How long a test waits for what comes soon.
+const LONG: Duration = Duration::from_secs(20);
+
+/// A moment that moves by hand.
+#[derive(Clone)]
+struct Clock(Arc<Mutex<Instant>>);
+
+impl Clock {
+    fn new() -> Clock {
+        Clock(Arc::new(Mutex::new(Instant::now())))
+    }
+
+    fn now(&self) -> Instant {
+        *self.0.lock().unwrap()
+    }
+
+    fn pass(&self, wait: Duration) {
+        *self.0.lock().unwrap() += wait;
+    }
+}
+
+/// A machine without threads: what they were to do waits for the test.
+struct ByHand {
+    clock: Clock,
+    session: u64,
+    jobs: Mutex<VecDeque<Job>>,
+}
+
+impl Host for ByHand {
+    fn now(&self) -> Instant {
+        self.clock.now()
+    }
+
+    fn sleep(&self, wait: Duration) {
+        self.clock.pass(wait);
+    }
+
+    fn number(&self, _bits: u32) -> u64 {
+        self.session
+    }
+
+    fn has_threads(&self) -> bool {
+        false
+    }
+
+    fn takes(&self, job: Job) -> Option<Job> {
+        self.jobs.lock().unwrap().push_back(job);
+        None
+    }
+}
+
+/// A machine with threads, on which nobody has to sleep.
+#[derive(Default)]
+struct Hurried(Mutex<Duration>);
+
+impl Host for Hurried {
+    fn now(&self) -> Instant {
+        Instant::now() + *self.0.lock().unwrap()
+    }
+
+    fn sleep(&self, wait: Duration) {
+        *self.0.lock().unwrap() += wait;
+    }
+}
+
+/// Is told of each call of a store, with what it puts, and may answer in its place.
+type Called = Arc<dyn Fn(&'static str, &[Entry]) -> Result<(), StoreError> + Send + Sync>;
+
+/// A store in memory that tells of its calls.
+struct Told {
+    memory: Arc<Memory>,
+    called: Called,
+}
+
+macro_rules! told {
+    ($(fn $name:ident($($arg:ident: $type:ty),*) -> $told:ty;)*) => {$(
+        fn $name(&self, $($arg: $type),*) -> Result<$told, StoreError> {
+            (self.called)(stringify!($name), &[])?;
+            self.memory.$name($($arg),*)
+        }
+    )*};
+}
+
+impl Store for Told {
+    told! {
+        fn open(name: &str, plan: &str) -> Opened;
+        fn find(name: &str) -> Option<Opened>;
+        fn read(name: &str, number: i64, at: usize) -> Vec<Entry>;
+        fn payload(name: &str, number: i64, place: usize) -> Option<Vec<u8>>;
+        fn news(since: Option<Mark>) -> (BTreeMap<String, usize>, Mark);
+        fn changed(wait: Duration) -> ();
+        fn end(name: &str, number: i64, at: usize) -> bool;
+        fn reopen(name: &str, number: i64) -> ();
+        fn beat(session: u64) -> ();
+        fn beats() -> BTreeMap<u64, i64>;
+        fn drop_beat(session: u64) -> ();
+        fn name_session(session: u64, name: &str) -> ();
+        fn now() -> f64;
+        fn set_timer(timer: &Timer) -> ();
+        fn due(now: f64) -> Vec<Timer>;
+        fn drop_timer(timer: &Timer) -> ();
+    }
+
+    fn append(&self, put: Put<'_>) -> Result<Option<Vec<Entry>>, StoreError> {
+        (self.called)("append", put.entries)?;
+        self.memory.append(put)
+    }
+}
+
+/// A service with its machine.
+struct Process {
+    service: Service,
+    host: Arc<ByHand>,
+    looks: Mutex<Looks>,
+}
+
+impl Process {
+    fn new(memory: &Arc<Memory>, clock: &Clock, session: u64, threads: usize, functions: Functions, called: Called) -> Process {
+        let host = Arc::new(ByHand { clock: clock.clone(), session, jobs: Mutex::default() });
+        let store = Arc::new(Told { memory: Arc::clone(memory), called });
+        let options = Options { threads, lease: LEASE, takes_all: true, warns: |_| {}, ..Options::default() };
+        let service = Service::hosted(store, functions, options, Arc::clone(&host) as Arc<dyn Host>).unwrap();
+        Process { service, host, looks: Mutex::new(Looks::new(clock.now())) }
+    }
+
+    /// A turn of its pump, and what its threads do then.
+    fn turn(&self) {
+        self.service.shared.round(&mut self.looks.lock().unwrap()).unwrap();
+        self.work();
+    }
+
+    fn work(&self) {
+        loop {
+            let Some(job) = self.host.jobs.lock().unwrap().pop_front() else { return };
+            self.service.shared.do_job(&job);
+        }
+    }
+}
+
+fn silent() -> Called {
+    Arc::new(|_, _| Ok(()))
+}
+
+#[test]
+fn who_starts_over_many_requests_beats() {
+    let (memory, clock) = (Arc::new(Memory::default()), Clock::new());
+    let plan = Flow::default().text(&Functions::new()).unwrap();
+    for number in 0..40 {
+        memory.open(&format!("request {number}"), &plan).unwrap();
+    }
+    let (last, longest) = (Arc::new(Mutex::new(clock.now())), Arc::new(Mutex::new(Duration::ZERO)));
+    let (reads, its_longest) = (clock.clone(), Arc::clone(&longest));
+    let called = move |call, _: &[Entry]| {
+        match call {
+            "read" => reads.pass(Duration::from_secs(1)),
+            "beat" => {
+                let now = reads.now();
+                let before = std::mem::replace(&mut *last.lock().unwrap(), now);
+                let mut longest = its_longest.lock().unwrap();
+                *longest = (*longest).max(now - before);
+            }
+            _ => {}
+        }
+        Ok(())
+    };
+    let process = Process::new(&memory, &clock, 1, 1, Functions::new(), Arc::new(called));
+    let began = clock.now();
+    process.turn();
+    assert!(clock.now() - began >= Duration::from_secs(40), "each row was read, which took a second");
+    assert_eq!(*longest.lock().unwrap(), LEASE / 5, "of beats");
+}
+
+#[test]
+fn a_new_word_is_a_sign_of_life() {
+    let (memory, clock) = (Arc::new(Memory::default()), Clock::new());
+    let watches = Process::new(&memory, &clock, 1, 0, Functions::new(), silent());
+    let works = Process::new(&memory, &clock, 2, 1, Functions::new(), silent());
+    let request = works.service.request("r").unwrap();
+    let stage = request.supply("cf.gather", &[1.into()]).unwrap();
+    request.inner.act(|_| Ok(vec![Wanted { call: Call::Claim(stage.number()), payload: None }])).unwrap();
+    watches.turn();
+    for _ in 0..10 {
+        clock.pass(LEASE / 4);
+        watches.turn();
+        request.promise("a word").unwrap();
+        watches.turn();
+    }
+    let seen = watches.service.open("r").unwrap().stage(stage.number()).unwrap();
+    assert_eq!(seen.peek::<i64>(), Ok(None), "its session puts words");
+    for _ in 0..6 {
+        clock.pass(LEASE / 4);
+        watches.turn();
+    }
+    assert!(matches!(seen.peek::<i64>(), Err(Error::Abandoned(_))), "and now it is silent");
+}
+
+#[test]
+fn who_was_taken_for_gone_claims_nothing_before_it_has_beaten() {
+    let (memory, clock) = (Arc::new(Memory::default()), Clock::new());
+    let watches = Arc::new(Process::new(&memory, &clock, 1, 0, Functions::new(), silent()));
+    let calls = Arc::new(AtomicU32::new(0));
+    let (counted, watcher, ticks) = (Arc::clone(&calls), Arc::clone(&watches), clock.clone());
+    // while it is called at first its process stands still, and the other one doesn't
+    let slow = move || {
+        for _ in 0..if counted.fetch_add(1, SeqCst) < 1 { 6 } else { 0 } {
+            ticks.pass(LEASE / 4);
+            watcher.turn();
+        }
+        Ok::<_, String>(7)
+    };
+    let works = Process::new(&memory, &clock, 2, 1, Functions::new().with("slow", 1, slow), silent());
+    works.turn();
+    let last = works.service.request("r").unwrap().supply("slow", &[]).unwrap().again(8).unwrap();
+    watches.turn();
+    works.work();
+    assert_eq!(calls.load(SeqCst), 1, "its stage was taken from it, and so would be the next");
+    works.turn();
+    assert_eq!((calls.load(SeqCst), last.peek::<i64>()), (2, Ok(Some(7))));
+}
+
+#[test]
+fn who_stops_beats_until_its_functions_have_ended() {
+    let ((beats, beaten), (begun, begins), (goes, go)) = (mpsc::channel(), mpsc::channel(), mpsc::channel());
+    let (beats, begun, go) = (Mutex::new(beats), Mutex::new(begun), Mutex::new(go));
+    let called = move |call: &str, _: &[Entry]| {
+        if call == "beat" {
+            let _nobody_counts = beats.lock().unwrap().send(());
+        }
+        Ok(())
+    };
+    let slow = move || {
+        begun.lock().unwrap().send(()).unwrap();
+        go.lock().unwrap().recv_timeout(LONG).map(|()| 7)
+    };
+    let options = Options { lease: Duration::from_millis(50), ..Options::default() };
+    let store = Arc::new(Told { memory: Arc::default(), called: Arc::new(called) });
+    let service = Service::hosted(store, Functions::new().with("slow", 1, slow), options, Arc::new(Machine)).unwrap();
+    let shared = Arc::clone(&service.shared);
+    service.request("r").unwrap().supply("slow", &[]).unwrap();
+    begins.recv_timeout(LONG).unwrap();
+    let stops = thread::spawn(move || drop(service));
+    while !shared.is_over() {
+        thread::yield_now();
+    }
+    beaten.try_iter().for_each(drop);
+    for _ in 0..3 {
+        beaten.recv_timeout(LONG).expect("it is there as long as its function runs");
+    }
+    goes.send(()).unwrap();
+    stops.join().unwrap();
+}
