@@ -267,3 +267,61 @@ fn who_stops_beats_until_its_functions_have_ended() {
     goes.send(()).unwrap();
     stops.join().unwrap();
 }
+
+#[test]
+fn a_value_that_is_refused_for_a_while_is_not_lost() {
+    // So many puts of its finish are refused, and whether beats are, too, as long; what stands then.
+    let rows = [(1, true, Ok(7)), (2, true, Err("StoreError")), (3, true, Ok(7)), (1, false, Ok(7)), (2, false, Ok(7)), (9, false, Ok(7))];
+    for (refusals, takes_beats, wanted) in rows {
+        let left = AtomicU32::new(refusals);
+        let called = move |call: &str, entries: &[Entry]| {
+            let finishes = |entry: &Entry| matches!(Event::of_word(entry.word).unwrap().call, Call::Finish(..));
+            let is_refused = match call {
+                "append" => entries.iter().any(finishes) && left.fetch_update(SeqCst, SeqCst, |left| left.checked_sub(1)).is_ok(),
+                "beat" => !takes_beats && left.load(SeqCst) > 0,
+                _ => false,
+            };
+            if is_refused {
+                return Err(StoreError::Refused("not now".into()));
+            }
+            Ok(())
+        };
+        let functions = Functions::new().with("seven", 1, || Ok::<_, String>(7));
+        let process = Process::new(&Arc::default(), &Clock::new(), 1, 1, functions, Arc::new(called));
+        let stage = process.service.request("r").unwrap().supply("seven", &[]).unwrap();
+        process.work();
+        let told = stage.peek::<i64>().map_err(|error| match error {
+            Error::Failed(failed) => failed.kind,
+            other => other.to_string(),
+        });
+        assert_eq!(told, wanted.map(Some).map_err(str::to_owned), "{refusals} refusals, and beats are taken: {takes_beats}");
+    }
+}
+
+#[test]
+fn who_stops_puts_no_value_for_ever() {
+    let (asks, asked) = mpsc::channel();
+    let asks = Mutex::new(asks);
+    let called = move |call: &str, entries: &[Entry]| {
+        let finishes = |entry: &Entry| matches!(Event::of_word(entry.word).unwrap().call, Call::Finish(..));
+        if call == "append" && entries.iter().any(finishes) {
+            let _nobody_counts = asks.lock().unwrap().send(());
+            return Err(StoreError::Refused("never".into()));
+        }
+        Ok(())
+    };
+    let functions = Functions::new().with("seven", 1, || Ok::<_, String>(7));
+    let options = Options { warns: |_| {}, ..Options::default() };
+    let store = Arc::new(Told { memory: Arc::default(), called: Arc::new(called) });
+    let service = Service::hosted(store, functions, options, Arc::new(Hurried::default())).unwrap();
+    service.request("r").unwrap().supply("seven", &[]).unwrap();
+    asked.recv_timeout(LONG).unwrap();
+    soon(move || drop(service));
+}
+
+/// What comes of something on a thread of its own, which has to come soon.
+fn soon<T: Send + 'static>(act: impl FnOnce() -> T + Send + 'static) -> T {
+    let (gives, gets) = mpsc::channel();
+    thread::spawn(move || gives.send(act()));
+    gets.recv_timeout(LONG).expect("it comes soon")
+}

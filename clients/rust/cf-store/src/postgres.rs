@@ -161,10 +161,10 @@ fn told(error: &Failed) -> StoreError {
     }
 }
 
-/// Whether an error is of a server that is away, or can't write now.
+/// Whether an error is of a server that is away, or can't do it now: a lock isn't free, say, or a prepared statement was forgotten.
 fn is_away(code: &SqlState) -> bool {
     let class = code.code().get(..2).unwrap_or_default();
-    ["08", "53", "57", "58", "40"].contains(&class) || *code == SqlState::READ_ONLY_SQL_TRANSACTION
+    ["08", "26", "28", "40", "53", "55", "57", "58"].contains(&class) || *code == SqlState::READ_ONLY_SQL_TRANSACTION
 }
 
 impl Postgres {

@@ -9,7 +9,7 @@ use crate::plan::{self, Said};
 use crate::request::{answer_of, fired, payload_of, Given, Inner, Request};
 use crate::sessions::Sessions;
 use crate::store::{Mark, Opened, Store, Timer, Transaction};
-use crate::view::{sure, View, Wanted, SESSION_BITS};
+use crate::view::{sure, View, Wanted, PATIENCE, SESSION_BITS};
 use cf_graph::{Answer, Args, Call, Claimed, Form, Outcome, Reply, State};
 use serde_json::{Map, Value as Json};
 use std::any::Any;
@@ -24,6 +24,8 @@ use std::time::{Duration, Instant};
 const BETWEEN_TIMERS: Duration = Duration::from_millis(20);
 /// How long the pump waits for news at most.
 const LONGEST_PAUSE: Duration = Duration::from_millis(200);
+/// Before a finish is put again where the store takes nothing.
+const BETWEEN_REFUSALS: Duration = Duration::from_millis(500);
 /// Before a transaction is begun again that came to nothing.
 const BETWEEN_TRANSACTIONS: Duration = Duration::from_millis(50);
 
@@ -117,8 +119,6 @@ enum Tried {
     Ended(Result<Given, Failed>),
 }
 
-/// What a function came to, if there is one whose finish is to be put.
-type Ended = Option<(u16, Result<Given, Failed>)>;
 /// What the pump goes on with from one round to the next.
 pub(crate) struct Looks {
     next_beat: Instant,
@@ -135,6 +135,8 @@ impl Looks {
 
 
 impl Service {
+/// What a function came to, if there is one whose finish is to be put.
+type Ended = Option<(u16, Result<Given, Failed>)>;
     /// A service of a store that runs these functions, with the usual [`Options`].
     pub fn new(store: impl Store + 'static, functions: Functions) -> Result<Service, StoreError> {
         Service::with(store, functions, Options::default())
@@ -240,8 +242,6 @@ impl Drop for Service {
         for thread in self.threads.drain(..) {
             let _panicked = thread.join();
         }
-        for inner in self.shared.all() {
-            inner.wake();
         self.shared.rests.store(true, Ordering::SeqCst);
         if let Some(pump) = self.pump.take() {
             pump.thread().unpark();
@@ -249,6 +249,8 @@ impl Drop for Service {
         }
         }
         let _others_see_its_silence = self.shared.store.drop_beat(self.shared.session);
+        for inner in self.shared.all() {
+            inner.wake();
     }
 }
 
@@ -428,8 +430,6 @@ impl Shared {
                 self.host.sleep(LONGEST_PAUSE);
             }
         }
-    }
-
         // what runs is finished: until then others have to see that this session is there
         while !self.rests.load(Ordering::SeqCst) {
             thread::park_timeout(LONGEST_PAUSE.min(self.options.lease / 5));
@@ -437,6 +437,8 @@ impl Shared {
         }
     pub(crate) fn round(self: &Arc<Shared>, looks: &mut Looks) -> Result<(), StoreError> {
         let is_whole = self.beat_if_due(looks)?;
+    }
+
         let now = self.host.now();
         if now >= looks.next_timers {
             looks.next_timers = now + BETWEEN_TIMERS;
@@ -461,8 +463,6 @@ impl Shared {
         Ok(())
     }
 
-    pub(crate) fn beat(&self, is_named: &mut bool) -> Result<(), StoreError> {
-        self.store.beat(self.session)?;
     /// Says that this session is there, and looks who else is, if it is time to: whether it was.
     fn beat_if_due(&self, looks: &mut Looks) -> Result<bool, StoreError> {
         let now = self.host.now();
@@ -475,6 +475,8 @@ impl Shared {
 
         if !*is_named {
             self.store.name_session(self.session, &format!("rust {}", std::process::id()))?;
+    pub(crate) fn beat(&self, is_named: &mut bool) -> Result<(), StoreError> {
+        self.store.beat(self.session)?;
         self.sessions.beaten();
             *is_named = true;
         }
@@ -647,10 +649,11 @@ impl Shared {
         Ok(())
     }
 
-    /// Puts a finish, and with it the claim of the next stage, if there is one; what was claimed. While the store is away a finish is put again and
-    /// again: its function has run. A value that the store refuses fails its stage.
-    fn next(&self, inner: &Arc<Inner>, mut ended: Ended) -> Result<Option<Task>, StoreError> {
-        let mut chosen = Vec::new();
+    /// Puts a finish, and with it the claim of the next stage, if there is one; what was claimed. While the store is away, or takes nothing, a finish is
+    /// put again and again: its function has run. Once the service stops that ends after a minute. A value that the store refuses twice fails its stage,
+    /// if the store takes something else meanwhile.
+    fn next(&self, inner: &Arc<Inner>, ended: Ended) -> Result<Option<Task>, StoreError> {
+        let (mut chosen, mut refusals, mut refused, mut until) = (Vec::new(), 0, None, None);
         let done = loop {
             let told = inner.act(|view| {
                 let mut wanted = Vec::with_capacity(2);
@@ -658,21 +661,27 @@ impl Shared {
                 if let Some((stage, result)) = &ended {
                     let (answer, payload) = answer_of(result, view.seen() + 1);
                     wanted.extend(view.finish(*stage, answer, payload)?);
+                    let result = refused.as_ref().unwrap_or(result);
                     held = Some((*stage, answer));
                 }
                 chosen = self.choice(view, &inner.name, held)?;
                 wanted.extend(chosen.first().map(|stage| Wanted { call: Call::Claim(*stage), payload: None }));
                 Ok(wanted)
             });
-            match (told, &mut ended) {
-                (Ok(done), _) => break done,
-                (Err(StoreError::Unknown(why)), Some(_)) if !self.is_over() => self.warn(&inner.name, &why),
-                (Err(StoreError::Refused(why)), Some((_, result))) if !self.is_over() => {
+            match told {
+                Ok(done) => break done,
+                Err(StoreError::Unknown(why)) if ended.is_some() && !self.is_over() => self.warn(&inner.name, &why),
+                Err(StoreError::Refused(why)) if ended.is_some() && (!self.is_over() || self.is_before(&mut until)) => {
                     self.warn(&inner.name, &why);
-                    *result = Err(Failed::new("StoreError", why));
-                    self.host.sleep(LONGEST_PAUSE);
+                    let is_its = refused.take().is_none() && self.store.beat(self.session).is_ok();
+                    refusals = if is_its { refusals + 1 } else { 0 };
+                    match refusals {
+                        0 => self.host.sleep(BETWEEN_REFUSALS),
+                        1 => {}
+                        _ => refused = Some(Err(Failed::new("StoreError", why))),
+                    }
                 }
-                (Err(error), _) => return Err(error),
+                Err(error) => return Err(error),
             }
         };
         if chosen.len() > 1 {
@@ -688,6 +697,12 @@ impl Shared {
             }
             _ => Ok(None),
         }
+    }
+
+    /// Whether it is before a moment, which is a minute from the first question on.
+    fn is_before(&self, until: &mut Option<Instant>) -> bool {
+        let now = self.host.now();
+        now < *until.get_or_insert(now + PATIENCE)
     }
 
     /// Up to two stages that this session could claim behind the finish of what has ended, and whose functions it knows.
@@ -896,25 +911,25 @@ fn again_with(view: &mut View, stage: u16) -> Result<Vec<Json>, StoreError> {
     }
     let (form, of) = view.form(stage);
     let (mut values, mut failed) = (Vec::with_capacity(2), Json::Null);
+    let of = of.to_vec();
     for source in of {
         values.push(match view.end_of(source)? {
             Some(Ok(value)) => Some(value),
             Some(Err(error)) => {
                 failed = failure(error)?;
             }
-    let of = of.to_vec();
+                None
             None => None,
         });
     }
     Ok(match form {
+    let mut values = values.into_iter();
         Form::Exceptionally => vec![failed],
         Form::Handle | Form::WhenComplete => vec![values.next().flatten().unwrap_or_default(), failed],
-                None
         Form::ApplyEither => vec![values.flatten().next().unwrap_or_default()], // (null is a value, too)
         _ => values.map(Option::unwrap_or_default).collect(),
     })
 }
-    let mut values = values.into_iter();
 
 /// An end without a value, as functions are given it.
 fn failure(error: Error) -> Result<Json, StoreError> {

@@ -3,9 +3,11 @@
 mod common;
 
 use cf_graph::{Call, Event, Form, Of};
-use cf_store::{Entry, Put, Store, StoreError, Timer};
-use common::{rows, AnyStore, Place};
+use cf_store::{Entry, Functions, Put, Service, Store, StoreError, Timer};
+use common::{quick, rows, settled, AnyStore, Place};
 use std::collections::BTreeMap;
+use std::sync::{mpsc, Mutex};
+use std::time::Duration;
 
 /// A place in a database, where nobody waits long for a lock.
 fn impatient(name: &str) -> Option<(Place, String)> {
@@ -67,4 +69,25 @@ fn who_connects_waits_for_no_transaction() {
     let mut puts = store.transaction().unwrap();
     rows(puts.connection(), "insert into cf_word values (1, 1, 1, 1)").unwrap();
     assert_eq!(AnyStore::open(&address).find("r"), Ok(None), "its tables are there");
+}
+
+#[test]
+fn a_lock_that_is_not_free_loses_no_value() {
+    let Some((place, address)) = impatient("locks") else { return };
+    let ((begun, begins), (goes, go)) = (mpsc::channel(), mpsc::channel());
+    let (begun, go) = (Mutex::new(begun), Mutex::new(go));
+    let slow = move || {
+        begun.lock().unwrap().send(()).unwrap();
+        go.lock().unwrap().recv_timeout(Duration::from_secs(60)).map(|()| 7)
+    };
+    let service = Service::with(AnyStore::open(&address), Functions::new().with("slow", 1, slow), quick()).unwrap();
+    let stage = service.request("r").unwrap().supply("slow", &[]).unwrap();
+    begins.recv_timeout(Duration::from_secs(60)).unwrap();
+    let store = place.store();
+    let mut locks = store.transaction().unwrap();
+    rows(locks.connection(), "lock table cf_word in access exclusive mode").unwrap();
+    goes.send(()).unwrap();
+    std::thread::sleep(Duration::from_millis(200)); // (its finish is refused a few times)
+    drop(locks);
+    assert_eq!(settled::<i64>(&stage), Ok(7));
 }
