@@ -319,9 +319,70 @@ fn who_stops_puts_no_value_for_ever() {
     soon(move || drop(service));
 }
 
+/// A stage of a service with threads, which another one has completed with 7, and that service. Its store is told of calls.
+fn completed(called: Called) -> (Stage, Service) {
+    let memory = Arc::new(Memory::default());
+    let other = Process::new(&memory, &Clock::new(), 1, 0, Functions::new(), silent());
+    assert!(other.service.request("r").unwrap().promise("p").unwrap().complete(&7).unwrap());
+    let options = Options { threads: 1, warns: |_| {}, ..Options::default() };
+    let service = Service::hosted(Arc::new(Told { memory, called }), Functions::new(), options, Arc::new(Hurried::default())).unwrap();
+    (service.open("r").unwrap().stage(0).unwrap(), service)
+}
+
 /// What comes of something on a thread of its own, which has to come soon.
 fn soon<T: Send + 'static>(act: impl FnOnce() -> T + Send + 'static) -> T {
     let (gives, gets) = mpsc::channel();
     thread::spawn(move || gives.send(act()));
     gets.recv_timeout(LONG).expect("it comes soon")
+}
+
+#[test]
+fn a_payload_is_shown_once_it_can_be_read() {
+    let is_silent = Arc::new(AtomicBool::new(true));
+    let (says, (asks, asked)) = (Arc::clone(&is_silent), mpsc::channel());
+    let called = move |call: &str, _: &[Entry]| {
+        if call == "payload" && says.load(SeqCst) {
+            let _nobody_counts = asks.send(());
+            return Err(StoreError::Unknown("silent".into()));
+        }
+        Ok(())
+    };
+    let asks = Mutex::new(called);
+    let (stage, _service) = completed(Arc::new(move |call, entries| asks.lock().unwrap()(call, entries)));
+    for ask in [Stage::peek::<i64>, |stage: &Stage| stage.wait_timeout(Duration::from_millis(1))] {
+        assert_eq!(ask(&stage), Ok(None), "its value can't be read");
+    }
+    let waits = stage.clone();
+    let (gives, gets) = mpsc::channel();
+    thread::spawn(move || gives.send(waits.wait::<i64>()));
+    for _ in 0..3 {
+        asked.recv_timeout(LONG).expect("it is asked for again");
+    }
+    is_silent.store(false, SeqCst);
+    assert_eq!(gets.recv_timeout(LONG).expect("the wait goes on"), Ok(7));
+    assert_eq!(stage.peek(), Ok(Some(7)));
+}
+
+#[test]
+fn a_wait_keeps_its_limit_whoever_hangs() {
+    let gate = Arc::new(Mutex::new(()));
+    let its = Arc::clone(&gate);
+    let called = move |call: &str, _: &[Entry]| {
+        if call == "payload" {
+            drop(its.lock().unwrap());
+        }
+        Ok(())
+    };
+    let (stage, _service) = completed(Arc::new(called));
+    let ask = |stage: &Stage| {
+        let (peeks, waits) = (stage.clone(), stage.clone());
+        (soon(move || peeks.peek::<i64>()), soon(move || waits.wait_timeout::<i64>(Duration::from_millis(1))))
+    };
+    let hangs = gate.lock().unwrap();
+    assert_eq!(ask(&stage), (Ok(None), Ok(None)), "the store hangs");
+    drop(hangs);
+    let view = stage.request.inner.view();
+    assert_eq!(ask(&stage), (Ok(None), Ok(None)), "another thread has the view");
+    drop(view);
+    assert_eq!(soon(move || stage.wait_timeout::<i64>(Duration::from_secs(60))), Ok(Some(7)));
 }

@@ -6,16 +6,18 @@ use crate::history::{History, What};
 use crate::host::Host;
 use crate::plan::Said;
 use crate::service::Shared;
-use crate::store::Timer;
-use crate::view::{bytes_of, Done, View, Wanted};
+use crate::store::{Store, Timer};
+use crate::view::{bytes_of, missing, Done, View, Wanted};
 use cf_graph::{Answer, Call, Failure, Form, Of, Outcome, Reply, State, Value};
 use serde::de::DeserializeOwned;
 use serde::Serialize;
 use serde_json::{json, Map, Value as Json};
-use std::cell::Cell;
+use std::cell::{Cell, RefCell};
+use std::collections::{BTreeMap, BTreeSet};
 use std::fmt;
 use std::sync::atomic::{AtomicBool, AtomicUsize, Ordering};
 use std::sync::{Arc, Condvar, Mutex, MutexGuard, PoisonError, TryLockError};
+use std::thread;
 use std::time::{Duration, Instant};
 
 /// A request in a store: [`Service::request`](crate::Service::request) and [`open`](crate::Service::open) give one. Any thread may use it, and
@@ -64,12 +66,17 @@ pub(crate) struct Inner {
     /// Whether a thread is to look what is to do.
     pub(crate) is_queued: AtomicBool,
     /// Whether it is closed in the store, as far as is known.
+    store: Arc<dyn Store>,
     pub(crate) is_closed: AtomicBool,
     /// Whether that has yet to be taken back.
     pub(crate) reopens: AtomicBool,
     /// Why it can't be gone on with.
+    /// How often something was shown: who waits never waits for the view.
+    shown: Mutex<u64>,
     fault: Mutex<Option<StoreError>>,
     /// The stages that somebody was given.
+    /// Payloads that are read for who waits, by their places.
+    reads: Mutex<BTreeMap<usize, Reading>>,
     #[cfg(feature = "testing")]
     pub(crate) given: Mutex<std::collections::BTreeSet<u16>>,
 }
@@ -95,13 +102,20 @@ impl Inner {
     }
 
     pub(crate) fn view(&self) -> MutexGuard<'_, View> {
+            store: Arc::clone(&view.store),
         self.host.until_free(&self.view);
         self.view.lock().unwrap_or_else(PoisonError::into_inner)
+            shown: Mutex::default(),
     }
+            reads: Mutex::default(),
 
     /// The view, where no other thread has it now.
     pub(crate) fn try_view(&self) -> Option<MutexGuard<'_, View>> {
-        self.view.try_lock().ok()
+        match self.view.try_lock() {
+            Ok(view) => Some(view),
+            Err(TryLockError::Poisoned(view)) => Some(view.into_inner()),
+            Err(TryLockError::WouldBlock) => None,
+        }
     }
 
     /// Tells those who wait what was done.
@@ -121,7 +135,57 @@ impl Inner {
         if self.told.load(Ordering::SeqCst) <= view.seen() {
             return Ok(());
         }
+        self.wake();
+    }
+
+    /// Has those who wait look again.
+    pub(crate) fn wake(&self) {
+        *locked(&self.shown) += 1;
         self.read(view)
+    }
+
+    /// What was read of a payload for who waits.
+    fn take_read(&self, place: usize) -> Option<Result<Vec<u8>, StoreError>> {
+        let mut reads = locked(&self.reads);
+        match reads.remove(&place)? {
+            Reading::Told(told) => Some(told),
+            Reading::Asked => {
+                reads.insert(place, Reading::Asked);
+                None
+            }
+        }
+    }
+
+    /// Reads a payload for who waits: whether that was told something. Where its waiting has a limit, of which an engine doesn't know, a thread of its
+    /// own reads it.
+    fn read_payload(self: &Arc<Inner>, place: usize, is_limited: bool) -> bool {
+        if !is_limited || !self.host.has_threads() {
+            return self.ask_payload(place);
+        }
+        let mut reads = locked(&self.reads);
+        match reads.get(&place) {
+            Some(Reading::Told(_)) => return true,
+            Some(Reading::Asked) => return false,
+            None => reads.insert(place, Reading::Asked),
+        };
+        drop(reads);
+        let its = Arc::clone(self);
+        let started = thread::Builder::new().name("cf-store-payload".into()).spawn(move || its.ask_payload(place));
+        started.is_err() && self.ask_payload(place)
+    }
+
+    /// Asks the store once for a payload that a word names: whether it answers.
+    fn ask_payload(&self, place: usize) -> bool {
+        let told = self.store.payload(&self.name, self.number, place).and_then(|it| it.ok_or_else(|| missing(&self.name, place)));
+        let answers = !matches!(told, Err(StoreError::Unknown(_)));
+        let mut reads = locked(&self.reads);
+        reads.remove(&place);
+        if answers {
+            reads.insert(place, Reading::Told(told));
+            drop(reads);
+            self.wake();
+        }
+        answers
     }
 
     fn read(&self, mut view: MutexGuard<'_, View>) -> Result<(), StoreError> {
@@ -144,7 +208,7 @@ impl Inner {
     }
 
     fn writing(&self) -> Option<MutexGuard<'_, ()>> {
-        self.writes.as_ref().map(|it| it.lock().unwrap_or_else(PoisonError::into_inner))
+        self.writes.as_ref().map(locked)
     }
 
     /// Runs a transactional function of it, and what comes before and behind that in its transaction.
@@ -163,16 +227,18 @@ impl Inner {
 
     /// Has those who wait told that it can't be gone on with.
     pub(crate) fn fail(&self, fault: StoreError) {
-        *self.fault.lock().unwrap_or_else(PoisonError::into_inner) = Some(fault);
-        drop(self.view());
-        self.changed.notify_all();
+        *locked(&self.fault) = Some(fault);
+        self.wake();
     }
 
-    /// Has those who wait look again.
-    pub(crate) fn wake(&self) {
-        drop(self.view());
-        self.changed.notify_all();
-    }
+/// What becomes of a payload that is read for who waits.
+enum Reading {
+    Asked,
+    Told(Result<Vec<u8>, StoreError>),
+}
+
+fn locked<T>(mutex: &Mutex<T>) -> MutexGuard<'_, T> {
+    mutex.lock().unwrap_or_else(PoisonError::into_inner)
 }
 
 impl Request {
@@ -199,6 +265,7 @@ impl Request {
     pub fn promise(&self, name: &str) -> Result<Stage, StoreError> {
         self.attach(Form::Source, Of::None, Said { name: name.into(), ..Said::default() })
     }
+}
 
     /// A stage that ends once all of these are settled: with null if all have values, else as the first one in this order that has none. For n stages
     /// it takes n - 1, at least one.
@@ -246,6 +313,7 @@ impl Request {
         for number in 0..view.len() as u16 {
             if view.said(number)?.name == name {
                 return Ok(Some(Stage::of(self, number)));
+        self.has_all(of)?;
             }
         }
         Ok(None)
@@ -315,7 +383,6 @@ impl Request {
             self.inner.reopens.store(true, Ordering::Relaxed);
             self.service.keep(&self.inner);
         }
-        self.has_all(of)?;
         let done = self.inner.act(decide);
         let reopened = if done.is_ok() { self.service.reopen(&self.inner) } else { Ok(()) };
         self.service.go_on(&self.inner);
@@ -390,8 +457,18 @@ impl Stage {
     pub fn either(&self, other: &Stage, function: &str) -> Result<Stage, StoreError> {
         self.behind(Form::ApplyEither, Of::Two(self.number, other.number), function)
     }
+    fn has_all(&self, of: &[&Stage]) -> Result<(), StoreError> {
+        match of.iter().find(|it| !Arc::ptr_eq(&it.request.inner, &self.inner)) {
+            None => Ok(()),
+            Some(other) => {
+                Err(StoreError::Refused(format!("stage {} is one of request {:?}, not of {:?}", other.number, other.request.name(), self.name())))
+            }
+        }
+    }
+
 
     /// Has a registered function called with the value, or null, and the [`Failed`], or null.
+        self.has_all(of)?;
     pub fn handle(&self, function: &str) -> Result<Stage, StoreError> {
         self.behind(Form::Handle, Of::One(self.number), function)
     }
@@ -437,11 +514,13 @@ impl Stage {
     pub fn complete<T: Serialize + ?Sized>(&self, value: &T) -> Result<bool, StoreError> {
         let payload = payload_of(value)?;
         self.settle(Call::Complete(self.number, Value::Nil), payload, false)
+        self.request.has_all(&[other])?;
     }
 
     /// Settles the stage with an error, unless it is settled. Whether this call settled it.
     pub fn fail(&self, failed: &Failed) -> Result<bool, StoreError> {
         self.settle(Call::Fail(self.number, 0), Some(bytes_of(failed)), false)
+        self.request.has_all(&[other])?;
     }
 
     /// Cancels the stage, unless it is settled or its function runs in some process. Whether it is cancelled after the call.
@@ -457,18 +536,8 @@ impl Stage {
 
     fn settle(&self, call: Call, payload: Option<Vec<u8>>, waits: bool) -> Result<bool, StoreError> {
         let (inner, number) = (&self.request.inner, self.number);
-    fn has_all(&self, of: &[&Stage]) -> Result<(), StoreError> {
-        match of.iter().find(|it| !Arc::ptr_eq(&it.request.inner, &self.inner)) {
-            None => Ok(()),
-            Some(other) => {
-                Err(StoreError::Refused(format!("stage {} is one of request {:?}, not of {:?}", other.number, other.request.name(), self.name())))
-            }
-        }
-    }
-
         let done = inner.act(|view| {
             let rests = view.is_settled(number) || waits && view.holder(number)?.is_some();
-        self.has_all(of)?;
             Ok(if rests { vec![] } else { vec![Wanted { call, payload: payload.clone() }] })
         });
         self.request.service.go_on(inner);
@@ -505,35 +574,36 @@ impl Stage {
         })
     }
 
-    /// Waits until the stage is settled, also while the store doesn't answer, and gives its value.
+    /// Waits until the stage is settled, also while the store doesn't answer, and gives its value. It holds its thread: within a task of tokio's call it
+    /// by `spawn_blocking`, as each call that asks the store.
     pub fn wait<T: DeserializeOwned>(&self) -> Result<T, Error> {
         self.wait_until(None).and_then(|told| told.ok_or(Error::Cancelled))
     }
 
-    /// The same, for so long at most: nothing where the stage isn't settled by then.
+    /// The same, for so long at most: nothing where the stage isn't settled by then, or where the store hasn't given its value. That may take 0.2 s
+    /// where less is asked for.
     pub fn wait_timeout<T: DeserializeOwned>(&self, wait: Duration) -> Result<Option<T>, Error> {
         self.wait_until(Some(self.request.service.host.now() + wait))
     }
-        self.request.has_all(&[other])?;
 
-    /// What the stage has come to by what this process has read, if it is settled.
+    /// What the stage has come to by what this process has read, if it is settled. Its value may have to be read, for 0.2 s at most.
     pub fn peek<T: DeserializeOwned>(&self) -> Result<Option<T>, Error> {
-        self.wait_until(Some(self.request.service.host.now()))
+        self.wait_timeout(Duration::ZERO)
     }
-        self.request.has_all(&[other])?;
 
     fn wait_until<T: DeserializeOwned>(&self, until: Option<Instant>) -> Result<Option<T>, Error> {
         let inner = &self.request.inner;
-        let mut view = inner.view();
+        let least = inner.host.now() + LEAST_READING;
         loop {
-            match view.end_of(self.number) {
-                Ok(Some(end)) => {
+            let shown = *locked(&inner.shown); // (before the look: what is shown from here on isn't waited for)
+            let pause = match self.look(until.is_some())? {
+                Look::Ended(end) => {
                     return end.and_then(|value| serde_json::from_value(value).map(Some).map_err(|why| Error::Unreadable(why.to_string())))
                 }
-                Ok(None) | Err(StoreError::Unknown(_)) => {}
-                Err(fault) => return Err(fault.into()),
-            }
-            if let Some(fault) = &*inner.fault.lock().unwrap_or_else(PoisonError::into_inner) {
+                Look::Open => None,
+                Look::Later(pause) => Some(pause),
+            };
+            if let Some(fault) = &*locked(&inner.fault) {
                 return Err(fault.clone().into());
             }
             if self.request.service.is_over() {
@@ -543,24 +613,43 @@ impl Stage {
             if left == Some(Duration::ZERO) {
                 return Ok(None);
             }
-            view = self.rest(view, left);
+            self.rest(shown, left.into_iter().chain(pause).min());
         }
     }
 
-    /// Waits until something was changed, or so long.
-    fn rest<'a>(&'a self, mut view: MutexGuard<'a, View>, left: Option<Duration>) -> MutexGuard<'a, View> {
+    /// What is known of the stage now. Where the waiting has a limit nobody is waited for, neither who has the view nor the store.
+    fn look(&self, is_limited: bool) -> Result<Look, StoreError> {
+        let inner = &self.request.inner;
+        loop {
+            let view = if is_limited && inner.host.has_threads() { inner.try_view() } else { Some(inner.view()) };
+            let Some(mut view) = view else { return Ok(Look::Later(BETWEEN_LOOKS)) };
+            let Some(place) = view.unread(self.number) else {
+                return Ok(view.end_of(self.number)?.map_or(Look::Open, Look::Ended));
+            };
+            if let Some(told) = inner.take_read(place) {
+                view.keep(place, told?);
+                continue;
+            }
+            drop(view);
+            if !inner.read_payload(place, is_limited) {
+                return Ok(Look::Later(BETWEEN_READS));
+            }
+        }
+    }
+
+    /// Waits until more was shown, or so long.
+    fn rest(&self, shown: u64, wait: Option<Duration>) {
         let inner = &self.request.inner;
         if inner.host.has_threads() {
-            let wait = left.unwrap_or(Duration::from_secs(3600));
-            return inner.changed.wait_timeout(view, wait).unwrap_or_else(PoisonError::into_inner).0;
+            let wait = wait.unwrap_or(Duration::from_secs(3600));
+            drop(inner.changed.wait_timeout_while(locked(&inner.shown), wait, |now| *now == shown));
+            return;
         }
-        let name = view.said(self.number).map(|said| said.name).unwrap_or_default();
-        drop(view);
+        let name = self.name().unwrap_or_default();
         let (its, number) = (Arc::clone(inner), self.number);
-        let is_faulty = move || its.fault.lock().unwrap_or_else(PoisonError::into_inner).is_some();
+        let is_faulty = move || locked(&its.fault).is_some();
         let view = Arc::clone(&inner.view);
-        inner.host.until(&name, Arc::new(move || is_shown(&view, number) || is_faulty()), left);
-        inner.view()
+        inner.host.until(&name, Arc::new(move || is_shown(&view, number) || is_faulty()), wait);
     }
 }
 
@@ -597,6 +686,7 @@ pub(crate) fn fired(timer: &Timer) -> Wanted {
         _ => Wanted { call: Call::Complete(timer.stage, Value::Nil), payload: None },
     }
 }
+            let until = if pause.is_some() { until.map(|it| it.max(least)) } else { until };
 
 /// What a function gave.
 pub(crate) enum Given {
@@ -622,4 +712,18 @@ impl fmt::Debug for Request {
     fn fmt(&self, f: &mut fmt::Formatter<'_>) -> fmt::Result {
         f.debug_struct("Request").field("name", &self.inner.name).finish_non_exhaustive()
     }
+/// What who waits is told.
+enum Look {
+    Ended(Result<Json, Error>),
+    Open,
+    /// It is to look again after so long, or once more was shown.
+    Later(Duration),
 }
+
+}
+/// Until who waits looks again, where another thread has the view.
+const BETWEEN_LOOKS: Duration = Duration::from_millis(2);
+/// Until a payload is asked for again.
+const BETWEEN_READS: Duration = Duration::from_millis(100);
+/// For so long at least a payload is waited for.
+const LEAST_READING: Duration = Duration::from_millis(200);

@@ -65,7 +65,7 @@ struct Known {
 pub(crate) struct View {
     pub(crate) opened: Opened,
     pub(crate) session: u64,
-    store: Arc<dyn Store>,
+    pub(crate) store: Arc<dyn Store>,
     host: Arc<dyn Host>,
     sessions: Arc<Sessions>,
     row: Row,
@@ -91,7 +91,7 @@ pub(crate) struct View {
     granted: BTreeMap<u16, Args>,
     /// Tokens of words of which it isn't known whether they stand, and the places where they would.
     doubt: BTreeMap<u64, usize>,
-    /// Payloads that this view put.
+    /// Payloads that this view put, and those that were read for who waits.
     own: Payloads,
 }
 
@@ -517,8 +517,23 @@ impl View {
 
     /// The payload of a word that names one.
     pub(crate) fn payload(&self, place: usize) -> Result<Vec<u8>, StoreError> {
-        let missing = || StoreError::broken(&self.opened.name, place, "no payload is there, and a word names it");
-        self.payload_if_any(place)?.ok_or_else(missing)
+        self.payload_if_any(place)?.ok_or_else(|| missing(&self.opened.name, place))
+    }
+
+    /// The place of the payload that says what a settled stage ended in, where it has yet to be read.
+    pub(crate) fn unread(&mut self, stage: u16) -> Option<usize> {
+        let place = match self.state(stage) {
+            State::Settled(Outcome::Value(Value::Int(place))) => place as u32 as usize,
+            State::Settled(Outcome::Fault { cause: Cause::Thrown(place), .. }) => place as usize,
+            State::Settled(Outcome::Fault { cause: Cause::TimedOut, .. }) => self.stages[usize::from(stage)].failed,
+            _ => 0,
+        };
+        Some(place).filter(|it| *it > 0 && !self.own.contains_key(it))
+    }
+
+    /// Keeps a payload that was read.
+    pub(crate) fn keep(&mut self, place: usize, payload: Vec<u8>) {
+        self.own.insert(place, payload);
     }
 
     pub(crate) fn value(&self, value: Value) -> Result<Json, StoreError> {
@@ -648,6 +663,11 @@ pub(crate) fn sure<T>(host: &dyn Host, mut call: impl FnMut() -> Result<T, Store
         match call() {
             Err(StoreError::Unknown(why)) if host.now() > until => return Err(StoreError::Unknown(why)),
             Err(StoreError::Unknown(_)) => host.sleep(pause),
+/// That a word names a payload that isn't there.
+pub(crate) fn missing(request: &str, place: usize) -> StoreError {
+    StoreError::broken(request, place, "no payload is there, and a word names it")
+}
+
             told => return told,
         }
         pause = (pause * 2).min(Duration::from_millis(500));
