@@ -119,12 +119,15 @@ def rows_of_rust(tools: Tools, made: Path) -> List[Row]:
     python, offline, needs = tools["python3"], "clients/rust/offline", ["library", "cargo", "python3"]
     testing = [python, offline, "run", "-q", "-p", "cf", "--features", "testing", "--example"]
     stored = [python, offline, "--debian", "run", "-q", "-p", "cf-store", "--features", "testing", "--example"]
+    both = "sqlite,postgres"  # (built once)
     return [
         Row("Rust's tests", needs, [[python, offline, "test", "-q", "--lib", "--tests", "--examples"]]),
         Row("Rust's tests under tokio, rayon, serde and tracing", [*needs, DEBIANS],
             [[python, offline, "--debian", "test", "-q", "-p", "cf", "--features", "tokio,rayon,serde,tracing", "--lib", "--tests"]]),
         Row("Rust's requests in SQLite", [*needs, "cf_look", DEBIANS],
-            [["env", f"CF_LOOK={tools['cf_look']}", python, offline, "--debian", "test", "-q", "-p", "cf-store", "--features", "sqlite", "--tests"]]),
+            [["env", f"CF_LOOK={tools['cf_look']}", python, offline, "--debian", "test", "-q", "-p", "cf-store", "--features", both, "--tests"]]),
+        Row("Rust's requests in PostgreSQL", [*needs, DEBIANS, POSTGRES],
+            [[tools[POSTGRES], "conformance/stores/over", "python3", offline, "--debian", "test", "-q", "-p", "cf-store", "--features", both, "--tests"]]),
         Row("Rust's requests in etcd", [*needs, DEBIANS],
             [[python, offline, "--debian", "test", "-q", "-p", "cf-store", "--features", "etcd", "--tests"]]),
         Row("Rust's order in SQLite", [*needs, DEBIANS],

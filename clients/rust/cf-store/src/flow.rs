@@ -5,32 +5,70 @@ use crate::functions::Functions;
 use crate::plan::{self, Said};
 use cf_graph::Form;
 use serde_json::{Map, Value as Json};
+use std::collections::hash_map::DefaultHasher;
+use std::hash::{Hash, Hasher};
+use std::mem::discriminant;
 
 /// A plan of stages, built once. [`Service::start`](crate::Service::start) begins a request of it, whose stages then stand in its plan, and take no
 /// words.
 ///
-/// Each step that is behind others names steps of this flow. Functions are named as in a [`Request`](crate::Request).
+/// Each step that is behind others names steps of this flow; one that names another's makes it no plan. Functions are named as in a
+/// [`Request`](crate::Request).
 #[derive(Clone, Debug, Default)]
 pub struct Flow {
     name: String,
     steps: Vec<(Form, Vec<u16>, Said)>,
+    prints: Prints,
+    /// Whether a step names one of another flow.
+    is_mixed: bool,
 }
 
 /// A step of a flow: the stage that each request of it will have.
 #[derive(Clone, Copy, Debug, PartialEq, Eq)]
-pub struct Step(u16);
+pub struct Step {
+    number: u16,
+    print: u64,
+}
 
 impl Step {
     /// The stage's number in the request.
     pub fn number(self) -> u16 {
-        self.0
+        self.number
+    }
+}
+
+/// Numbers that flows have in common up to the first step in which they differ: one for each step, by the flow's name and by the forms, sources and
+/// names of all steps up to this one.
+#[derive(Clone, Debug, Default)]
+pub(crate) struct Prints(Vec<u64>);
+
+impl Prints {
+    /// Those of a plan.
+    pub(crate) fn of(name: &str, steps: &[(Form, Vec<u16>, Said)]) -> Prints {
+        let mut prints = Prints::default();
+        for (form, of, said) in steps {
+            prints.add(name, *form, of, &said.name);
+        }
+        prints
+    }
+
+    fn add(&mut self, flow: &str, form: Form, of: &[u16], name: &str) -> u64 {
+        let mut print = DefaultHasher::new();
+        (self.0.last(), flow, discriminant(&form), of, name).hash(&mut print);
+        self.0.push(print.finish());
+        print.finish()
+    }
+
+    /// Whether a step is one of these.
+    pub(crate) fn have(&self, step: Step) -> bool {
+        self.0.get(usize::from(step.number)) == Some(&step.print)
     }
 }
 
 impl Flow {
     /// A flow without steps. Requests of one name are begun with one plan.
     pub fn new(name: &str) -> Flow {
-        Flow { name: name.into(), steps: Vec::new() }
+        Flow { name: name.into(), ..Flow::default() }
     }
 
     /// A step without a function, whose value [`Service::start`](crate::Service::start) takes, or which somebody settles later.
@@ -80,10 +118,10 @@ impl Flow {
 
     /// As [`Stage::again`](crate::Stage::again).
     pub fn again(&mut self, step: Step, times: usize) -> Step {
-        let name = self.steps.get(usize::from(step.0)).map_or_else(String::new, |(_, _, said)| format!("{} again", said.name));
+        let name = self.steps.get(usize::from(step.number)).map_or_else(String::new, |(_, _, said)| format!("{} again", said.name));
         let mut last = step;
         for _ in 0..times {
-            last = self.step(Form::Exceptionally, &[last], Said { name: name.clone(), again: Some(step.0), ..Said::default() });
+            last = self.step(Form::Exceptionally, &[last], Said { name: name.clone(), again: Some(step.number), ..Said::default() });
         }
         last
     }
@@ -100,8 +138,11 @@ impl Flow {
 
     fn step(&mut self, form: Form, of: &[Step], said: Said) -> Step {
         let number = self.steps.len().min(u16::MAX.into()) as u16; // (a flow that has so many is refused)
-        self.steps.push((form, of.iter().map(|it| it.0).collect(), said));
-        Step(number)
+        self.is_mixed |= of.iter().any(|step| !self.prints.have(*step));
+        let of: Vec<u16> = of.iter().map(|it| it.number).collect();
+        let print = self.prints.add(&self.name, form, &of, &said.name);
+        self.steps.push((form, of, said));
+        Step { number, print }
     }
 
     pub(crate) fn promises(&self) -> Vec<u16> {
@@ -111,6 +152,9 @@ impl Flow {
 
     /// The text of its plan, with the functions' latest versions, and with what goes along here.
     pub(crate) fn text(&self, functions: &Functions) -> Result<String, StoreError> {
+        if self.is_mixed {
+            return Err(StoreError::Refused(format!("flow {:?} has a step behind one of another flow", self.name)));
+        }
         let mut steps = self.steps.clone();
         for (_, _, said) in &mut steps {
             if let Some(function) = &said.function {

@@ -21,6 +21,7 @@
 //! | `view.rs` | what this session knows of one row, and how it puts words there |
 //! | `request.rs` | what a program has of a request: [`Request`], [`Stage`] |
 //! | `host.rs` | time, threads and chance, in whose place a search of all orders has its own |
+//! | `sessions.rs` | which sessions are there |
 //! | `service.rs` | the threads that run functions, and the pump, which looks what is new: [`Service`] |
 //! | `testing` | a service's own code in every order, over rows in memory that processes share |
 //! | `error.rs` | how a stage ends without a value, and what a store refuses: [`Error`], [`StoreError`] |
@@ -51,6 +52,8 @@
 #![cfg(feature = "json")]
 #![forbid(unsafe_code)]
 #![warn(missing_docs, missing_debug_implementations, unreachable_pub, rust_2018_idioms)]
+#[cfg(all(test, feature = "testing"))]
+mod by_hand;
 mod context;
 mod ends;
 mod error;
@@ -67,6 +70,7 @@ mod plan;
 mod postgres;
 mod request;
 mod service;
+mod sessions;
 #[cfg(feature = "sqlite")]
 mod sqlite;
 mod store;

@@ -31,9 +31,12 @@ const SCHEMA: &str = "
     create table if not exists cf_name (request bigint, session bigint, name text not null,
         primary key (request, session));
 ";
-/// One statement: where a place is taken nothing of it stands. The server reads that of one word in less time.
-const PUT_ONE: &str = "insert into cf_word select id, $2::int, $3::bigint, $4::bigint, $5::bytea from cf_request where id = $1";
-const PUT: &str = "insert into cf_word select id, v.* from cf_request, unnest($2::int[], $3::bigint[], $4::bigint[], $5::bytea[]) as v where id = $1";
+/// One statement: where a place is taken nothing of it stands. The server reads that of one word in less time. It holds its request's row, so that who
+/// drops a request waits for the puts that are under way, and deletes their words, too.
+const PUT_ONE: &str = "insert into cf_word select id, $2::int, $3::bigint, $4::bigint, $5::bytea \
+                       from (select id from cf_request where id = $1 for key share) as there";
+const PUT: &str = "insert into cf_word select id, v.* from (select id from cf_request where id = $1 for key share) as there, \
+                   unnest($2::int[], $3::bigint[], $4::bigint[], $5::bytea[]) as v";
 const NOW: &str = "extract(epoch from clock_timestamp())::double precision";
 const MARK: &str = "pg_snapshot_xmin(pg_current_snapshot())::text::bigint";
 /// The number of the lock under which tables are made.
@@ -114,6 +117,14 @@ impl Connection {
         Ok(rows.first().map(|row| row.get(0)).unwrap_or_default())
     }
 
+    /// Whether all tables and indexes are there. Where they are none is made: an index that is made waits for open transactions, and all puts wait for
+    /// it.
+    fn is_set_up(&mut self) -> Result<bool, StoreError> {
+        let parts: Vec<_> = SCHEMA.split("if not exists ").skip(1).filter_map(|it| it.split_whitespace().next()).collect();
+        let rows = self.rows("select count(to_regclass(name)) from unnest($1::text[]) as name", &[&parts])?;
+        Ok(rows[0].get::<_, i64>(0) == parts.len() as i64)
+    }
+
     /// Statements without values.
     fn all(&self, statements: &str) -> Result<(), StoreError> {
         self.within(self.client.batch_execute(statements))
@@ -150,10 +161,10 @@ fn told(error: &Failed) -> StoreError {
     }
 }
 
-/// Whether an error is of a server that is away, or can't write now.
+/// Whether an error is of a server that is away, or can't do it now: a lock isn't free, say, or a prepared statement was forgotten.
 fn is_away(code: &SqlState) -> bool {
     let class = code.code().get(..2).unwrap_or_default();
-    ["08", "53", "57", "58", "40"].contains(&class) || *code == SqlState::READ_ONLY_SQL_TRANSACTION
+    ["08", "26", "28", "40", "53", "55", "57", "58"].contains(&class) || *code == SqlState::READ_ONLY_SQL_TRANSACTION
 }
 
 impl Postgres {
@@ -161,10 +172,12 @@ impl Postgres {
     pub fn connect(address: &str) -> Result<Postgres, StoreError> {
         let mut config: Config = address.parse().map_err(|error: Failed| StoreError::Refused(error.to_string()))?;
         config.connect_timeout(Duration::from_secs(5)).keepalives_idle(Duration::from_secs(10));
-        let first = Connection::new(&config)?;
-        first.all(&format!("select pg_advisory_lock({SET_UP})"))?; // (two that make a table at once are refused)
-        first.all(SCHEMA)?;
-        first.all(&format!("select pg_advisory_unlock({SET_UP})"))?;
+        let mut first = Connection::new(&config)?;
+        if !first.is_set_up()? {
+            first.all(&format!("select pg_advisory_lock({SET_UP})"))?; // (two that make a table at once are refused)
+            first.all(SCHEMA)?;
+            first.all(&format!("select pg_advisory_unlock({SET_UP})"))?;
+        }
         Ok(Postgres { config, idle: Mutex::new(vec![first]), listens: Mutex::default(), notices: Arc::default() })
     }
 
@@ -419,7 +432,7 @@ impl Store for Postgres {
     }
 
     fn set_timer(&self, timer: &Timer) -> Result<(), StoreError> {
-        let statement = "insert into cf_timer select id, $1, $2, $3 from cf_request where id = $4 \
+        let statement = "insert into cf_timer select id, $1, $2, $3 from (select id from cf_request where id = $4 for key share) as there \
                          on conflict (request, stage) do update set due = excluded.due, payload = excluded.payload returning 1";
         self.ask_of(&timer.request, statement, &[&i32::from(timer.stage), &timer.due, &timer.payload, &timer.number]).map(|_| ())
     }
@@ -480,7 +493,17 @@ impl Transaction for Open<'_> {
     }
 
     fn append(&mut self, put: Put<'_>) -> Result<bool, StoreError> {
-        self.inside.0.all("release savepoint cf_function")?; // (it is there, unless the function has ended its transaction)
+        let released = self.inside.0.within(async {
+            match self.inside.0.client.batch_execute("release savepoint cf_function").await {
+                Err(error) if [Some(&SqlState::S_E_INVALID_SPECIFICATION), Some(&SqlState::NO_ACTIVE_SQL_TRANSACTION)].contains(&error.code()) => {
+                    Ok(false)
+                }
+                told => told.map(|()| true),
+            }
+        })?;
+        if !released {
+            return Err(StoreError::Refused("the function has ended its transaction".into()));
+        }
         let values = PutValues::new(&put);
         let (statement, values) = values.all();
         let rows = self.inside.0.rows(&format!("{statement} on conflict do nothing returning 1"), &values)?;

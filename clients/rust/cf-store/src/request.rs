@@ -6,16 +6,18 @@ use crate::history::{History, What};
 use crate::host::Host;
 use crate::plan::Said;
 use crate::service::Shared;
-use crate::store::Timer;
-use crate::view::{bytes_of, Done, View, Wanted};
+use crate::store::{Store, Timer};
+use crate::view::{bytes_of, missing, Done, View, Wanted};
 use cf_graph::{Answer, Call, Failure, Form, Of, Outcome, Reply, State, Value};
 use serde::de::DeserializeOwned;
 use serde::Serialize;
 use serde_json::{json, Map, Value as Json};
-use std::cell::Cell;
+use std::cell::{Cell, RefCell};
+use std::collections::{BTreeMap, BTreeSet};
 use std::fmt;
 use std::sync::atomic::{AtomicBool, AtomicUsize, Ordering};
 use std::sync::{Arc, Condvar, Mutex, MutexGuard, PoisonError, TryLockError};
+use std::thread;
 use std::time::{Duration, Instant};
 
 /// A request in a store: [`Service::request`](crate::Service::request) and [`open`](crate::Service::open) give one. Any thread may use it, and
@@ -26,7 +28,8 @@ use std::time::{Duration, Instant};
 /// - [`StoreError::Unknown`] where the store didn't answer for a minute: what was asked may stand or not;
 /// - [`StoreError::Broken`] and [`StoreError::Gone`] where the row can't be gone on with;
 /// - [`StoreError::Full`] where there would be more than 4,096 stages;
-/// - [`StoreError::NotRegistered`] where a function isn't registered.
+/// - [`StoreError::NotRegistered`] where a function isn't registered;
+/// - [`StoreError::Refused`] where a stage is another request's.
 #[derive(Clone)]
 pub struct Request {
     pub(crate) inner: Arc<Inner>,
@@ -43,6 +46,19 @@ pub struct Stage {
 thread_local! {
     /// Where the request is whose transactional function this thread runs, or 0.
     static TRANSACTS: Cell<usize> = const { Cell::new(0) };
+    /// The composing stage whose function this thread runs.
+    static COMPOSES: RefCell<Option<Composing>> = const { RefCell::new(None) };
+}
+
+/// A stage whose function attaches stages.
+struct Composing {
+    /// Where its request is.
+    inner: usize,
+    stage: u16,
+    /// The one whose function it is: the same, or that of which this is a further try.
+    first: u16,
+    /// What it has attached, and what of an earlier try it has found in the place of that.
+    taken: BTreeSet<u16>,
 }
 
 /// What a process has once of each request.
@@ -50,12 +66,17 @@ pub(crate) struct Inner {
     pub(crate) name: String,
     pub(crate) number: i64,
     host: Arc<dyn Host>,
+    store: Arc<dyn Store>,
     view: Arc<Mutex<View>>,
     /// Where a store lets nobody else put during a transaction: taken before the view by who puts, and a transactional function runs with it. So this
     /// process's other threads wait there then, and not in the store with the view, which the function's finish needs.
     writes: Option<Mutex<()>>,
+    /// How often something was shown: who waits never waits for the view.
+    shown: Mutex<u64>,
     /// Told when stages were settled, and when the service ends.
     changed: Condvar,
+    /// Payloads that are read for who waits, by their places.
+    reads: Mutex<BTreeMap<usize, Reading>>,
     /// How many entries were seen.
     pub(crate) seen: AtomicUsize,
     /// How many the store has said that there are.
@@ -81,9 +102,12 @@ impl Inner {
             seen: AtomicUsize::new(view.seen()),
             told: AtomicUsize::new(0),
             host: Arc::clone(host),
+            store: Arc::clone(&view.store),
             view: Arc::new(Mutex::new(view)),
             writes: locks_out.then(Mutex::default),
+            shown: Mutex::default(),
             changed: Condvar::new(),
+            reads: Mutex::default(),
             is_queued: AtomicBool::new(false),
             is_closed: AtomicBool::new(false),
             reopens: AtomicBool::new(false),
@@ -100,14 +124,68 @@ impl Inner {
 
     /// The view, where no other thread has it now.
     pub(crate) fn try_view(&self) -> Option<MutexGuard<'_, View>> {
-        self.view.try_lock().ok()
+        match self.view.try_lock() {
+            Ok(view) => Some(view),
+            Err(TryLockError::Poisoned(view)) => Some(view.into_inner()),
+            Err(TryLockError::WouldBlock) => None,
+        }
     }
 
     /// Tells those who wait what was done.
     pub(crate) fn show(&self, view: MutexGuard<'_, View>) {
         self.seen.store(view.seen(), Ordering::Relaxed);
         drop(view);
+        self.wake();
+    }
+
+    /// Has those who wait look again.
+    pub(crate) fn wake(&self) {
+        *locked(&self.shown) += 1;
         self.changed.notify_all();
+    }
+
+    /// What was read of a payload for who waits.
+    fn take_read(&self, place: usize) -> Option<Result<Vec<u8>, StoreError>> {
+        let mut reads = locked(&self.reads);
+        match reads.remove(&place)? {
+            Reading::Told(told) => Some(told),
+            Reading::Asked => {
+                reads.insert(place, Reading::Asked);
+                None
+            }
+        }
+    }
+
+    /// Reads a payload for who waits: whether that was told something. Where its waiting has a limit, of which an engine doesn't know, a thread of its
+    /// own reads it.
+    fn read_payload(self: &Arc<Inner>, place: usize, is_limited: bool) -> bool {
+        if !is_limited || !self.host.has_threads() {
+            return self.ask_payload(place);
+        }
+        let mut reads = locked(&self.reads);
+        match reads.get(&place) {
+            Some(Reading::Told(_)) => return true,
+            Some(Reading::Asked) => return false,
+            None => reads.insert(place, Reading::Asked),
+        };
+        drop(reads);
+        let its = Arc::clone(self);
+        let started = thread::Builder::new().name("cf-store-payload".into()).spawn(move || its.ask_payload(place));
+        started.is_err() && self.ask_payload(place)
+    }
+
+    /// Asks the store once for a payload that a word names: whether it answers.
+    fn ask_payload(&self, place: usize) -> bool {
+        let told = self.store.payload(&self.name, self.number, place).and_then(|it| it.ok_or_else(|| missing(&self.name, place)));
+        let answers = !matches!(told, Err(StoreError::Unknown(_)));
+        let mut reads = locked(&self.reads);
+        reads.remove(&place);
+        if answers {
+            reads.insert(place, Reading::Told(told));
+            drop(reads);
+            self.wake();
+        }
+        answers
     }
 
     pub(crate) fn catch_up(&self) -> Result<(), StoreError> {
@@ -143,7 +221,7 @@ impl Inner {
     }
 
     fn writing(&self) -> Option<MutexGuard<'_, ()>> {
-        self.writes.as_ref().map(|it| it.lock().unwrap_or_else(PoisonError::into_inner))
+        self.writes.as_ref().map(locked)
     }
 
     /// Runs a transactional function of it, and what comes before and behind that in its transaction.
@@ -160,18 +238,40 @@ impl Inner {
         act()
     }
 
-    /// Has those who wait told that it can't be gone on with.
-    pub(crate) fn fail(&self, fault: StoreError) {
-        *self.fault.lock().unwrap_or_else(PoisonError::into_inner) = Some(fault);
-        drop(self.view());
-        self.changed.notify_all();
+    /// Runs the function of a composing stage, on this thread.
+    pub(crate) fn composing<T>(&self, stage: u16, first: u16, act: impl FnOnce() -> T) -> T {
+        struct Composes;
+        impl Drop for Composes {
+            fn drop(&mut self) {
+                COMPOSES.with(|it| drop(it.take()));
+            }
+        }
+        let inner = self as *const Inner as usize;
+        COMPOSES.with(|it| drop(it.replace(Some(Composing { inner, stage, first, taken: BTreeSet::new() }))));
+        let _composes = Composes;
+        act()
     }
 
-    /// Has those who wait look again.
-    pub(crate) fn wake(&self) {
-        drop(self.view());
-        self.changed.notify_all();
+    /// Asks of the composing stage of this request whose function this thread runs.
+    fn composed<T>(&self, ask: impl FnOnce(&mut Composing) -> T) -> Option<T> {
+        COMPOSES.with(|it| it.borrow_mut().as_mut().filter(|it| it.inner == self as *const Inner as usize).map(ask))
     }
+
+    /// Has those who wait told that it can't be gone on with.
+    pub(crate) fn fail(&self, fault: StoreError) {
+        *locked(&self.fault) = Some(fault);
+        self.wake();
+    }
+}
+
+/// What becomes of a payload that is read for who waits.
+enum Reading {
+    Asked,
+    Told(Result<Vec<u8>, StoreError>),
+}
+
+fn locked<T>(mutex: &Mutex<T>) -> MutexGuard<'_, T> {
+    mutex.lock().unwrap_or_else(PoisonError::into_inner)
 }
 
 impl Request {
@@ -213,6 +313,7 @@ impl Request {
     /// A stage that ends with the list of the values of all of these, in this order, or fails as [`all_of`](Request::all_of) does. For n stages it
     /// takes 2 n - 1. [`StoreError::Refused`] of none.
     pub fn gather(&self, of: &[&Stage]) -> Result<Stage, StoreError> {
+        self.has_all(of)?;
         let attach = |form, of, function: &str| self.attach(form, of, Said { name: "gather".into(), ..self.said(function)? });
         let mut row = of.iter().map(|it| attach(Form::Apply, Of::One(it.number), "cf.gather")).collect::<Result<Vec<_>, _>>()?;
         while row.len() > 1 {
@@ -225,9 +326,11 @@ impl Request {
         row.pop().ok_or_else(|| StoreError::Refused("a list of nothing needs no stage".into()))
     }
 
-    /// The stage of a step of the request's flow.
+    /// The stage of a step of the flow with which the request was begun. Nothing where that was another one: it had another name, or was otherwise up
+    /// to this step.
     pub fn step(&self, step: Step) -> Option<Stage> {
-        self.stage(step.number())
+        let has_step = self.inner.view().has_step(step);
+        has_step.then(|| Stage::of(self, step.number()))
     }
 
     /// The stage of a number, in the order in which they were attached, if there is one by what this process has read.
@@ -283,29 +386,49 @@ impl Request {
     }
 
     fn attach(&self, form: Form, of: Of, said: Said) -> Result<Stage, StoreError> {
-        let payload = bytes_said(&said)?;
-        self.attached(|view| {
+        self.attached(form, of, said, |view, said| {
             let function = crate::plan::has_function(form).then_some(view.len() as u16);
-            Ok(vec![Wanted { call: Call::Attach(form, of, function), payload: Some(payload.clone()) }])
+            Ok(vec![Wanted { call: Call::Attach(form, of, function), payload: Some(bytes_said(said)?) }])
         })
     }
 
     /// Attaches a stage that composes, below which stands the promise for what comes.
-    fn compose(&self, source: u16, function: &str) -> Result<Stage, StoreError> {
-        let own = self.said(function)?;
-        let promise = bytes_said(&Said { name: format!("what {function} gives"), ..Said::default() })?;
-        self.attached(|view| {
+    fn compose(&self, form: Form, source: u16, said: Said) -> Result<Stage, StoreError> {
+        let promise = bytes_said(&Said { name: format!("what {} gives", said.name), ..Said::default() })?;
+        self.attached(form, Of::One(source), said, |view, said| {
             let number = view.len() as u16;
-            let own = bytes_said(&Said { to: Some(number), ..own.clone() })?;
+            let own = bytes_said(&Said { to: Some(number), ..said.clone() })?;
             Ok(vec![
                 Wanted { call: Call::Attach(Form::Source, Of::None, None), payload: Some(promise.clone()) },
-                Wanted { call: Call::Attach(Form::Compose, Of::One(source), Some(number + 1)), payload: Some(own) },
+                Wanted { call: Call::Attach(form, Of::One(source), Some(number + 1)), payload: Some(own) },
             ])
         })
     }
 
-    /// Puts words that attach stages, and gives the last of these.
-    fn attached(&self, decide: impl FnMut(&mut View) -> Result<Vec<Wanted>, StoreError>) -> Result<Stage, StoreError> {
+    /// Puts words that attach stages, the last of which is of this form, and gives that; or the one that an earlier try of the function has attached
+    /// that runs on this thread.
+    fn attached(
+        &self,
+        form: Form,
+        of: Of,
+        mut said: Said,
+        words: impl Fn(&mut View, &Said) -> Result<Vec<Wanted>, StoreError>,
+    ) -> Result<Stage, StoreError> {
+        said.by = self.inner.composed(|it| it.first);
+        let mut found = None;
+        let decide = |view: &mut View| {
+            if let Some((stage, first, taken)) = self.inner.composed(|it| (it.stage, it.first, it.taken.clone())) {
+                if !view.has(stage)? {
+                    let why = format!("{:?} is settled, and its function attaches nothing any more", view.said(first)?.name);
+                    return Err(StoreError::Refused(why));
+                }
+                found = if stage == first { None } else { view.attached_so(form, of, &said, &taken)? };
+            }
+            if found.is_some() {
+                return Ok(Vec::new());
+            }
+            words(view, &said)
+        };
         let may_be_closed = self.inner.view().is_planned() || self.inner.is_closed.load(Ordering::Relaxed);
         if may_be_closed {
             // (also where this call fails, a thread of the service does it)
@@ -316,10 +439,12 @@ impl Request {
         let reopened = if done.is_ok() { self.service.reopen(&self.inner) } else { Ok(()) };
         self.service.go_on(&self.inner);
         reopened?;
-        match done?.last().map(|it| it.reply) {
-            Some(Reply::Attached(Some(number))) => Ok(Stage::of(self, number)),
-            _ => Err(StoreError::Full),
-        }
+        let number = match (found, done?.last().map(|it| it.reply)) {
+            (Some(number), _) | (None, Some(Reply::Attached(Some(number)))) => number,
+            _ => return Err(StoreError::Full),
+        };
+        self.inner.composed(|it| it.taken.insert(number));
+        Ok(Stage::of(self, number))
     }
 
     /// Completes a flow's promises, but those that are settled.
@@ -332,8 +457,18 @@ impl Request {
         Ok(())
     }
 
+    fn has_all(&self, of: &[&Stage]) -> Result<(), StoreError> {
+        match of.iter().find(|it| !Arc::ptr_eq(&it.request.inner, &self.inner)) {
+            None => Ok(()),
+            Some(other) => {
+                Err(StoreError::Refused(format!("stage {} is one of request {:?}, not of {:?}", other.number, other.request.name(), self.name())))
+            }
+        }
+    }
+
     /// An attached stage has at most two sources; a tree of them tells what one stage of all would.
     fn tree(&self, form: Form, of: &[&Stage], name: &str) -> Result<Stage, StoreError> {
+        self.has_all(of)?;
         let mut row: Vec<u16> = of.iter().map(|it| it.number).collect();
         let said = || Said { name: name.into(), ..Said::default() };
         while row.len() > 2 {
@@ -379,11 +514,13 @@ impl Stage {
 
     /// Has a registered function called with the values of this stage and another one of the request.
     pub fn combine(&self, other: &Stage, function: &str) -> Result<Stage, StoreError> {
+        self.request.has_all(&[other])?;
         self.behind(Form::Combine, Of::Two(self.number, other.number), function)
     }
 
     /// Has a registered function called with the value of this stage or of another one of the request, whichever is settled first.
     pub fn either(&self, other: &Stage, function: &str) -> Result<Stage, StoreError> {
+        self.request.has_all(&[other])?;
         self.behind(Form::ApplyEither, Of::Two(self.number, other.number), function)
     }
 
@@ -402,7 +539,7 @@ impl Stage {
     /// registered by [`Functions::composing`](crate::Functions::composing). It is called with the request, as the process has it that runs the
     /// function, and with the value, and gives a stage of the request. The stage that is given back ends as that one does. It takes two stages.
     pub fn compose(&self, function: &str) -> Result<Stage, StoreError> {
-        self.request.compose(self.number, function)
+        self.request.compose(Form::Compose, self.number, self.request.said(function)?)
     }
 
     /// Has a registered function called with the [`Failed`] that this stage ends in, if it does, and takes its result.
@@ -411,16 +548,20 @@ impl Stage {
     }
 
     /// Plans further tries, for the case that the process that runs this stage's function dies. The function may have done its work before, and does
-    /// it once more with each try, unless it is transactional. It gives the last try, which passes on the value of an earlier one. A stage that
-    /// composes has no further tries: [`StoreError::Refused`].
+    /// it once more with each try, unless it is transactional. It gives the last try, which passes on the value of an earlier one.
+    ///
+    /// Of a stage that composes each try takes two stages. What an earlier try has attached isn't attached once more, if the function attaches the same
+    /// on its own thread: a stage of the same kind, name, function, arguments and sources.
     pub fn again(&self, times: usize) -> Result<Stage, StoreError> {
-        if self.request.inner.view().said(self.number)?.to.is_some() {
-            return Err(StoreError::Refused("a stage that composes has no further tries; those that its function attaches may".into()));
-        }
+        let composes = self.request.inner.view().said(self.number)?.to.is_some();
         let said = Said { name: format!("{} again", self.name()?), again: Some(self.number), context: context::captured(), ..Said::default() };
         let mut stage = self.clone();
         for _ in 0..times {
-            stage = self.request.attach(Form::Exceptionally, Of::One(stage.number), said.clone())?;
+            stage = if composes {
+                self.request.compose(Form::ExceptionallyCompose, stage.number, said.clone())?
+            } else {
+                self.request.attach(Form::Exceptionally, Of::One(stage.number), said.clone())?
+            };
         }
         Ok(stage)
     }
@@ -491,61 +632,92 @@ impl Stage {
         })
     }
 
-    /// Waits until the stage is settled, also while the store doesn't answer, and gives its value.
+    /// Waits until the stage is settled, also while the store doesn't answer, and gives its value. It holds its thread: within a task of tokio's call it
+    /// by `spawn_blocking`, as each call that asks the store.
     pub fn wait<T: DeserializeOwned>(&self) -> Result<T, Error> {
         self.wait_until(None).and_then(|told| told.ok_or(Error::Cancelled))
     }
 
-    /// The same, for so long at most: nothing where the stage isn't settled by then.
+    /// The same, for so long at most: nothing where the stage isn't settled by then, or where the store hasn't given its value. That may take 0.2 s
+    /// where less is asked for.
     pub fn wait_timeout<T: DeserializeOwned>(&self, wait: Duration) -> Result<Option<T>, Error> {
         self.wait_until(Some(self.request.service.host.now() + wait))
     }
 
-    /// What the stage has come to by what this process has read, if it is settled.
+    /// What the stage has come to by what this process has read, if it is settled. Its value may have to be read, for 0.2 s at most.
     pub fn peek<T: DeserializeOwned>(&self) -> Result<Option<T>, Error> {
-        self.wait_until(Some(self.request.service.host.now()))
+        self.wait_timeout(Duration::ZERO)
     }
 
     fn wait_until<T: DeserializeOwned>(&self, until: Option<Instant>) -> Result<Option<T>, Error> {
         let inner = &self.request.inner;
-        let mut view = inner.view();
+        let least = inner.host.now() + LEAST_READING;
         loop {
-            match view.end_of(self.number) {
-                Ok(Some(end)) => {
+            let shown = *locked(&inner.shown); // (before the look: what is shown from here on isn't waited for)
+            let pause = match self.look(until.is_some())? {
+                Look::Ended(end) => {
                     return end.and_then(|value| serde_json::from_value(value).map(Some).map_err(|why| Error::Unreadable(why.to_string())))
                 }
-                Ok(None) | Err(StoreError::Unknown(_)) => {}
-                Err(fault) => return Err(fault.into()),
-            }
-            if let Some(fault) = &*inner.fault.lock().unwrap_or_else(PoisonError::into_inner) {
+                Look::Open => None,
+                Look::Later(pause) => Some(pause),
+            };
+            if let Some(fault) = &*locked(&inner.fault) {
                 return Err(fault.clone().into());
             }
             if self.request.service.is_over() {
                 return Err(StoreError::Refused("the service is shut down".into()).into());
             }
+            let until = if pause.is_some() { until.map(|it| it.max(least)) } else { until };
             let left = until.map(|it| it.saturating_duration_since(inner.host.now()));
             if left == Some(Duration::ZERO) {
                 return Ok(None);
             }
-            view = self.rest(view, left);
+            self.rest(shown, left.into_iter().chain(pause).min());
         }
     }
 
-    /// Waits until something was changed, or so long.
-    fn rest<'a>(&'a self, mut view: MutexGuard<'a, View>, left: Option<Duration>) -> MutexGuard<'a, View> {
+    /// What is known of the stage now. Where the waiting has a limit nobody is waited for, neither who has the view nor the store.
+    fn look(&self, is_limited: bool) -> Result<Look, StoreError> {
+        let inner = &self.request.inner;
+        loop {
+            let view = if is_limited && inner.host.has_threads() { inner.try_view() } else { Some(inner.view()) };
+            let Some(mut view) = view else { return Ok(Look::Later(BETWEEN_LOOKS)) };
+            let Some(place) = view.unread(self.number) else {
+                return Ok(view.end_of(self.number)?.map_or(Look::Open, Look::Ended));
+            };
+            if let Some(told) = inner.take_read(place) {
+                view.keep(place, told?);
+                continue;
+            }
+            drop(view);
+            if !inner.read_payload(place, is_limited) {
+                return Ok(Look::Later(BETWEEN_READS));
+            }
+        }
+    }
+
+    /// Waits until more was shown, or so long.
+    fn rest(&self, shown: u64, wait: Option<Duration>) {
         let inner = &self.request.inner;
         if inner.host.has_threads() {
-            let wait = left.unwrap_or(Duration::from_secs(3600));
-            return inner.changed.wait_timeout(view, wait).unwrap_or_else(PoisonError::into_inner).0;
+            let wait = wait.unwrap_or(Duration::from_secs(3600));
+            drop(inner.changed.wait_timeout_while(locked(&inner.shown), wait, |now| *now == shown));
+            return;
         }
-        let name = view.said(self.number).map(|said| said.name).unwrap_or_default();
-        drop(view);
+        let name = self.name().unwrap_or_default();
         let (its, number) = (Arc::clone(inner), self.number);
-        let is_faulty = move || its.fault.lock().unwrap_or_else(PoisonError::into_inner).is_some();
+        let is_faulty = move || locked(&its.fault).is_some();
         let view = Arc::clone(&inner.view);
-        inner.host.until(&name, Arc::new(move || is_shown(&view, number) || is_faulty()), left);
-        inner.view()
+        inner.host.until(&name, Arc::new(move || is_shown(&view, number) || is_faulty()), wait);
     }
+}
+
+/// What who waits is told.
+enum Look {
+    Ended(Result<Json, Error>),
+    Open,
+    /// It is to look again after so long, or once more was shown.
+    Later(Duration),
 }
 
 /// Whether a view, if nobody has it, knows that a stage is settled.
@@ -559,6 +731,12 @@ fn is_shown(view: &Mutex<View>, stage: u16) -> bool {
 
 const CANCELLED: State = State::Settled(Outcome::Fault { cause: cf_graph::Cause::Cancelled, wrapped: false });
 
+/// Until who waits looks again, where another thread has the view.
+const BETWEEN_LOOKS: Duration = Duration::from_millis(2);
+/// Until a payload is asked for again.
+const BETWEEN_READS: Duration = Duration::from_millis(100);
+/// For so long at least a payload is waited for.
+const LEAST_READING: Duration = Duration::from_millis(200);
 /// Promises that are completed in one put.
 const MOST_GIVEN: usize = 32;
 

@@ -7,8 +7,9 @@ use crate::functions::{Functions, Kind};
 use crate::host::{Host, Machine};
 use crate::plan::{self, Said};
 use crate::request::{answer_of, fired, payload_of, Given, Inner, Request};
+use crate::sessions::Sessions;
 use crate::store::{Mark, Opened, Store, Timer, Transaction};
-use crate::view::{sure, View, Wanted, SESSION_BITS};
+use crate::view::{sure, View, Wanted, PATIENCE, SESSION_BITS};
 use cf_graph::{Answer, Args, Call, Claimed, Form, Outcome, Reply, State};
 use serde_json::{Map, Value as Json};
 use std::any::Any;
@@ -23,8 +24,8 @@ use std::time::{Duration, Instant};
 const BETWEEN_TIMERS: Duration = Duration::from_millis(20);
 /// How long the pump waits for news at most.
 const LONGEST_PAUSE: Duration = Duration::from_millis(200);
-/// After so many leases the beats of a session that is gone are dropped.
-const LONG_GONE: u32 = 100;
+/// Before a finish is put again where the store takes nothing.
+const BETWEEN_REFUSALS: Duration = Duration::from_millis(500);
 /// Before a transaction is begun again that came to nothing.
 const BETWEEN_TRANSACTIONS: Duration = Duration::from_millis(50);
 
@@ -56,6 +57,7 @@ impl Default for Options {
 #[derive(Debug)]
 pub struct Service {
     pub(crate) shared: Arc<Shared>,
+    pump: Option<JoinHandle<()>>,
     threads: Vec<JoinHandle<()>>,
 }
 
@@ -66,11 +68,13 @@ pub(crate) struct Shared {
     pub(crate) functions: Functions,
     pub(crate) options: Options,
     pub(crate) session: u64,
+    sessions: Arc<Sessions>,
     requests: Mutex<BTreeMap<String, Kept>>,
     jobs: Mutex<VecDeque<Job>>,
     work: Condvar,
     stops: AtomicBool,
-    watcher: Mutex<Watcher>,
+    /// Whether no function runs any more.
+    rests: AtomicBool,
     /// Functions that aren't known here, of which that was said.
     unknown: Mutex<HashSet<(String, u32)>>,
     /// Timers that are being fired.
@@ -94,6 +98,8 @@ pub(crate) enum Job {
 /// A stage that this session has, with its function and what that is called with, or with what it ends in without a call.
 struct Task {
     stage: u16,
+    /// The one whose function it calls: itself, or that of which it is a further try.
+    first: u16,
     name: String,
     version: u32,
     given: Result<Vec<Json>, Failed>,
@@ -115,6 +121,20 @@ enum Tried {
     Ended(Result<Given, Failed>),
 }
 
+/// What the pump goes on with from one round to the next.
+pub(crate) struct Looks {
+    next_beat: Instant,
+    next_timers: Instant,
+    mark: Option<Mark>,
+    is_named: bool,
+}
+
+impl Looks {
+    pub(crate) fn new(now: Instant) -> Looks {
+        Looks { next_beat: now, next_timers: now, mark: None, is_named: false }
+    }
+}
+
 /// What a function came to, if there is one whose finish is to be put.
 type Ended = Option<(u16, Result<Given, Failed>)>;
 
@@ -133,37 +153,38 @@ impl Service {
         if functions.transact() && !store.transacts() {
             return Err(StoreError::Refused("the store has no transactions that a function can take part in".into()));
         }
+        let session = host.number(SESSION_BITS);
         let shared = Arc::new(Shared {
             store,
             functions,
-            watcher: Mutex::new(Watcher { seen: BTreeMap::new(), time: Duration::ZERO, last: host.now(), lease: options.lease }),
-            session: host.number(SESSION_BITS),
+            session,
+            sessions: Arc::new(Sessions::new(session, options.lease, host.now())),
             host,
             requests: Mutex::default(),
             jobs: Mutex::default(),
             work: Condvar::new(),
             stops: AtomicBool::new(false),
+            rests: AtomicBool::new(false),
             unknown: Mutex::default(),
             firing: Mutex::default(),
             options,
         });
-        let mut service = Service { shared, threads: Vec::new() };
+        let mut service = Service { shared, pump: None, threads: Vec::new() };
         if !service.shared.host.has_threads() {
             return Ok(service);
         }
         // (where one can't be started, those that were end as the service is dropped)
-        service.begin("cf-store-pump", Shared::pump)?;
+        service.pump = Some(service.begin("cf-store-pump", Shared::pump)?);
         for number in 0..service.shared.options.threads.max(1) {
-            service.begin(&format!("cf-store-{number}"), Shared::run)?;
+            let thread = service.begin(&format!("cf-store-{number}"), Shared::run)?;
+            service.threads.push(thread);
         }
         Ok(service)
     }
 
-    fn begin(&mut self, name: &str, run: fn(&Arc<Shared>)) -> Result<(), StoreError> {
+    fn begin(&self, name: &str, run: fn(&Arc<Shared>)) -> Result<JoinHandle<()>, StoreError> {
         let shared = Arc::clone(&self.shared);
-        let started = thread::Builder::new().name(name.into()).spawn(move || run(&shared));
-        self.threads.push(started.map_err(|error| StoreError::Refused(error.to_string()))?);
-        Ok(())
+        thread::Builder::new().name(name.into()).spawn(move || run(&shared)).map_err(|error| StoreError::Refused(error.to_string()))
     }
 
     /// Opens a request without stages, or gives the one of this name as it stands in the store.
@@ -223,6 +244,11 @@ impl Drop for Service {
         for thread in self.threads.drain(..) {
             let _panicked = thread.join();
         }
+        self.shared.rests.store(true, Ordering::SeqCst);
+        if let Some(pump) = self.pump.take() {
+            pump.thread().unpark();
+            let _panicked = pump.join();
+        }
         for inner in self.shared.all() {
             inner.wake();
         }
@@ -277,7 +303,7 @@ impl Shared {
             return Ok(known);
         }
         let made = Arc::new(Inner::new(
-            View::new(Arc::clone(&self.store), Arc::clone(&self.host), found, self.session)?,
+            View::new(Arc::clone(&self.store), Arc::clone(&self.host), found, Arc::clone(&self.sessions))?,
             &self.host,
             self.store.locks_out(),
         ));
@@ -397,59 +423,66 @@ impl Shared {
     // The pump: what is new, who is gone, what is due.
 
     fn pump(self: &Arc<Shared>) {
-        let (mut next_beat, mut next_look, mut mark, mut is_named) = (self.host.now(), self.host.now(), None, false);
+        let mut looks = Looks::new(self.host.now());
         while !self.is_over() {
             let pause = LONGEST_PAUSE.min(self.options.lease / 5);
-            let round = self.round(&mut next_beat, &mut next_look, &mut mark, &mut is_named).and_then(|()| self.store.changed(pause));
+            let round = self.round(&mut looks).and_then(|()| self.store.changed(pause));
             if let Err(error) = round {
                 (self.options.warns)(&error.to_string());
                 self.host.sleep(LONGEST_PAUSE);
             }
         }
+        // what runs is finished: until then others have to see that this session is there
+        while !self.rests.load(Ordering::SeqCst) {
+            thread::park_timeout(LONGEST_PAUSE.min(self.options.lease / 5));
+            let _tried_again = self.beat_if_due(&mut looks);
+        }
     }
 
-    pub(crate) fn round(
-        self: &Arc<Shared>,
-        next_beat: &mut Instant,
-        next_look: &mut Instant,
-        mark: &mut Option<Mark>,
-        is_named: &mut bool,
-    ) -> Result<(), StoreError> {
+    pub(crate) fn round(self: &Arc<Shared>, looks: &mut Looks) -> Result<(), StoreError> {
+        let is_whole = self.beat_if_due(looks)?;
         let now = self.host.now();
-        let looks = now >= *next_beat;
-        if looks {
-            *next_beat = now + self.options.lease / 5;
-            self.beat(is_named)?;
-        }
-        if now >= *next_look {
-            *next_look = now + BETWEEN_TIMERS;
+        if now >= looks.next_timers {
+            looks.next_timers = now + BETWEEN_TIMERS;
             self.look_for_timers()?;
         }
-        let known = if looks { self.all() } else { Vec::new() }; // (before the store is asked: what is opened meanwhile isn't in its answer)
-        let (ends, next) = self.store.news(if looks { None } else { *mark })?;
+        let known = if is_whole { self.all() } else { Vec::new() }; // (before the store is asked: what is opened meanwhile isn't in its answer)
+        let (ends, next) = self.store.news(if is_whole { None } else { looks.mark })?;
         for inner in known.into_iter().filter(|it| !ends.contains_key(&it.name) && !it.is_closed.load(Ordering::Relaxed)) {
             self.submit(Job::LetGo(inner));
         }
         for (name, end) in ends {
+            self.beat_if_due(looks)?; // (rows that are read for the first time may be many and long)
             let Some(inner) = self.taken(&name) else { continue };
             inner.told.fetch_max(end, Ordering::SeqCst);
             // (who has the view looks)
             let needs = |inner: &Inner| inner.try_view().map_or(false, |mut view| self.needs(inner, &mut view));
-            if end > inner.seen.load(Ordering::Relaxed) || (looks || end == 0) && needs(&inner) {
+            if end > inner.seen.load(Ordering::Relaxed) || (is_whole || end == 0) && needs(&inner) {
                 self.serve(&inner);
             }
         }
-        *mark = Some(next);
+        looks.mark = Some(next);
         Ok(())
+    }
+
+    /// Says that this session is there, and looks who else is, if it is time to: whether it was.
+    fn beat_if_due(&self, looks: &mut Looks) -> Result<bool, StoreError> {
+        let now = self.host.now();
+        if now < looks.next_beat && !self.sessions.is_given_up() {
+            return Ok(false);
+        }
+        looks.next_beat = now + self.options.lease / 5;
+        self.beat(&mut looks.is_named).map(|()| true)
     }
 
     pub(crate) fn beat(&self, is_named: &mut bool) -> Result<(), StoreError> {
         self.store.beat(self.session)?;
+        self.sessions.beaten();
         if !*is_named {
             self.store.name_session(self.session, &format!("rust {}", std::process::id()))?;
             *is_named = true;
         }
-        let gone = locked(&self.watcher).look(self.host.now(), self.store.beats());
+        let gone = self.sessions.look(self.host.now(), self.store.beats());
         gone.into_iter().try_for_each(|session| self.store.drop_beat(session))
     }
 
@@ -473,21 +506,17 @@ impl Shared {
 
     /// Whether it claims stages.
     fn runs(&self) -> bool {
-        self.options.threads > 0 && !self.is_over()
-    }
-
-    fn is_gone(&self, session: u64) -> bool {
-        session != self.session && locked(&self.watcher).is_gone(session)
+        self.options.threads > 0 && !self.is_over() && !self.sessions.is_given_up()
     }
 
     /// Whether it is a flow's, and nothing is left to do.
     fn is_finished(&self, view: &mut View) -> Result<bool, StoreError> {
-        Ok(view.is_planned() && view.is_done(|session| self.is_gone(session))?)
+        Ok(view.is_planned() && view.is_done(|session| self.sessions.is_gone(session))?)
     }
 
     /// The sessions that are gone, and that have stages.
     fn gone_in(&self, view: &mut View) -> Result<BTreeSet<u64>, StoreError> {
-        Ok(view.open_claims()?.into_iter().map(|(_, session)| session).filter(|session| self.is_gone(*session)).collect())
+        Ok(view.open_claims()?.into_iter().map(|(_, session)| session).filter(|session| self.sessions.is_gone(*session)).collect())
     }
 
     fn look_for_timers(self: &Arc<Shared>) -> Result<(), StoreError> {
@@ -622,15 +651,17 @@ impl Shared {
         Ok(())
     }
 
-    /// Puts a finish, and with it the claim of the next stage, if there is one; what was claimed. While the store is away a finish is put again and
-    /// again: its function has run. A value that the store refuses fails its stage.
-    fn next(&self, inner: &Arc<Inner>, mut ended: Ended) -> Result<Option<Task>, StoreError> {
-        let mut chosen = Vec::new();
+    /// Puts a finish, and with it the claim of the next stage, if there is one; what was claimed. While the store is away, or takes nothing, a finish is
+    /// put again and again: its function has run. Once the service stops that ends after a minute. A value that the store refuses twice fails its stage,
+    /// if the store takes something else meanwhile.
+    fn next(&self, inner: &Arc<Inner>, ended: Ended) -> Result<Option<Task>, StoreError> {
+        let (mut chosen, mut refusals, mut refused, mut until) = (Vec::new(), 0, None, None);
         let done = loop {
             let told = inner.act(|view| {
                 let mut wanted = Vec::with_capacity(2);
                 let mut held = None;
                 if let Some((stage, result)) = &ended {
+                    let result = refused.as_ref().unwrap_or(result);
                     let (answer, payload) = answer_of(result, view.seen() + 1);
                     wanted.extend(view.finish(*stage, answer, payload)?);
                     held = Some((*stage, answer));
@@ -639,15 +670,20 @@ impl Shared {
                 wanted.extend(chosen.first().map(|stage| Wanted { call: Call::Claim(*stage), payload: None }));
                 Ok(wanted)
             });
-            match (told, &mut ended) {
-                (Ok(done), _) => break done,
-                (Err(StoreError::Unknown(why)), Some(_)) if !self.is_over() => self.warn(&inner.name, &why),
-                (Err(StoreError::Refused(why)), Some((_, result))) if !self.is_over() => {
+            match told {
+                Ok(done) => break done,
+                Err(StoreError::Unknown(why)) if ended.is_some() && !self.is_over() => self.warn(&inner.name, &why),
+                Err(StoreError::Refused(why)) if ended.is_some() && (!self.is_over() || self.is_before(&mut until)) => {
                     self.warn(&inner.name, &why);
-                    *result = Err(Failed::new("StoreError", why));
-                    self.host.sleep(LONGEST_PAUSE);
+                    let is_its = refused.take().is_none() && self.store.beat(self.session).is_ok();
+                    refusals = if is_its { refusals + 1 } else { 0 };
+                    match refusals {
+                        0 => self.host.sleep(BETWEEN_REFUSALS),
+                        1 => {}
+                        _ => refused = Some(Err(Failed::new("StoreError", why))),
+                    }
                 }
-                (Err(error), _) => return Err(error),
+                Err(error) => return Err(error),
             }
         };
         if chosen.len() > 1 {
@@ -665,6 +701,12 @@ impl Shared {
         }
     }
 
+    /// Whether it is before a moment, which is a minute from the first question on.
+    fn is_before(&self, until: &mut Option<Instant>) -> bool {
+        let now = self.host.now();
+        now < *until.get_or_insert(now + PATIENCE)
+    }
+
     /// Up to two stages that this session could claim behind the finish of what has ended, and whose functions it knows.
     fn choice(&self, view: &mut View, name: &str, ended: Option<(u16, Answer)>) -> Result<Vec<u16>, StoreError> {
         let (mut chosen, mut from) = (Vec::with_capacity(2), 0);
@@ -680,11 +722,8 @@ impl Shared {
 
     /// What is said of the function that a stage calls, and of the stage that it tries again.
     fn said(&self, view: &mut View, stage: u16) -> Result<(Said, Option<u16>), StoreError> {
-        let said = view.said(stage)?;
-        match said.again {
-            Some(again) => Ok((view.said(again)?, Some(again))),
-            None => Ok((said, None)),
-        }
+        let again = view.tried_again(stage)?;
+        Ok((view.said(again.unwrap_or(stage))?, again))
     }
 
     /// Whether a stage's function is registered here, as one of the kind that the stage calls, and with names for its arguments where the stage gives
@@ -699,17 +738,18 @@ impl Shared {
 
     /// The name and version of a stage's function that can't be called here.
     pub(crate) fn lacks(&self, view: &mut View, stage: u16) -> Result<Option<(String, u32)>, StoreError> {
-        let (said, _) = self.said(view, stage)?;
+        let (said, again) = self.said(view, stage)?;
         let (function, version) = (said.function.unwrap_or_default(), said.version.unwrap_or_default());
         let form = view.form(stage).0;
+        let composes = form == Form::Compose || form == Form::ExceptionallyCompose && again.is_some();
         let knows = self.functions.of(&function, version).map_or(false, |known| {
             let fits = match known.kind {
-                Kind::Composes(_) => form == Form::Compose,
+                Kind::Composes(_) => composes,
                 Kind::Plain(_) | Kind::Transacts(_) => !matches!(form, Form::Compose | Form::ExceptionallyCompose),
             };
             fits && (said.kwargs.is_empty() || !known.names.is_empty())
         });
-        if knows && form == Form::Compose && said.to.is_none() {
+        if knows && composes && view.said(stage)?.to.is_none() {
             return Err(StoreError::broken(
                 &view.opened.name,
                 view.attached(stage),
@@ -723,8 +763,8 @@ impl Shared {
     fn task(&self, inner: &Inner, stage: u16, args: Args) -> Result<Task, StoreError> {
         let view = &mut inner.view();
         let (said, again) = self.said(view, stage)?;
-        let carried = view.carried(stage)?;
-        let (name, version, to) = (said.function.unwrap_or_default(), said.version.unwrap_or_default(), said.to);
+        let (carried, to) = (view.carried(stage)?, view.said(stage)?.to);
+        let (name, version) = (said.function.unwrap_or_default(), said.version.unwrap_or_default());
         let mut given = arguments(view, stage, args)?;
         let mut ends = None;
         if let Some(first) = again {
@@ -740,7 +780,7 @@ impl Shared {
             };
         }
         let given = ends.map_or(Ok(if said.args.is_empty() { given } else { said.args }), Err);
-        Ok(Task { stage, name, version, given, named: said.kwargs, carried, to })
+        Ok(Task { stage, first: again.unwrap_or(stage), name, version, given, named: said.kwargs, carried, to })
     }
 
     /// Calls a function, and puts its finish; what was claimed with it.
@@ -762,7 +802,8 @@ impl Shared {
             (Kind::Plain(function), Some((args, _))) => function(args).map(Given::Value),
             (Kind::Transacts(function), Some((args, Some(connection)))) => function(connection, args).map(Given::Value),
             (Kind::Composes(function), Some((args, _))) => {
-                let given = function(&Request { inner: Arc::clone(inner), service: Arc::clone(self) }, args)?;
+                let request = Request { inner: Arc::clone(inner), service: Arc::clone(self) };
+                let given = inner.composing(task.stage, task.first, || function(&request, args))?;
                 match task.to.filter(|_| Arc::ptr_eq(&given.request.inner, inner)) {
                     Some(promise) => Ok(Given::Stage { promise, stage: given.number }),
                     None => Err(Failed::new("TypeError", format!("{} has to give a stage of its request", task.name))),
@@ -870,22 +911,24 @@ fn again_with(view: &mut View, stage: u16) -> Result<Vec<Json>, StoreError> {
         return arguments(view, stage, args);
     }
     let (form, of) = view.form(stage);
+    let of = of.to_vec();
     let (mut values, mut failed) = (Vec::with_capacity(2), Json::Null);
-    for source in of.to_vec() {
-        match view.end_of(source)? {
-            Some(Ok(value)) => values.push(value),
+    for source in of {
+        values.push(match view.end_of(source)? {
+            Some(Ok(value)) => Some(value),
             Some(Err(error)) => {
-                values.push(Json::Null);
                 failed = failure(error)?;
+                None
             }
-            None => values.push(Json::Null),
-        }
+            None => None,
+        });
     }
+    let mut values = values.into_iter();
     Ok(match form {
         Form::Exceptionally => vec![failed],
-        Form::Handle | Form::WhenComplete => vec![values.swap_remove(0), failed],
-        Form::ApplyEither => vec![values.into_iter().find(|it| !it.is_null()).unwrap_or_default()],
-        _ => values,
+        Form::Handle | Form::WhenComplete => vec![values.next().flatten().unwrap_or_default(), failed],
+        Form::ApplyEither => vec![values.flatten().next().unwrap_or_default()], // (null is a value, too)
+        _ => values.map(Option::unwrap_or_default).collect(),
     })
 }
 
@@ -903,70 +946,8 @@ fn failure(error: Error) -> Result<Json, StoreError> {
     serde_json::to_value(failed).map_err(|error| StoreError::Refused(error.to_string()))
 }
 
-/// Which sessions are gone, by this process's own clock: those whose beat stood still for a lease in which the store answered. A pause between two
-/// looks counts for half of it at most, since this process, or the machine, stood still then, and others may have, too.
-struct Watcher {
-    /// The count of each session's beats, where it was read, and since when it is that.
-    seen: BTreeMap<u64, (Option<i64>, Duration)>,
-    time: Duration,
-    last: Instant,
-    lease: Duration,
-}
-
-impl Watcher {
-    /// Takes in all beats, and gives the sessions that are long gone. While the store is away nobody can beat.
-    fn look(&mut self, now: Instant, beats: Result<BTreeMap<u64, i64>, StoreError>) -> Vec<u64> {
-        self.time += (now - self.last).min(self.lease / 2);
-        self.last = now;
-        let Ok(beats) = beats else {
-            self.seen.clear();
-            return Vec::new();
-        };
-        for (session, count) in beats {
-            if self.seen.get(&session).map_or(true, |(known, _)| *known != Some(count)) {
-                self.seen.insert(session, (Some(count), self.time));
-            }
-        }
-        let until = self.time.saturating_sub(self.lease * LONG_GONE);
-        let gone: Vec<_> = self.seen.iter().filter(|(_, (count, since))| count.is_some() && *since < until).map(|(session, _)| *session).collect();
-        for session in &gone {
-            self.seen.remove(session);
-        }
-        gone
-    }
-
-    /// Whether a session's beat stood still for so long. One that never beat counts from now on.
-    fn is_gone(&mut self, session: u64) -> bool {
-        let time = self.time;
-        let (_, since) = *self.seen.entry(session).or_insert((None, time));
-        time - since > self.lease
-    }
-}
-
 impl fmt::Debug for Shared {
     fn fmt(&self, f: &mut fmt::Formatter<'_>) -> fmt::Result {
         f.debug_struct("Service").field("session", &self.session).field("functions", &self.functions).finish_non_exhaustive()
-    }
-}
-
-#[cfg(test)]
-mod tests {
-    use super::*;
-
-    /// Nobody is gone because this process stood still, or the store was away.
-    #[test]
-    fn who_is_gone() {
-        let (mut now, lease) = (Instant::now(), Duration::from_millis(100));
-        let mut watcher = Watcher { seen: BTreeMap::new(), time: Duration::ZERO, last: now, lease };
-        // A pause before each look, and how often the other one has beaten by then, if the store tells.
-        let (one, two) = (Some(1), Some(2));
-        let looks = [(0, one), (10_000, one), (40, one), (20, one), (0, two), (50, two), (50, None), (50, two), (50, two)];
-        let are_gone = looks.map(|(pause, beaten)| {
-            now += Duration::from_millis(pause);
-            let beats = beaten.map(|count| BTreeMap::from([(7, count)]));
-            assert!(watcher.look(now, beats.ok_or_else(|| StoreError::Unknown("away".into()))).is_empty());
-            watcher.is_gone(7)
-        });
-        assert_eq!(are_gone, [false, false, false, true, false, false, false, false, false]);
     }
 }

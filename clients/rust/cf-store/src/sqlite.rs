@@ -144,6 +144,9 @@ impl SQLite {
                 | ErrorCode::SystemIoFailure
                 | ErrorCode::DiskFull
                 | ErrorCode::CannotOpen
+                | ErrorCode::PermissionDenied
+                | ErrorCode::FileLockingProtocolFailed
+                | ErrorCode::OperationInterrupted
                 | ErrorCode::OutOfMemory,
             ) => StoreError::Unknown(text),
             _ => StoreError::Refused(text),

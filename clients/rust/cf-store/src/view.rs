@@ -1,7 +1,9 @@
 //! What this session knows of one request's row, and how it puts words there.
 use crate::error::{Error, Failed, StoreError, ABANDONED};
+use crate::flow::{Prints, Step};
 use crate::host::Host;
 use crate::plan::{self, Said};
+use crate::sessions::Sessions;
 use crate::store::{Opened, Put, Store, Transaction};
 use cf_graph::{
     Answer, Args, Call, Cause, Claimed, Entry, Event, Failure, Finished, Form, Of, Outcome, Refused, Reply, Row, RowOpening, State, Value,
@@ -63,17 +65,22 @@ struct Known {
 pub(crate) struct View {
     pub(crate) opened: Opened,
     pub(crate) session: u64,
-    store: Arc<dyn Store>,
+    pub(crate) store: Arc<dyn Store>,
     host: Arc<dyn Host>,
+    sessions: Arc<Sessions>,
     row: Row,
     stages: Vec<Known>,
     /// How many stages the plan has.
     planned: usize,
+    /// Which steps of flows these are.
+    steps: Prints,
     /// What goes along with their functions.
     context: Map<String, Json>,
     room: usize,
     /// How many entries were seen.
     seen: usize,
+    /// Whether the row was read: what stood then may be old.
+    is_read: bool,
     /// Promises that composing stages were linked to, with the places of those words.
     links: BTreeMap<u16, usize>,
     /// Composing stages that were settled, and whose promises may be waited for by nobody.
@@ -84,13 +91,15 @@ pub(crate) struct View {
     granted: BTreeMap<u16, Args>,
     /// Tokens of words of which it isn't known whether they stand, and the places where they would.
     doubt: BTreeMap<u64, usize>,
-    /// Payloads that this view put.
+    /// Payloads that this view put, and those that were read for who waits.
     own: Payloads,
 }
 
 impl View {
-    pub(crate) fn new(store: Arc<dyn Store>, host: Arc<dyn Host>, opened: Opened, session: u64) -> Result<View, StoreError> {
-        let plan::SharedPlan { mut plan, stages, context } = plan::read(&opened.plan, &opened.name)?;
+    pub(crate) fn new(store: Arc<dyn Store>, host: Arc<dyn Host>, opened: Opened, sessions: Arc<Sessions>) -> Result<View, StoreError> {
+        let session = sessions.own;
+        let plan::SharedPlan { mut plan, flow, stages, context } = plan::read(&opened.plan, &opened.name)?;
+        let steps = Prints::of(&flow, &stages);
         // by chance: where two have one session, their tokens differ all the same; and half of all are left at least
         let first = host.number(COUNT_BITS - 1) as u32;
         let mut room = ROOM.min(MOST_STAGES - stages.len());
@@ -105,7 +114,28 @@ impl View {
         let (links, unlinked) = Default::default();
         let (found, granted, doubt, own) = Default::default();
         let stages = stages.into_iter().map(known).collect();
-        Ok(View { opened, session, store, host, row, stages, planned, context, room, seen: 0, links, unlinked, found, granted, doubt, own })
+        let (seen, is_read) = (0, false);
+        Ok(View {
+            opened,
+            session,
+            store,
+            host,
+            sessions,
+            row,
+            stages,
+            planned,
+            steps,
+            context,
+            room,
+            seen,
+            is_read,
+            links,
+            unlinked,
+            found,
+            granted,
+            doubt,
+            own,
+        })
     }
 
     /// How many entries were seen.
@@ -116,6 +146,11 @@ impl View {
     /// How many stages there are.
     pub(crate) fn len(&self) -> usize {
         self.stages.len()
+    }
+
+    /// Whether a step is of the flow with which the request was begun.
+    pub(crate) fn has_step(&self, step: Step) -> bool {
+        self.steps.have(step)
     }
 
     /// Whether the request is a flow's.
@@ -216,7 +251,9 @@ impl View {
     pub(crate) fn catch_up(&mut self) -> Result<Vec<Done>, StoreError> {
         let (name, number, seen) = (self.opened.name.clone(), self.opened.number, self.seen);
         let entries = sure(&*self.host, || self.store.read(&name, number, seen))?;
-        entries.into_iter().map(|entry| self.take(entry)).collect()
+        let done = entries.into_iter().map(|entry| self.take(entry)).collect();
+        self.is_read = true;
+        done
     }
 
     /// Puts words behind all that is seen, and does them. `decide` says by this view which words are wanted, if any; it is asked again each time
@@ -311,18 +348,14 @@ impl View {
         if matches!(call, Call::Attach(..)) {
             self.make_room(1)?;
         }
+        self.hear(entry, call)?;
         let broken = |refused: Refused| StoreError::broken(&self.opened.name, place, format!("the word {} can't be done: {refused}", entry.word));
         let reply = self.row.saw(entry).map_err(broken)?;
         self.seen = place;
         let is_own = self.doubt.remove(&entry.token).is_some();
         match (call, reply) {
             (Call::Attach(form, of, _), Reply::Attached(Some(_))) => {
-                let of = match of {
-                    Of::None => vec![],
-                    Of::One(first) => vec![first],
-                    Of::Two(first, second) => vec![first, second],
-                };
-                self.stages.push(Known { form, of, said: None, attached: place, settled: 0, failed: 0 });
+                self.stages.push(Known { form, of: sources(of), said: None, attached: place, settled: 0, failed: 0 });
             }
             (Call::Claim(stage), Reply::Claimed(Claimed::Granted(args))) => {
                 self.granted.insert(stage, args);
@@ -342,6 +375,19 @@ impl View {
             self.tells(entry.word, &done);
         }
         Ok(done)
+    }
+
+    /// What a word that comes tells of sessions: whose it is is there, and who fails a stage that this one has may have taken it for gone.
+    fn hear(&mut self, entry: Entry, call: Call) -> Result<(), StoreError> {
+        let session = entry.session();
+        if session == self.session || !self.is_read {
+            return Ok(());
+        }
+        self.sessions.heard(session);
+        if matches!(call, Call::Fail(stage, _) if self.has(stage)?) {
+            self.sessions.give_up();
+        }
+        Ok(())
     }
 
     /// Says that a word of this view's stands, which was seen last.
@@ -419,6 +465,27 @@ impl View {
         }
     }
 
+    /// The stage whose function a further try calls, if a stage is one.
+    pub(crate) fn tried_again(&mut self, stage: u16) -> Result<Option<u16>, StoreError> {
+        let (mut first, mut last) = (None, stage);
+        while let Some(before) = self.said(last)?.again.filter(|it| *it < last) {
+            (first, last) = (Some(before), before);
+        }
+        Ok(first)
+    }
+
+    /// The first attached stage of this form behind these, of which this is said, and which isn't one of those that were taken.
+    pub(crate) fn attached_so(&mut self, form: Form, of: Of, said: &Said, taken: &BTreeSet<u16>) -> Result<Option<u16>, StoreError> {
+        let of = sources(of);
+        for stage in (self.planned..self.stages.len()).map(|it| it as u16).filter(|it| !taken.contains(it)) {
+            let known = &self.stages[usize::from(stage)];
+            if known.form == form && known.of == of && self.said(stage)?.is_alike(said) {
+                return Ok(Some(stage));
+            }
+        }
+        Ok(None)
+    }
+
     /// Takes in what is said of a stage, and of those that were attached behind it: one question of the store for many.
     fn read_said(&mut self, stage: u16) -> Result<(), StoreError> {
         let unread = (stage..self.stages.len() as u16).filter(|it| self.stages[usize::from(*it)].said.is_none());
@@ -466,8 +533,23 @@ impl View {
 
     /// The payload of a word that names one.
     pub(crate) fn payload(&self, place: usize) -> Result<Vec<u8>, StoreError> {
-        let missing = || StoreError::broken(&self.opened.name, place, "no payload is there, and a word names it");
-        self.payload_if_any(place)?.ok_or_else(missing)
+        self.payload_if_any(place)?.ok_or_else(|| missing(&self.opened.name, place))
+    }
+
+    /// The place of the payload that says what a settled stage ended in, where it has yet to be read.
+    pub(crate) fn unread(&mut self, stage: u16) -> Option<usize> {
+        let place = match self.state(stage) {
+            State::Settled(Outcome::Value(Value::Int(place))) => place as u32 as usize,
+            State::Settled(Outcome::Fault { cause: Cause::Thrown(place), .. }) => place as usize,
+            State::Settled(Outcome::Fault { cause: Cause::TimedOut, .. }) => self.stages[usize::from(stage)].failed,
+            _ => 0,
+        };
+        Some(place).filter(|it| *it > 0 && !self.own.contains_key(it))
+    }
+
+    /// Keeps a payload that was read.
+    pub(crate) fn keep(&mut self, place: usize, payload: Vec<u8>) {
+        self.own.insert(place, payload);
     }
 
     pub(crate) fn value(&self, value: Value) -> Result<Json, StoreError> {
@@ -565,6 +647,14 @@ impl View {
     }
 }
 
+fn sources(of: Of) -> Vec<u16> {
+    match of {
+        Of::None => vec![],
+        Of::One(first) => vec![first],
+        Of::Two(first, second) => vec![first, second],
+    }
+}
+
 /// What a question tells that asks for the lowest from a number on, asked again and again.
 fn rising<T>(mut ask: impl FnMut(u16) -> Result<Option<T>, Refused>, number: impl Fn(&T) -> u16) -> Result<Vec<T>, StoreError> {
     let (mut told, mut from) = (Vec::new(), 0);
@@ -573,6 +663,11 @@ fn rising<T>(mut ask: impl FnMut(u16) -> Result<Option<T>, Refused>, number: imp
         told.push(it);
     }
     Ok(told)
+}
+
+/// That a word names a payload that isn't there.
+pub(crate) fn missing(request: &str, place: usize) -> StoreError {
+    StoreError::broken(request, place, "no payload is there, and a word names it")
 }
 
 /// An error as bytes.

@@ -1,9 +1,9 @@
 //! What is done again: a name is used again, and what failed for a moment is tried again.
+#[macro_use]
 mod common;
 
-use cf_store::{Entry, Error, Flow, Functions, Mark, Opened, Put, SQLite, Service, Store, StoreError, Timer};
-use common::{quick, settled, File};
-use rusqlite::Connection;
+use cf_store::{Entry, Error, Flow, Functions, Mark, Opened, Put, Service, Store, StoreError, Timer};
+use common::{quick, settled, AnyStore, Place};
 use std::collections::BTreeMap;
 use std::sync::atomic::{AtomicU32, Ordering::SeqCst};
 use std::sync::{Arc, Mutex};
@@ -17,15 +17,15 @@ fn add_one(number: i64) -> Result<i64, String> {
 /// A store that fails so often in one of its calls, and tells these timers as due, too.
 #[derive(Clone)]
 struct Fails {
-    store: Arc<SQLite>,
+    store: Arc<AnyStore>,
     call: &'static str,
     left: Arc<AtomicU32>,
     due: Arc<Mutex<Vec<Timer>>>,
 }
 
 impl Fails {
-    fn new(file: &File, call: &'static str, times: u32) -> Fails {
-        Fails { store: Arc::new(file.store()), call, left: Arc::new(AtomicU32::new(times)), due: Arc::default() }
+    fn new(place: &Place, call: &'static str, times: u32) -> Fails {
+        Fails { store: Arc::new(place.store()), call, left: Arc::new(AtomicU32::new(times)), due: Arc::default() }
     }
 
     fn may(&self, call: &str) -> Result<(), StoreError> {
@@ -84,13 +84,11 @@ fn service(store: Fails) -> Service {
 }
 
 /// Drops a request, as processes in Python can.
-fn drop_request(file: &File, number: i64) {
-    let db = Connection::open(&file.0).unwrap();
-    db.busy_timeout(Duration::from_secs(20)).unwrap();
-    for table in ["cf_word", "cf_large", "cf_name"] {
-        db.execute(&format!("delete from {table} where request = ?"), [number]).unwrap();
+fn drop_request(place: &Place, number: i64) {
+    place.query(&format!("delete from cf_request where id = {number}"));
+    for table in ["cf_word", "cf_name"] {
+        place.query(&format!("delete from {table} where request = {number}"));
     }
-    db.execute("delete from cf_request where id = ?", [number]).unwrap();
 }
 
 /// Comes back once this is so.
@@ -105,13 +103,13 @@ fn until(is_so: impl Fn() -> bool) {
 /// A request is dropped, and another of its name opened: who has the first is told so, and its timers are nothing to the second.
 #[test]
 fn a_name_is_used_again() {
-    let file = File::new("again");
-    let store = Fails::new(&file, "drop of a timer", 1);
+    let place = Place::new("again");
+    let store = Fails::new(&place, "drop of a timer", 1);
     let service = service(store.clone());
     let first = service.request("again").unwrap();
     let told = first.promise("told").unwrap();
     let number = store.find("again").unwrap().unwrap().number;
-    drop_request(&file, number);
+    drop_request(&place, number);
     let second = service.request("again").unwrap();
     assert!(matches!(settled::<i64>(&told), Err(Error::Store(StoreError::Gone(_)))));
     let later = second.promise("later").unwrap();
@@ -126,14 +124,14 @@ fn a_name_is_used_again() {
 /// What a claim is called with can't be read for a moment: it is called with that later.
 #[test]
 fn a_value_that_cannot_be_read_once() {
-    let file = File::new("unread");
+    let place = Place::new("unread");
     let mut nobody = quick();
     nobody.threads = 0;
-    let asks = Service::with(file.store(), Functions::new().with("inc", 1, add_one), nobody).unwrap();
+    let asks = Service::with(place.store(), Functions::new().with("inc", 1, add_one), nobody).unwrap();
     let number = asks.request("unread").unwrap().promise("number").unwrap();
     number.complete(&1).unwrap();
     let inc = number.then("inc").unwrap();
-    let store = Fails::new(&file, "payload 2", 1);
+    let store = Fails::new(&place, "payload 2", 1);
     let works = service(store.clone());
     drop(works.open("unread"));
     assert_eq!(settled::<i64>(&inc), Ok(2));
@@ -143,8 +141,8 @@ fn a_value_that_cannot_be_read_once() {
 /// A flow whose stages are all settled is closed later, where that fails at first, also if nobody works on it any more.
 #[test]
 fn a_flow_that_cannot_be_closed_at_first() {
-    let file = File::new("unclosed");
-    let store = Fails::new(&file, "end", 4);
+    let place = Place::new("unclosed");
+    let store = Fails::new(&place, "end", 4);
     let service = service(store.clone());
     let mut flow = Flow::new("one");
     flow.promise("number");

@@ -1,8 +1,9 @@
 //! Who is told of requests that were closed?
+#[macro_use]
 mod common;
 
 use cf_store::{context, within, Ends, Flow, Functions, History, Service, What};
-use common::{quick, settled, File};
+use common::{quick, settled, Place};
 use serde_json::{json, Map, Value};
 use std::sync::mpsc::{channel, Receiver};
 use std::sync::Mutex;
@@ -22,18 +23,18 @@ fn told(tells: fn(What<'_>) -> String) -> (Ends, Receiver<Told>) {
     (Ends::telling(tells, hook), receives)
 }
 
-fn service(file: &File, ends: &Ends) -> Service {
+fn service(place: &Place, ends: &Ends) -> Service {
     let mut options = quick();
     options.on_end = Some(ends.clone());
     options.takes_all = true;
-    Service::with(file.store(), Functions::new().with("inc", 1, |it: i64| Ok::<_, String>(it + 1)), options).unwrap()
+    Service::with(place.store(), Functions::new().with("inc", 1, |it: i64| Ok::<_, String>(it + 1)), options).unwrap()
 }
 
 #[test]
 fn one_process_tells_the_end_of_a_flow() {
-    let file = File::new("ends of flows");
+    let place = Place::new("ends of flows");
     let (ends, told) = told(|what| what.all());
-    let services = [service(&file, &ends), service(&file, &ends)];
+    let services = [service(&place, &ends), service(&place, &ends)];
     let mut flow = Flow::new("count");
     let number = flow.promise("number");
     let last = flow.then(number, "inc");
@@ -50,9 +51,9 @@ fn one_process_tells_the_end_of_a_flow() {
 
 #[test]
 fn what_is_opened_again_is_told_again() {
-    let file = File::new("ends again");
+    let place = Place::new("ends again");
     let (ends, told) = told(|_| "-".into());
-    let service = service(&file, &ends);
+    let service = service(&place, &ends);
     let request = service.request("again").unwrap();
     let number = request.promise("number").unwrap();
     assert!(number.complete(&41).unwrap());
@@ -70,14 +71,14 @@ fn what_is_opened_again_is_told_again() {
 
 #[test]
 fn a_hook_that_panics_is_called_again() {
-    let file = File::new("ends of panics");
+    let place = Place::new("ends of panics");
     let (sends, told) = channel();
     let sends = Mutex::new(sends);
     let ends = Ends::new(move |history| {
         sends.lock().unwrap().send(history.lines().unwrap()).unwrap();
         panic!("no exporter");
     });
-    let service = service(&file, &ends);
+    let service = service(&place, &ends);
     for name in ["one", "two"] {
         service.request(name).unwrap().end().unwrap();
         assert!(told.recv_timeout(LONG).unwrap().starts_with(&format!("{name}: 0 events, 0 stages")));

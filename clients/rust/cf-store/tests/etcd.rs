@@ -1,4 +1,5 @@
 //! Requests in an etcd cluster. Each test starts etcd's server for itself, and is left out with a line where there is none.
+#[macro_use]
 mod common;
 
 use cf_store::{Entry, Error, Etcd, Functions, Put, Service, Store, StoreError, Timer};

@@ -1,8 +1,9 @@
-//! Flows, functions that compose, arguments by name, contexts and histories, in a file of SQLite's.
+//! Flows, functions that compose, arguments by name, contexts and histories.
+#[macro_use]
 mod common;
 
 use cf_store::{context, within, Error, Failed, Flow, Functions, Request, Service, Store, StoreError, What};
-use common::{fits, printed, python, quick, settled, File};
+use common::{fits, printed, python, quick, settled, Place};
 use serde_json::{json, Map, Value};
 use std::time::{Duration, Instant};
 
@@ -25,7 +26,7 @@ fn until(mut is_so: impl FnMut() -> bool) {
 
 #[test]
 fn a_function_gives_a_stage_to_wait_for() {
-    let file = File::new("compose");
+    let place = Place::new("compose");
     let functions = Functions::new()
         .with("inc", 1, add_one)
         .with("declined", 1, |_: i64| Err::<i64, _>(Failed::new("CardDeclined", "no card")))
@@ -33,7 +34,7 @@ fn a_function_gives_a_stage_to_wait_for() {
         .composing("failing", 1, |request: &Request, number: i64| request.supply("declined", &[json!(number)]))
         .composing("refuses", 1, |_: &Request, _: i64| Err::<cf_store::Stage, _>(Failed::new("NoStock", "none left")))
         .composing("waiting", 1, |request: &Request, _: i64| request.promise("late"));
-    let service = Service::with(file.store(), functions, quick()).unwrap();
+    let service = Service::with(place.store(), functions, quick()).unwrap();
     let request = service.request("composed").unwrap();
     let number = request.promise("number").unwrap();
     let loaded = number.compose("loading").unwrap();
@@ -54,12 +55,11 @@ fn a_function_gives_a_stage_to_wait_for() {
     assert_eq!(late.peek::<i64>(), Ok(None));
     assert!(found.unwrap().complete(&7).unwrap());
     assert_eq!(settled::<i64>(&late), Ok(7));
-    assert!(matches!(late.again(1), Err(StoreError::Refused(_))));
     fits(&request.history().unwrap().account().unwrap());
 
     let other = service.request("another").unwrap();
     let functions = Functions::new().composing("strays", 1, move |_: &Request, _: i64| other.promise("elsewhere"));
-    let second = Service::with(file.store(), functions, quick()).unwrap();
+    let second = Service::with(place.store(), functions, quick()).unwrap();
     let request = second.request("strays").unwrap();
     let number = request.promise("number").unwrap();
     let strays = number.compose("strays").unwrap();
@@ -69,31 +69,31 @@ fn a_function_gives_a_stage_to_wait_for() {
 
 #[test]
 fn what_composes_is_called_by_what_composes_alone() {
-    let file = File::new("kinds");
+    let place = Place::new("kinds");
     let mut nobody = quick();
     nobody.threads = 0;
-    let planner = Service::with(file.store(), Functions::new().with("f", 1, add_one), nobody).unwrap();
+    let planner = Service::with(place.store(), Functions::new().with("f", 1, add_one), nobody).unwrap();
     let request = planner.request("kinds").unwrap();
     let number = request.promise("number").unwrap();
     let (plain, composed) = (number.then("f").unwrap(), number.compose("f").unwrap());
     number.complete(&1).unwrap();
-    let first = Service::with(file.store(), Functions::new().with("f", 1, add_one), quick()).unwrap();
+    let first = Service::with(place.store(), Functions::new().with("f", 1, add_one), quick()).unwrap();
     first.open("kinds").unwrap();
     assert_eq!(settled::<i64>(&plain), Ok(2));
     assert_eq!(composed.wait_timeout::<i64>(Duration::from_millis(200)), Ok(None), "a function that gives a value isn't one that composes");
     let functions =
         Functions::new().composing("f", 1, |request: &Request, _: i64| request.supply("nothing", &[])).with("nothing", 1, || Ok::<_, String>(5));
-    let second = Service::with(file.store(), functions, quick()).unwrap();
+    let second = Service::with(place.store(), functions, quick()).unwrap();
     second.open("kinds").unwrap();
     assert_eq!(settled::<i64>(&composed), Ok(5));
 }
 
 #[test]
 fn arguments_are_given_by_name() {
-    let file = File::new("names");
+    let place = Place::new("names");
     let pay = |cents: i64, to: Option<String>| Ok::<_, String>(json!([cents, to]));
     let functions = || Functions::new().with("pay", 1, pay).parameters("pay", 1, &["cents", "to"]).with("unnamed", 1, add_one);
-    let service = Service::with(file.store(), functions(), quick()).unwrap();
+    let service = Service::with(place.store(), functions(), quick()).unwrap();
     let request = service.request("names").unwrap();
     let supply = |args: &[Value], named| request.supply_named("pay", args, &map(named)).unwrap();
     assert_eq!(settled::<Value>(&supply(&[], json!({"to": "anna", "cents": 5}))), Ok(json!([5, "anna"])));
@@ -105,14 +105,14 @@ fn arguments_are_given_by_name() {
     let unnamed = request.supply_named("unnamed", &[], &map(json!({"number": 1}))).unwrap();
     assert_eq!(unnamed.wait_timeout::<i64>(Duration::from_millis(200)), Ok(None), "it waits for a process that has names for it");
     let named = Functions::new().with("unnamed", 1, add_one).parameters("unnamed", 1, &["number"]);
-    let second = Service::with(file.store(), named, quick()).unwrap();
+    let second = Service::with(place.store(), named, quick()).unwrap();
     second.open("names").unwrap();
     assert_eq!(settled::<i64>(&unnamed), Ok(2));
 }
 
 #[test]
 fn contexts_go_along() {
-    let file = File::new("contexts");
+    let place = Place::new("contexts");
     let tenant = || Ok::<_, String>(context().get("tenant").cloned());
     let functions = Functions::new()
         .with("tenant", 1, tenant)
@@ -121,7 +121,7 @@ fn contexts_go_along() {
         .with("panics", 1, |_: Value| -> Result<i64, String> { panic!("oh") });
     let mut one = quick();
     one.threads = 1;
-    let service = Service::with(file.store(), functions, one).unwrap();
+    let service = Service::with(place.store(), functions, one).unwrap();
     let request = service.request("contexts").unwrap();
     let of_anna = || map(json!({"tenant": "anna", "more": [1, 2]}));
     let [anna, composed] = within(of_anna(), || {
@@ -146,9 +146,9 @@ fn contexts_go_along() {
 
 #[test]
 fn histories_are_told() {
-    let file = File::new("histories");
+    let place = Place::new("histories");
     let functions = Functions::new().with("inc", 1, add_one).with("declined", 1, |_: i64| Err::<i64, _>(Failed::new("CardDeclined", "no\ncard")));
-    let service = Service::with(file.store(), functions, quick()).unwrap();
+    let service = Service::with(place.store(), functions, quick()).unwrap();
     let mut flow = Flow::new("order");
     let number = flow.promise("number");
     let planned = flow.then(number, "inc");
@@ -180,15 +180,15 @@ fn histories_are_told() {
 
 #[test]
 fn sessions_of_one_number_have_records_of_their_own() {
-    let file = File::new("numbers");
+    let place = Place::new("numbers");
     let mut nobody = quick();
     nobody.threads = 0;
     nobody.lease = Duration::from_secs(60);
-    let first = Service::with(file.store(), Functions::new(), nobody.clone()).unwrap();
+    let first = Service::with(place.store(), Functions::new(), nobody.clone()).unwrap();
     let request = first.request("numbers").unwrap();
     let promises: Vec<_> = (0..66).map(|_| request.promise("promise").unwrap().number()).collect();
     for number in promises {
-        let other = Service::with(file.store(), Functions::new(), nobody.clone()).unwrap();
+        let other = Service::with(place.store(), Functions::new(), nobody.clone()).unwrap();
         assert!(other.open("numbers").unwrap().stage(number).unwrap().complete(&number).unwrap());
     }
     let account = request.history().unwrap().account().unwrap();
@@ -201,7 +201,7 @@ fn sessions_of_one_number_have_records_of_their_own() {
 
 #[test]
 fn a_flow_is_begun_once() {
-    let file = File::new("flow");
+    let place = Place::new("flow");
     let functions = || {
         Functions::new()
             .with("inc", 1, add_one)
@@ -211,7 +211,7 @@ fn a_flow_is_begun_once() {
     let more = functions()
         .with("declined", 1, |_: i64| Err::<i64, _>("card declined"))
         .with("pair", 1, |value: Value, failed: Value| Ok::<_, String>(json!([value, failed["text"]])));
-    let service = Service::with(file.store(), more, quick()).unwrap();
+    let service = Service::with(place.store(), more, quick()).unwrap();
     let mut flow = Flow::new("order");
     let [first, second] = ["first", "second"].map(|it| flow.promise(it));
     let sum = flow.combine(first, second, "add");
@@ -236,7 +236,7 @@ fn a_flow_is_begun_once() {
     let gathered = request.gather(&[&of(sum), &of(supplied), &of(sum)]).unwrap();
     assert_eq!(settled::<Value>(&gathered), Ok(json!([42, 2, 42])));
     assert!(matches!(request.gather(&[]), Err(StoreError::Refused(_))));
-    until(|| !file.store().news(None).unwrap().0.contains_key("order 17")); // it is closed by itself
+    until(|| !place.store().news(None).unwrap().0.contains_key("order 17")); // it is closed by itself
     let same = service.start(&flow, "order 17", &[json!(1), json!(1)]).unwrap();
     assert_eq!(settled::<i64>(&same.step(sum).unwrap()), Ok(42), "what is settled stays as it is");
 
@@ -249,6 +249,10 @@ fn a_flow_is_begun_once() {
     let mut strange = Flow::new("strange");
     strange.then(sum, "inc");
     assert!(matches!(service.start(&strange, "strange", &[]), Err(StoreError::Refused(_))));
+    let mut late = Flow::new("late");
+    let gift = late.promise("gift");
+    late.combine(first, gift, "add");
+    assert!(matches!(service.start(&late, "late", &[]), Err(StoreError::Refused(_))), "first is a step of another flow");
     let mut wide = Flow::new("wide");
     let many: Vec<_> = (0..40).map(|_| wide.promise("promise")).collect();
     let given: Vec<_> = (0..40).map(|it| if it == 35 { Value::Null } else { json!(it) }).collect();
@@ -290,19 +294,19 @@ service.shutdown()
 
 #[test]
 fn python_begins_the_same_flow() {
-    let file = File::new("both");
+    let place = Place::new("both");
     let pay = |cents: i64, to: Option<String>| Ok::<_, String>(json!([cents, to, context().get("tenant")]));
     let functions = Functions::new()
         .with("pay", 1, pay)
         .parameters("pay", 1, &["cents", "to"])
         .with("inc", 1, |number: i64| Ok::<_, String>(number + 100))
         .composing("composes", 1, |request: &Request, number: i64| request.supply_named("pay", &[json!(number)], &map(json!({"to": "rust"}))));
-    let Some(child) = python(STARTS, &[&file.address(), "0"]) else {
+    let Some(child) = python(STARTS, &[place.address(), "0"]) else {
         eprintln!("left out: CF_PYTHON and CF_LIBRARY name no client for Python with its library");
         return;
     };
     let composed = printed(child).parse().unwrap();
-    let service = Service::with(file.store(), functions, quick()).unwrap();
+    let service = Service::with(place.store(), functions, quick()).unwrap();
     let mut flow = Flow::new("order");
     let number = flow.promise("number");
     let paid = flow.supply_named("pay", &[json!(5)], &map(json!({"to": "anna"})));
@@ -319,7 +323,7 @@ fn python_begins_the_same_flow() {
     let mut nobody = quick();
     nobody.threads = 0;
     let planner = Functions::new().with("pay", 1, pay).with("inc", 1, add_one).composing("composes", 1, |it: &Request, _: i64| it.promise("never"));
-    let second = File::new("both 2");
+    let second = Place::new("both 2");
     let planner = Service::with(second.store(), planner, nobody).unwrap();
     let request = within(map(json!({"tenant": "anna"})), || {
         let request = planner.start(&flow, "a flow of both", &[]).unwrap();
@@ -327,8 +331,53 @@ fn python_begins_the_same_flow() {
         request.supply_named("pay", &[json!(8)], &map(json!({"to": "bert"}))).unwrap();
         request
     });
-    assert_eq!(printed(python(STARTS, &[&second.address(), "2"]).unwrap()), "2");
+    assert_eq!(printed(python(STARTS, &[second.address(), "2"]).unwrap()), "2");
     assert_eq!(settled::<Value>(&request.step(paid).unwrap()), Ok(json!("5 for anna of anna")));
     assert_eq!(settled::<Value>(&request.stage(5).unwrap()), Ok(json!("2 for python of anna")));
     assert_eq!(settled::<Value>(&request.stage(6).unwrap()), Ok(json!("8 for bert of anna")));
+}
+
+/// A flow gets a further promise. Whoever has its new steps doesn't take another stage for them in a request of the old ones.
+#[test]
+fn a_step_of_another_flow_is_no_stage() {
+    let place = Place::new("steps");
+    let functions = Functions::new().with("ship", 1, |_: Value, _: Value| Ok::<_, String>(1));
+    let service = Service::with(place.store(), functions, quick()).unwrap();
+    let (mut old, mut new, mut renamed) = (Flow::new("order"), Flow::new("order"), Flow::new("orders"));
+    let (order, approval) = (old.promise("order"), old.promise("approval"));
+    let shipped = old.combine(order, approval, "ship");
+    let (same, fraud, moved) = (new.promise("order"), new.promise("fraud score"), new.promise("approval"));
+    let handled = new.combine(same, moved, "ship");
+    let other = renamed.promise("order");
+    service.start(&old, "order 17", &[json!(17)]).unwrap();
+    let request = service.open("order 17").unwrap();
+    let named = |step| request.step(step).map(|it| it.name().unwrap());
+    assert_eq!([order, approval, shipped].map(named), ["order", "approval", "ship"].map(|it| Some(it.to_owned())));
+    assert_eq!(named(same), Some("order".into()), "up to this step the flows are one");
+    assert_eq!([fraud, moved, handled, other].map(named), [None, None, None, None]);
+    let mut turned = Flow::new("order");
+    let (order, approval) = (turned.promise("order"), turned.promise("approval"));
+    assert_eq!(named(turned.combine(approval, order, "ship")), None, "its sources are others");
+    assert!(service.request("no flow's").unwrap().step(order).is_none());
+}
+
+#[test]
+fn a_stage_of_another_request_is_no_source() {
+    let place = Place::new("strangers");
+    let functions = Functions::new().with("add", 1, |a: i64, b: i64| Ok::<_, String>(a + b)).with("inc", 1, add_one);
+    let service = Service::with(place.store(), functions, quick()).unwrap();
+    let [one, other] = ["one", "other"].map(|name| service.request(name).unwrap());
+    let (own, stranger) = (one.promise("own").unwrap(), other.promise("stranger").unwrap());
+    let refused = [
+        own.combine(&stranger, "add"),
+        own.either(&stranger, "inc"),
+        one.all_of(&[&own, &stranger]),
+        one.first_of(&[&own, &stranger]),
+        one.gather(&[&own, &stranger]),
+    ];
+    for it in refused {
+        assert!(matches!(it, Err(StoreError::Refused(_))), "{it:?}");
+    }
+    assert!(one.stage(1).is_none(), "nothing was attached");
+    assert!(own.combine(&one.stage(0).unwrap(), "add").is_ok());
 }

@@ -2,8 +2,8 @@
 #[macro_use]
 mod common;
 
-use cf_store::{Entry, Functions, Mark, Opened, Put, SQLite, Service, Store, StoreError, Timer};
-use common::{quick, settled, File};
+use cf_store::{Entry, Functions, Mark, Opened, Put, Service, Store, StoreError, Timer};
+use common::{quick, settled, AnyStore, Place};
 use std::collections::BTreeMap;
 use std::sync::{Arc, Mutex};
 use std::time::Duration;
@@ -15,7 +15,7 @@ type Asked = Arc<Mutex<BTreeMap<&'static str, usize>>>;
 
 /// A store that counts its questions.
 struct Counted {
-    store: SQLite,
+    store: AnyStore,
     asked: Asked,
 }
 
@@ -32,11 +32,11 @@ impl Store for Counted {
     questions!(counted);
 }
 
-fn service(file: &File, threads: usize) -> (Service, Asked) {
+fn service(place: &Place, threads: usize) -> (Service, Asked) {
     let (asked, mut options) = (Asked::default(), quick());
     options.threads = threads;
     let functions = Functions::new().with("seven", 1, || Ok::<_, String>(7)).with("inc", 1, |it: i64| Ok::<_, String>(it + 1));
-    (Service::with(Counted { store: file.store(), asked: Arc::clone(&asked) }, functions, options).unwrap(), asked)
+    (Service::with(Counted { store: place.store(), asked: Arc::clone(&asked) }, functions, options).unwrap(), asked)
 }
 
 /// How often this was asked.
@@ -46,8 +46,8 @@ fn times(asked: &Asked, what: &str) -> usize {
 
 #[test]
 fn a_put_is_one_question() {
-    let file = File::new("questions");
-    let (planner, asked) = service(&file, 0);
+    let place = Place::new("questions");
+    let (planner, asked) = service(&place, 0);
     let request = planner.request("asked").unwrap();
     for _ in 0..MANY {
         request.supply("seven", &[]).unwrap();
@@ -56,7 +56,7 @@ fn a_put_is_one_question() {
     assert!(times(&asked, "read") < MANY / 2, "what it has put itself it reads only where the pump sees it first: {asked:?}");
     drop(planner);
 
-    let (worker, asked) = service(&file, 1);
+    let (worker, asked) = service(&place, 1);
     let request = worker.open("asked").unwrap();
     for number in 0..MANY as u16 {
         assert_eq!(settled::<i64>(&request.stage(number).unwrap()), Ok(7));
@@ -72,8 +72,8 @@ fn a_put_is_one_question() {
 
 #[test]
 fn a_chain_is_a_put_a_stage() {
-    let file = File::new("chains");
-    let (planner, _) = service(&file, 0);
+    let place = Place::new("chains");
+    let (planner, _) = service(&place, 0);
     let request = planner.request("chain").unwrap();
     let mut last = request.promise("first").unwrap();
     for _ in 0..MANY {
@@ -81,7 +81,7 @@ fn a_chain_is_a_put_a_stage() {
     }
     assert!(request.stage(0).unwrap().complete(&0).unwrap());
     drop(planner);
-    let (worker, asked) = service(&file, 1);
+    let (worker, asked) = service(&place, 1);
     let last = worker.open("chain").unwrap().stage(last.number()).unwrap();
     assert_eq!(settled::<i64>(&last), Ok(MANY as i64));
     assert_eq!(times(&asked, "append"), MANY + 1, "the finish of each comes with the claim of the next");

@@ -1,8 +1,9 @@
-//! Requests in a file of SQLite's.
+//! Requests in a file of SQLite's, or in a database of PostgreSQL's.
+#[macro_use]
 mod common;
 
 use cf_store::{Error, Failed, Functions, Request, SQLite, Service, Store, StoreError};
-use common::{quick, settled, File};
+use common::{quick, settled, AnyStore, Place};
 use serde_json::{json, Value};
 use std::process::Command;
 use std::sync::atomic::{AtomicU32, Ordering};
@@ -15,7 +16,7 @@ fn add_one(number: i64) -> Result<i64, String> {
 
 #[test]
 fn functions_are_called_with_what_is_behind_them() {
-    let file = File::new("functions");
+    let place = Place::new("functions");
     let functions = Functions::new()
         .with("seven", 1, || Ok::<_, String>(7))
         .with("inc", 1, add_one)
@@ -26,7 +27,7 @@ fn functions_are_called_with_what_is_behind_them() {
         .with("either_way", 1, |value: Option<i64>, failed: Option<Failed>| Ok::<_, String>(json!([value, failed.map(|it| it.text)])))
         .with("panics", 1, |_: i64| -> Result<i64, String> { panic!("oh") })
         .with("wants_text", 1, |text: String| Ok::<_, String>(text));
-    let service = Service::new(file.store(), functions).unwrap();
+    let service = Service::new(place.store(), functions).unwrap();
     let request = service.request("all").unwrap();
     let number = request.promise("number").unwrap();
     let inc = number.then("inc").unwrap();
@@ -53,7 +54,7 @@ fn functions_are_called_with_what_is_behind_them() {
 
 #[test]
 fn another_service_goes_on_with_it() {
-    let file = File::new("another");
+    let place = Place::new("another");
     let calls = Arc::new(AtomicU32::new(0));
     let counted = |calls: &Arc<AtomicU32>| {
         let calls = Arc::clone(calls);
@@ -62,7 +63,7 @@ fn another_service_goes_on_with_it() {
             Ok::<_, String>(number + 1)
         }
     };
-    let first = Service::new(file.store(), Functions::new().with("inc", 1, counted(&calls))).unwrap();
+    let first = Service::new(place.store(), Functions::new().with("inc", 1, counted(&calls))).unwrap();
     let request = first.request("shared").unwrap();
     let number = request.promise("number").unwrap();
     let mut last = number.clone();
@@ -78,10 +79,10 @@ fn another_service_goes_on_with_it() {
         .map(|_| {
             let mut options = quick();
             options.takes_all = true;
-            Service::with(file.store(), Functions::new().with("inc", 1, counted(&calls)), options).unwrap()
+            Service::with(place.store(), Functions::new().with("inc", 1, counted(&calls)), options).unwrap()
         })
         .collect();
-    let second = Service::with(file.store(), Functions::new(), quick()).unwrap();
+    let second = Service::with(place.store(), Functions::new(), quick()).unwrap();
     let request = second.open("shared").unwrap();
     assert!(request.stage(0).unwrap().complete(&0).unwrap());
     assert_eq!(settled::<i64>(&request.stage(20).unwrap()), Ok(20));
@@ -96,13 +97,13 @@ fn another_service_goes_on_with_it() {
 
 #[test]
 fn what_is_closed_is_opened_again() {
-    let file = File::new("closed");
-    let service = Service::with(file.store(), Functions::new().with("inc", 1, add_one), quick()).unwrap();
+    let place = Place::new("closed");
+    let service = Service::with(place.store(), Functions::new().with("inc", 1, add_one), quick()).unwrap();
     let request = service.request("closed").unwrap();
     let number = request.promise("number").unwrap();
     number.complete(&1).unwrap();
     assert_eq!(request.name(), "closed");
-    let store = file.store();
+    let store = place.store();
     assert!(store.news(None).unwrap().0.contains_key("closed"));
     request.end().unwrap();
     assert!(!store.news(None).unwrap().0.contains_key("closed"));
@@ -115,8 +116,8 @@ fn what_is_closed_is_opened_again() {
 
 #[test]
 fn timers_are_fired_by_any_service() {
-    let file = File::new("timers");
-    let service = Service::with(file.store(), Functions::new(), quick()).unwrap();
+    let place = Place::new("timers");
+    let service = Service::with(place.store(), Functions::new(), quick()).unwrap();
     let request = service.request("timers").unwrap();
     let [slow, other, soon] = ["slow", "other", "soon"].map(|name| request.promise(name).unwrap());
     slow.or_timeout(Duration::from_millis(50)).unwrap();
@@ -127,14 +128,14 @@ fn timers_are_fired_by_any_service() {
     assert_eq!(settled::<String>(&other), Ok("in its place".into()));
     assert_eq!(settled::<Value>(&soon), Ok(Value::Null));
     drop(service);
-    let due = file.store().due(f64::MAX).unwrap();
+    let due = place.store().due(f64::MAX).unwrap();
     assert_eq!(due.iter().map(|timer| timer.stage).collect::<Vec<_>>(), [2], "what was fired is forgotten");
 }
 
 #[test]
 fn settled_once() {
-    let file = File::new("settled");
-    let service = Service::with(file.store(), Functions::new(), quick()).unwrap();
+    let place = Place::new("settled");
+    let service = Service::with(place.store(), Functions::new(), quick()).unwrap();
     let request = service.request("settled").unwrap();
     let [failed, cancelled, left] = ["failed", "cancelled", "left"].map(|name| request.promise(name).unwrap());
     assert!(failed.fail(&Failed::new("Closed", "we are closed")).unwrap());
@@ -149,15 +150,15 @@ fn settled_once() {
     let large = "x".repeat(100_000);
     assert!(left.complete(&large).unwrap());
     assert_eq!(settled::<String>(&left), Ok(large.clone()));
-    let other = Service::with(file.store(), Functions::new(), quick()).unwrap();
+    let other = Service::with(place.store(), Functions::new(), quick()).unwrap();
     let there = other.open("settled").unwrap().named("left").unwrap().unwrap();
     assert_eq!((there.number(), settled::<String>(&there)), (2, Ok(large)));
 }
 
 #[test]
 fn a_request_is_full() {
-    let file = File::new("full");
-    let service = Service::with(file.store(), Functions::new(), quick()).unwrap();
+    let place = Place::new("full");
+    let service = Service::with(place.store(), Functions::new(), quick()).unwrap();
     let request = service.request("full").unwrap();
     let first = request.promise("promise").unwrap();
     let many = 40; // (each is a commit)
@@ -176,24 +177,24 @@ fn dies(request: &Request) {
 
 #[test]
 fn a_process_dies() {
-    if let Some(path) = std::env::var_os("CF_STORE_DIES") {
+    if let Ok(address) = std::env::var("CF_STORE_DIES") {
         let functions = Functions::new().with("inc", 1, |_: i64| -> Result<i64, String> { std::process::abort() });
-        let service = Service::with(SQLite::open(path).unwrap(), functions, quick()).unwrap();
+        let service = Service::with(AnyStore::open(&address), functions, quick()).unwrap();
         return dies(&service.open("dies").unwrap());
     }
-    let file = File::new("dies");
+    let place = Place::new("dies");
     let mut nobody = quick();
     nobody.threads = 0;
-    let planner = Service::with(file.store(), Functions::new().with("inc", 1, add_one), nobody).unwrap();
+    let planner = Service::with(place.store(), Functions::new().with("inc", 1, add_one), nobody).unwrap();
     let request = planner.request("dies").unwrap();
     let number = request.promise("number").unwrap();
     let once = number.then("inc").unwrap();
     let again = once.again(1).unwrap();
     number.complete(&1).unwrap();
     drop(planner);
-    let child = Command::new(std::env::current_exe().unwrap()).arg("a_process_dies").env("CF_STORE_DIES", &file.0).status().unwrap();
+    let child = Command::new(std::env::current_exe().unwrap()).arg("a_process_dies").env("CF_STORE_DIES", place.address()).status().unwrap();
     assert!(!child.success());
-    let service = Service::with(file.store(), Functions::new().with("inc", 1, add_one), quick()).unwrap();
+    let service = Service::with(place.store(), Functions::new().with("inc", 1, add_one), quick()).unwrap();
     let request = service.open("dies").unwrap();
     assert_eq!(
         settled::<i64>(&request.stage(once.number()).unwrap()),
@@ -204,9 +205,9 @@ fn a_process_dies() {
 
 #[test]
 fn what_hangs_on_an_abandoned_stage_is_not_tried_again() {
-    let file = File::new("hangs");
+    let place = Place::new("hangs");
     let functions = Functions::new().with("null", 1, |_: Option<i64>| Ok::<_, String>(1)).with("nulls", 1, |_: Value, _: Value| Ok::<_, String>(1));
-    let service = Service::new(file.store(), functions).unwrap();
+    let service = Service::new(place.store(), functions).unwrap();
     let request = service.request("hangs").unwrap();
     let (one, two) = (request.promise("one").unwrap(), request.promise("two").unwrap());
     let tries = [one.then("null").unwrap(), one.either(&two, "null").unwrap(), one.combine(&two, "nulls").unwrap()].map(|it| it.again(2).unwrap());
@@ -219,40 +220,67 @@ fn what_hangs_on_an_abandoned_stage_is_not_tried_again() {
 
 #[test]
 fn a_try_whose_process_is_gone_is_done_once_more() {
-    let file = File::new("once more");
+    let place = Place::new("once more");
     let functions = || Functions::new().with("null", 1, |_: Option<i64>| Ok::<_, String>(1));
     let mut nobody = quick();
     nobody.threads = 0;
-    let planner = Service::with(file.store(), functions(), nobody).unwrap();
+    let planner = Service::with(place.store(), functions(), nobody).unwrap();
     let request = planner.request("once more").unwrap();
     let one = request.promise("one").unwrap();
     let last = one.then("null").unwrap().again(2).unwrap();
     assert!(one.fail(&Failed::new("Closed", "we are closed")).unwrap());
     assert!(request.stage(last.number() - 1).unwrap().fail(&Failed::new("Abandoned", "gone")).unwrap());
-    let service = Service::with(file.store(), functions(), quick()).unwrap();
+    let service = Service::with(place.store(), functions(), quick()).unwrap();
     let told = settled::<i64>(&service.open("once more").unwrap().stage(last.number()).unwrap());
     assert_eq!(told, Err(Error::Failed(Failed::new("Closed", "we are closed"))));
 }
 
+/// The further try of a stage that was settled by hand, and whose function wasn't called, is called with what its sources hold.
+#[test]
+fn a_try_of_what_was_settled_by_hand() {
+    let place = Place::new("by hand");
+    let functions = || Functions::new().with("say", 1, |it: Value| Ok::<_, String>(json!({ "got": it })));
+    let mut nobody = quick();
+    nobody.threads = 0;
+    let planner = Service::with(place.store(), functions(), nobody).unwrap();
+    let request = planner.request("by hand").unwrap();
+    let tried = |first: Value, second: Value| {
+        let (one, two) = (request.promise("one").unwrap(), request.promise("two").unwrap());
+        let either = one.either(&two, "say").unwrap();
+        let again = either.again(1).unwrap();
+        assert!(one.complete(&first).unwrap() && two.complete(&second).unwrap());
+        assert!(either.fail(&Failed::new("Abandoned", "by hand")).unwrap());
+        again.number()
+    };
+    let rows = [(json!(null), json!(5)), (json!(5), json!(null)), (json!(5), json!(6)), (json!(null), json!(null))];
+    let tries = rows.clone().map(|(first, second)| (tried(first.clone(), second), first));
+    let service = Service::with(place.store(), functions(), quick()).unwrap();
+    let request = service.open("by hand").unwrap();
+    for (again, first) in tries {
+        assert_eq!(settled::<Value>(&request.stage(again).unwrap()), Ok(json!({ "got": first })), "null is a value, too");
+    }
+}
+
 #[test]
 fn what_is_no_row_is_told() {
-    let file = File::new("broken");
-    let store = file.store();
+    let place = Place::new("broken");
+    let store = place.store();
     store.open("no plan", "{}").unwrap();
-    let service = Service::with(file.store(), Functions::new(), quick()).unwrap();
+    let service = Service::with(place.store(), Functions::new(), quick()).unwrap();
     store.open("old plan", r#"{"cf":2,"flow":"","stages":[]}"#).unwrap();
     for name in ["no plan", "old plan"] {
         assert!(matches!(service.open(name), Err(StoreError::Broken { place: 0, .. })));
     }
-    let other = File::new("no database");
-    std::fs::write(&other.0, "this is no database, as its first bytes tell. ".repeat(50)).unwrap();
-    assert!(matches!(SQLite::open(&other.0), Err(StoreError::Refused(_))));
+    if let Some(path) = Place::new("no database").file() {
+        std::fs::write(path, "this is no database, as its first bytes tell. ".repeat(50)).unwrap();
+        assert!(matches!(SQLite::open(path), Err(StoreError::Refused(_))));
+    }
 }
 
 #[test]
 fn python_goes_on_with_it() {
-    let file = File::new("python");
-    if common::python_goes_on(&file.address(), || file.store()).is_none() {
+    let place = Place::new("python");
+    if common::python_goes_on(place.address(), || place.store()).is_none() {
         eprintln!("left out: CF_PYTHON and CF_LIBRARY name no client for Python with its library");
     }
 }

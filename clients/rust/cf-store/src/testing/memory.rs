@@ -8,7 +8,7 @@ use std::sync::Mutex;
 use std::time::Duration;
 
 #[derive(Default)]
-pub(super) struct Memory(Mutex<Kept>);
+pub(crate) struct Memory(Mutex<Kept>);
 
 #[derive(Default)]
 struct Kept {

@@ -55,6 +55,8 @@ use std::sync::Arc;
 use std::time::Duration;
 
 pub use bounds::Bounds;
+#[cfg(test)]
+pub(crate) use memory::Memory;
 pub use process::Process;
 
 /// What a [`World`] has for requests in stores.

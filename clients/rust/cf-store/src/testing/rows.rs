@@ -4,12 +4,14 @@ use crate::error::{Error, StoreError};
 use crate::history::History;
 use crate::host::Host;
 use crate::plan;
+use crate::sessions::Sessions;
 use crate::store::{Opened, Put, Store};
 use crate::view::View;
 use cf_graph::{Answer, Call, Entry, Event};
 use serde_json::Value as Json;
 use std::collections::BTreeMap;
 use std::sync::{Arc, Mutex, MutexGuard, PoisonError};
+use std::time::{Duration, Instant};
 
 pub(super) fn locked<T>(mutex: &Mutex<T>) -> MutexGuard<'_, T> {
     mutex.lock().unwrap_or_else(PoisonError::into_inner)
@@ -108,7 +110,8 @@ impl Rows {
         let is_new = self.memory.find(name)?.is_none();
         let opened = self.memory.open(name, plan)?;
         if is_new {
-            let view = View::new(Arc::clone(&self.memory) as Arc<dyn Store>, Arc::new(Reader), opened.clone(), 0)?;
+            let sessions = Arc::new(Sessions::new(0, Duration::ZERO, Instant::now()));
+            let view = View::new(Arc::clone(&self.memory) as Arc<dyn Store>, Arc::new(Reader), opened.clone(), sessions)?;
             locked(&self.names).push(name.into());
             locked(&self.views).insert(name.into(), Read { view, settled: Vec::new() });
         }

@@ -8,8 +8,8 @@ use super::process::{Process, ProcessHost, ProcessStore};
 use super::rows::{locked, Flying, Rows};
 use crate::error::StoreError;
 use crate::functions::Functions;
-use crate::service::{Job, Options, Service};
-use crate::store::{Mark, Put, Store, Timer};
+use crate::service::{Job, Looks, Options, Service};
+use crate::store::{Put, Store, Timer};
 use crate::view::{View, PATIENCE};
 use cf::testing::{Seam, Sharing, Stored, StoredHistory, Then, Waits};
 use cf_graph::Entry;
@@ -72,8 +72,8 @@ pub(super) struct Work {
     pub(super) due: Option<Timer>,
     /// How many numbers it has drawn.
     pub(super) drawn: u64,
-    /// What its looks go on with: the next beat and the next look for timers, the mark, and whether it has told its name.
-    looks: (Instant, Instant, Option<Mark>, bool),
+    /// What its looks go on with, but for the one that is made.
+    looks: Option<Looks>,
 }
 
 impl Work {
@@ -154,7 +154,7 @@ impl Shop {
             stuck: BTreeSet::new(),
             due: None,
             drawn: 0,
-            looks: (zero, zero, None, false),
+            looks: Some(Looks::new(zero)),
         };
         let its = Its { name: name.into(), lease: said.lease, workers: said.workers, takes_all: said.takes_all, service: None, work };
         locked(&self.processes).push(its);
@@ -469,12 +469,11 @@ impl Shop {
     fn round(&self, process: u16, silent: Option<u16>) {
         self.passes(process, silent);
         let service = self.service(process).expect("a process has its service");
-        let mut looks = self.work(process, |work| work.looks);
-        let (beat, look, mark, is_named) = &mut looks;
-        if let Err(error) = service.shared.round(beat, look, mark, is_named) {
+        let mut looks = self.work(process, |work| work.looks.take()).expect("one look at a time");
+        if let Err(error) = service.shared.round(&mut looks) {
             self.seam.fail(format!("{} can't look: {error}", self.name_of(process)));
         }
-        self.work(process, |work| work.looks = looks);
+        self.work(process, |work| work.looks = Some(looks));
     }
 
     /// A part of a lease passes, in which those beat that are there.
@@ -503,6 +502,7 @@ impl Shop {
             locked(&self.bounds).slow -= 1;
         }
         let service = self.service(process).expect("a process has its service");
+        self.reads(process, &service);
         for _ in 0..LOOKS {
             self.passes(process, Some(other));
             if let Err(error) = service.shared.beat(&mut true) {
@@ -511,6 +511,16 @@ impl Shop {
         }
         self.round(process, Some(other));
         self.begins_next(process)
+    }
+
+    /// A process reads what stands: a word of another one's that is new to it would be a sign of life.
+    fn reads(&self, process: u16, service: &Service) {
+        let known = self.rows.names().into_iter().filter_map(|name| service.shared.kept_as(&name));
+        for inner in known.filter(|it| it.try_view().is_some()) {
+            if let Err(error) = inner.catch_up() {
+                self.seam.fail(format!("{} can't read: {error}", self.name_of(process)));
+            }
+        }
     }
 
     fn kill(&self, process: u16) -> Then {

@@ -1,9 +1,11 @@
-//! What tests of stores have in common: a file of SQLite's, and a process in Python that works on the same requests.
+//! What tests of stores have in common: a place for rows, and a process in Python that works on the same requests.
 #![allow(dead_code)]
 
-use cf_store::{Functions, Options, Service, Stage, Store};
+use cf_store::{Entry, Functions, Mark, Opened, Options, Put, Service, Stage, Store, StoreError, Timer, Transaction};
+use std::any::Any;
+use std::collections::BTreeMap;
 use std::io::Write;
-use std::path::PathBuf;
+use std::path::{Path, PathBuf};
 use std::process::{Child, Command, Stdio};
 use std::time::Duration;
 
@@ -34,42 +36,6 @@ macro_rules! questions {
     };
 }
 
-/// A file of its own, which goes with the value.
-pub struct File(pub PathBuf);
-
-impl File {
-    pub fn new(name: &str) -> File {
-        let path = std::env::temp_dir().join(format!("cf-store-{}-{name}.db", std::process::id()));
-        let file = File(path);
-        file.remove();
-        file
-    }
-
-    #[cfg(feature = "sqlite")]
-    pub fn store(&self) -> cf_store::SQLite {
-        cf_store::SQLite::open(&self.0).unwrap()
-    }
-
-    /// Its address, as Python has it.
-    pub fn address(&self) -> String {
-        format!("sqlite:///{}", self.0.display())
-    }
-
-    fn remove(&self) {
-        for end in ["", "-line", "-wal", "-shm"] {
-            let mut name = self.0.clone().into_os_string();
-            name.push(end);
-            let _not_there = std::fs::remove_file(name);
-        }
-    }
-}
-
-impl Drop for File {
-    fn drop(&mut self) {
-        self.remove();
-    }
-}
-
 /// Methods of a store that `self.store` does.
 #[macro_export]
 macro_rules! passed_on {
@@ -78,6 +44,137 @@ macro_rules! passed_on {
             self.store.$name($($arg),*)
         }
     )*};
+}
+
+/// A store of an address: `sqlite:///PATH`, or of a database of PostgreSQL's.
+pub struct AnyStore {
+    store: Box<dyn Store>,
+}
+
+impl AnyStore {
+    pub fn open(address: &str) -> AnyStore {
+        let store: Box<dyn Store> = match address.strip_prefix("sqlite:///") {
+            #[cfg(feature = "sqlite")]
+            Some(path) => Box::new(cf_store::SQLite::open(path).unwrap()),
+            #[cfg(feature = "postgres")]
+            None => Box::new(cf_store::Postgres::connect(address).unwrap()),
+            #[allow(unreachable_patterns)]
+            _ => panic!("{address} is an address of an engine that is left out"),
+        };
+        AnyStore { store }
+    }
+}
+
+impl Store for AnyStore {
+    questions!(passed_on);
+
+    fn transacts(&self) -> bool {
+        self.store.transacts()
+    }
+
+    fn locks_out(&self) -> bool {
+        self.store.locks_out()
+    }
+
+    fn transaction(&self) -> Result<Box<dyn Transaction + '_>, StoreError> {
+        self.store.transaction()
+    }
+}
+
+/// A place for rows of its own, which goes with the value: a file of SQLite's, or, where CF_STORES names a database of PostgreSQL's, a schema there.
+pub struct Place {
+    address: String,
+    name: String,
+    /// The file, or the database.
+    of: Result<PathBuf, String>,
+}
+
+impl Place {
+    pub fn new(name: &str) -> Place {
+        let stores = std::env::var("CF_STORES").unwrap_or_default();
+        let database = stores.split_whitespace().find(|it| cfg!(feature = "postgres") && it.starts_with("postgresql://"));
+        let place = match database {
+            Some(database) => {
+                let name = format!("cf_{}_{}", std::process::id(), name.replace(|it: char| !it.is_ascii_alphanumeric(), "_"));
+                let address = format!("{database}{}options=-csearch_path%3D{name}", if database.contains('?') { "&" } else { "?" });
+                Place { address, name, of: Err(database.to_owned()) }
+            }
+            None => {
+                let path = std::env::temp_dir().join(format!("cf-store-{}-{name}.db", std::process::id()));
+                Place { address: format!("sqlite:///{}", path.display()), name: name.to_owned(), of: Ok(path) }
+            }
+        };
+        place.remove();
+        #[cfg(feature = "postgres")]
+        if let Err(database) = &place.of {
+            query(database, &format!("create schema {}", place.name));
+        }
+        place
+    }
+
+    pub fn store(&self) -> AnyStore {
+        AnyStore::open(&self.address)
+    }
+
+    /// Its address, as Python has it, too.
+    pub fn address(&self) -> &str {
+        &self.address
+    }
+
+    /// Its file, if it is one of SQLite's.
+    pub fn file(&self) -> Option<&Path> {
+        self.of.as_deref().ok()
+    }
+
+    /// Does a statement, and gives the texts of its first column.
+    pub fn query(&self, statement: &str) -> Vec<String> {
+        query(&self.address, statement)
+    }
+
+    fn remove(&self) {
+        match &self.of {
+            Ok(path) => {
+                for end in ["", "-line", "-wal", "-shm"] {
+                    let mut name = path.clone().into_os_string();
+                    name.push(end);
+                    let _not_there = std::fs::remove_file(name);
+                }
+            }
+            Err(database) => drop(query(database, &format!("drop schema if exists {} cascade", self.name))),
+        }
+    }
+}
+
+impl Drop for Place {
+    fn drop(&mut self) {
+        self.remove();
+    }
+}
+
+/// Does a statement in a transaction of its own, and gives the texts of its first column.
+pub fn query(address: &str, statement: &str) -> Vec<String> {
+    let store = AnyStore::open(address);
+    let mut transaction = store.transaction().unwrap();
+    let told = rows(transaction.connection(), statement);
+    transaction.commit().unwrap();
+    told.unwrap()
+}
+
+/// The same by the connection of an engine's transaction.
+pub fn rows(connection: &mut dyn Any, statement: &str) -> Result<Vec<String>, String> {
+    #[cfg(feature = "postgres")]
+    if let Some(connection) = connection.downcast_mut::<cf_store::PostgresTransaction>() {
+        let rows = connection.query(statement, &[]).map_err(|error| error.to_string())?;
+        return Ok(rows.iter().map(|row| row.get(0)).collect());
+    }
+    #[cfg(feature = "sqlite")]
+    if let Some(connection) = connection.downcast_mut::<rusqlite::Connection>() {
+        let text = |error: rusqlite::Error| error.to_string();
+        let mut asked = connection.prepare(statement).map_err(text)?;
+        let rows = asked.query_map([], |row| row.get(0)).map_err(text)?.collect::<Result<_, _>>();
+        return rows.map_err(text);
+    }
+    panic!("a connection of another engine")
 }
 
 pub fn quick() -> Options {
@@ -89,7 +186,7 @@ pub fn quick() -> Options {
 /// Runs a program in Python over `cf.shared`, with these arguments. `None` where the client for Python isn't there, or its library.
 pub fn python(program: &str, args: &[&str]) -> Option<Child> {
     let (client, _library) = (std::env::var_os("CF_PYTHON")?, std::env::var_os("CF_LIBRARY").filter(|it| std::path::Path::new(it).exists())?);
-    let mut command = Command::new("python3");
+    let mut command = Command::new(std::env::var_os("CF_INTERPRETER").unwrap_or_else(|| "python3".into()));
     command.args(["-B", "-c", program]).args(args).env("PYTHONPATH", client).env("CF_NO_MODULE", "1").stdout(Stdio::piped());
     command.spawn().ok()
 }
