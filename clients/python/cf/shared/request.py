@@ -351,8 +351,7 @@ class DurableRequest:
         self._describe: Describe = service._describe
 
     def __repr__(self) -> str:
-        is_closed = ", closed" if self.is_closed else ""
-        return f"<{type(self).__name__} {self.name!r} of {len(self._view.told)} stages{is_closed}>"
+        return f"<{type(self).__name__} {self.name!r} of {len(self._view.told)} stages>"
 
     @property
     def seen(self) -> int:
