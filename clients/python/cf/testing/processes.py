@@ -3,7 +3,7 @@ import concurrent.futures
 import functools
 import random
 import threading
-from typing import TYPE_CHECKING, Any, Callable, List, NamedTuple, Optional, Set, TypeVar
+from typing import TYPE_CHECKING, Any, Callable, List, NamedTuple, Optional, Sequence, Set, TypeVar
 
 from ..service.history import describe_all
 from ..service.words import ANSWER, CLAIM, name_of
@@ -13,6 +13,7 @@ from ..shared.request import DurableStage
 from ..shared.rows import Gone as Dropped
 from ..shared.rows import Timer
 from ..shared.service import DurableService
+from ..shared.view import Done
 from .answers import OF_CALLS
 from .footprints import CHANGES, CHECKED, READS, USER, Thing
 from .marks import names_of
@@ -82,6 +83,9 @@ class Process(DurableService):
     def works_on(self, name: str) -> bool:
         """Whether it works on a request."""
         return self.takes_all or name in self._requests or name in self._left
+
+    def _heard(self, news: Sequence[Done]) -> None:
+        """Words are no signs of life here: by one move a process reads a claim and takes for gone who has put it."""
 
     def _noted(self, what: str, name: str, place: int, word: int, reply: Any) -> None:
         if what == "did" and word >> 56 == CLAIM and not reply[ANSWER]:
