@@ -8,8 +8,8 @@ import signal
 import sys
 import unittest
 
-from case import Case, CoreCase, program, Wild
-from cf.service import Request
+from case import Case, CoreCase, leaves, program, Wild
+from cf.service import _machine, Request
 from cf.service._core import IS_MODULE
 
 
@@ -140,6 +140,39 @@ class InterruptsOfCores(CoreCase):
         failing.fails = False
         request.supply(str)
         self.assertEqual(failing.taken, 2)
+
+    def test_a_callback_that_leaves_takes_no_turn_with_it(self):
+        """A composing stage ends just behind a limit that nobody was told of, so its thread has the turn of what that made
+        ready; and a callback of the stage leaves."""
+        class Taking:
+            closed, clock = False, None
+
+            def __init__(self):
+                self.taken = []
+
+            def put(self, request):
+                self.taken.append(request)
+                return True
+        taking = Taking()
+        request = Request(taking, "r", 8)
+        late = request.promise()
+        behind = late.then(str)
+        _machine._deadline(request._at, late.number, 5, True, _machine._NIL)
+
+        def composes(_):
+            made = request.promise()
+            made.complete(1)
+            request._counts = True
+            _machine._pass(request._at, 5, _machine._untold, 0, _machine._many)
+            return made
+        composed = request.supply(str).compose(composes)
+        composed.add_done_callback(leaves)
+        with self.assertRaises(SystemExit):
+            while taking.taken:
+                taking.taken.pop()._run(3)
+        self.assertEqual((late.done(), composed.result(0), len(taking.taken)), (True, 1, 1))
+        taking.taken.pop()._run(3)
+        self.assertEqual(behind.result(0), "None")
 
     @unittest.skipUnless(IS_MODULE, "by ctypes the stage stays claimed")
     def test_a_function_whose_arguments_raise(self):
