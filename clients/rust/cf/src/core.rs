@@ -17,7 +17,7 @@ use crate::value::{Call, Gave, Given, Val};
 use crate::word::Form;
 use cf_graph::nanos;
 use std::borrow::Cow;
-use std::mem::take;
+use std::mem::{forget, take};
 use std::panic::{catch_unwind, resume_unwind, AssertUnwindSafe};
 use std::sync::atomic::{AtomicBool, AtomicUsize, Ordering};
 use std::sync::{Arc, Mutex, MutexGuard, PoisonError, TryLockError};
@@ -170,48 +170,42 @@ impl Core {
     /// Lets something be done under the lock at this moment, and what comes of it be told behind it.
     #[inline]
     pub(crate) fn change<T>(self: &Arc<Core>, act: impl FnOnce(&mut Inner, &mut After) -> T) -> T {
-        let (mut after, now, mut panicked) = (After::default(), self.now(), None);
+        let (mut behind, now) = (Behind::of(self), self.now());
         let mut inner = self.lock();
         inner.ledger.record.go_on(now);
-        let done = guarded(&mut panicked, || {
-            let done = act(&mut inner, &mut after);
-            inner.cancel_relays(&mut after);
-            done
-        });
-        inner.hire(self, false, &mut after);
-        if after.jobs > 0 && self.is_inline && is_inline_free() {
-            self.begin_here(inner, after, &mut panicked);
+        let done = act(&mut inner, &mut behind.after);
+        inner.cancel_relays(&mut behind.after);
+        inner.hire(self, false, &mut behind.after);
+        if behind.after.jobs > 0 && self.is_inline && is_inline_free() {
+            self.begin_here(behind, inner);
         } else {
             drop(inner);
-            let (jobs, news) = after.into_parts();
+            let (jobs, news) = behind.into_parts();
             if jobs > 0 || news.is_some() {
-                self.tell(jobs, news, &mut panicked);
+                self.tell_now(jobs, news);
             }
         }
         #[cfg(feature = "testing")]
         self.watched(|watch| watch.changed());
-        match (done, panicked) {
-            (Some(done), None) => done,
-            (_, panicked) => resume_unwind(panicked.expect("what wasn't done has panicked")),
-        }
+        done
     }
 
     /// Begins the job that a change asks for under the same hold of the lock, where [`Inline`](crate::Inline) would begin it at once. Then what came
     /// of the change is told.
     #[inline(never)]
-    fn begin_here(self: &Arc<Core>, mut inner: Hold<'_>, mut after: After, panicked: &mut Option<Payload>) {
+    fn begin_here(self: &Arc<Core>, mut behind: Behind<'_>, mut inner: Hold<'_>) {
         let mut hands = Hands::empty();
-        let first = guarded(panicked, || inner.step(worker(), &mut hands, &mut after)).flatten();
+        let first = inner.step(worker(), &mut hands, &mut behind.after).expect("a stage is ready for which a job is asked");
         inner.coming -= 1;
-        inner.jobs -= usize::from(first.is_none());
         drop(inner);
-        let (_, mut news) = after.into_parts();
-        self.ask_for_alarm(&mut news, panicked);
-        if let Some(first) = first {
-            inline(|| as_worker(|who| self.work_on(who, Core::TURN, &mut hands, Some(first))), panicked);
-        }
+        let (mut panicked, (_, mut news)) = (None, behind.into_parts());
+        self.ask_for_alarm(&mut news, &mut panicked);
+        inline(|| as_worker(|who| self.work_on(who, Core::TURN, &mut hands, Some(first))), &mut panicked);
         if let Some(news) = news {
-            self.tell_news(news, panicked);
+            self.tell_news(news, &mut panicked);
+        }
+        if let Some(payload) = panicked {
+            resume_unwind(payload);
         }
     }
 
@@ -449,9 +443,11 @@ impl Core {
     /// The same, where a job has begun that has this in its hands, and its function.
     fn work_on(self: &Arc<Core>, who: u8, most: usize, hands: &mut Hands, mut next: Option<Call>) {
         let _running = running(self, true);
-        let (mut left, mut begins, mut is_busy, mut since, mut panicked) = (most, next.is_none(), false, 0, None);
+        let (mut left, mut since, mut panicked) = (most, 0, None);
+        let mut job = Counted { core: self, begins: next.is_none(), is_busy: false, is_over: false };
         loop {
-            let mut after = After::default();
+            let mut behind = Behind::of(self);
+            let after = &mut behind.after;
             let (mut inner, now, gives_way) = match next {
                 Some(call) => {
                     left -= 1;
@@ -465,31 +461,28 @@ impl Core {
             };
             since = now;
             inner.ledger.record.go_on(now);
-            let stepped = guarded(&mut panicked, || {
-                let next = if left > 0 && !gives_way {
-                    inner.step(who, hands, &mut after)
-                } else {
-                    inner.last(who, hands, &mut after);
-                    None
-                };
-                inner.cancel_relays(&mut after);
-                next
-            });
-            let ends = stepped.as_ref().map_or(true, |next| next.is_none() && (left == 0 || !gives_way));
-            next = stepped.flatten();
-            if begins || ends {
-                inner.coming -= usize::from(begins);
+            next = if left > 0 && !gives_way {
+                inner.step(who, hands, after)
+            } else {
+                inner.last(who, hands, after);
+                None
+            };
+            inner.cancel_relays(after);
+            let ends = next.is_none() && (left == 0 || !gives_way);
+            if job.begins || ends {
+                inner.coming -= usize::from(job.begins);
                 inner.jobs -= usize::from(ends);
+                job.is_over = ends;
             }
-            if is_busy != next.is_some() {
-                is_busy = next.is_some();
-                self.counts(is_busy);
+            if job.is_busy != next.is_some() {
+                job.is_busy = next.is_some();
+                self.counts(job.is_busy);
             }
             // Where a step finds nothing, nothing is ready.
-            inner.hire(self, begins && next.is_some() || left == 0, &mut after);
+            inner.hire(self, job.begins && next.is_some() || left == 0, after);
             drop(inner);
-            begins = false;
-            let (jobs, news) = after.into_parts();
+            job.begins = false;
+            let (jobs, news) = behind.into_parts();
             if jobs > 0 || news.is_some() {
                 self.tell(jobs, news, &mut panicked);
             }
@@ -617,6 +610,15 @@ impl Core {
         self.change(|inner, after| inner.finish(self, who, stage, gave, after));
     }
 
+    /// Tells what came of a change. What a waker or a `Drop` panics with goes on.
+    fn tell_now(self: &Arc<Core>, jobs: usize, news: Option<Box<News>>) {
+        let mut panicked = None;
+        self.tell(jobs, news, &mut panicked);
+        if let Some(payload) = panicked {
+            resume_unwind(payload);
+        }
+    }
+
     /// Tells what came of changes. The lock is free. A waker or a `Drop` that panics doesn't keep the others from being
     /// told, and what the first panicked with is kept.
     fn tell(self: &Arc<Core>, jobs: usize, mut news: Option<Box<News>>, panicked: &mut Option<Payload>) {
@@ -674,6 +676,63 @@ impl Core {
                 let _ = inner.settle(CLOCK, stage, Err(Refusal::Closed.into()), after);
             }
         });
+    }
+}
+
+/// What comes of a hold of the lock. Where that panics, all that came of it by then is told as the thread unwinds, once the lock is free.
+struct Behind<'a> {
+    core: &'a Arc<Core>,
+    after: After,
+}
+
+impl<'a> Behind<'a> {
+    #[inline(always)]
+    fn of(core: &'a Arc<Core>) -> Behind<'a> {
+        Behind { core, after: After::default() }
+    }
+
+    #[inline(always)]
+    fn into_parts(mut self) -> (usize, Option<Box<News>>) {
+        let after = take(&mut self.after);
+        forget(self);
+        after.into_parts()
+    }
+}
+
+impl Drop for Behind<'_> {
+    #[cold]
+    fn drop(&mut self) {
+        let (jobs, news) = take(&mut self.after).into_parts();
+        quietly(|| self.core.tell_now(jobs, news));
+    }
+}
+
+/// A job under way: whether it has yet to begin, and whether it has a stage in its hands. Where it panics under the lock, it is over.
+struct Counted<'a> {
+    core: &'a Arc<Core>,
+    begins: bool,
+    is_busy: bool,
+    is_over: bool,
+}
+
+impl Drop for Counted<'_> {
+    #[inline]
+    fn drop(&mut self) {
+        if !self.is_over {
+            self.gives_up();
+        }
+    }
+}
+
+impl Counted<'_> {
+    #[cold]
+    fn gives_up(&self) {
+        let mut inner = self.core.lock();
+        inner.coming -= usize::from(self.begins);
+        inner.jobs -= 1;
+        if self.is_busy {
+            self.core.counts(false);
+        }
     }
 }
 

@@ -138,7 +138,7 @@ impl Ledger {
     fn rest(&mut self) {
         if let Some(Ok(words)) = self.machine.as_mut().map(Request::words) {
             self.words = words;
-            self.machine = None;
+            self.keep(Told::default(), Vec::new());
         }
     }
 
@@ -147,12 +147,26 @@ impl Ledger {
         self.machine.is_none()
     }
 
+    /// Keeps the machine for a later request of this thread, with the room that it has got, unless enough are kept.
+    fn keep(&mut self, told: Told, moments: Vec<u32>) {
+        let (machine, room) = (self.machine.take(), self.room.max(self.stages));
+        let _ = KEPT.try_with(|kept| {
+            let mut kept = kept.borrow_mut();
+            let is_kept = kept.len() < MOST_KEPT && kept.iter().map(|it| it.room).sum::<u16>() + room <= MOST_ROOM;
+            if let Some(mut machine) = machine.filter(|_| is_kept) {
+                if machine.restart().is_ok() {
+                    kept.push(Spare { machine, room, told, moments });
+                }
+            }
+        });
+    }
+
     /// Has a machine again. It rests the next time once there are twice as many stages, so that words are done again but a few times.
     #[cold]
     #[inline(never)]
     fn resume(&mut self) -> Result<(), Refused> {
         let twice = MOST_STAGES.min(2 * self.stages);
-        let mut machine = opened(twice)?.machine;
+        let mut machine = kept(twice).map_or_else(|| opened(twice), Ok)?.machine;
         for word in &self.words {
             machine.apply(*word, LANE, &mut self.told)?;
         }
@@ -318,23 +332,16 @@ impl Ledger {
 }
 
 impl Drop for Ledger {
-    /// Keeps the machine for a later request of this thread, unless it is large, or enough are kept.
     fn drop(&mut self) {
-        let (room, is_small) = (self.room, self.room.max(self.stages) <= SLOTS);
-        let machine = self.machine.take().filter(|_| is_small);
-        let _ = KEPT.try_with(|kept| {
-            let mut kept = kept.borrow_mut();
-            if let Some(mut machine) = machine.filter(|_| kept.len() < MOST_KEPT) {
-                if machine.restart().is_ok() {
-                    kept.push(Spare { machine, room, told: take(&mut self.told), moments: self.record.room() });
-                }
-            }
-        });
+        let (told, moments) = (take(&mut self.told), self.record.room());
+        self.keep(told, moments);
     }
 }
 
-/// How many machines a thread keeps: one takes less to start again than a new one to be opened.
+/// How many machines a thread keeps, and for how many stages they have room together: one takes less to start again than a new one to be opened
+/// and to grow.
 const MOST_KEPT: usize = 8;
+const MOST_ROOM: u16 = MOST_KEPT as u16 * SLOTS;
 
 thread_local! {
     /// The machines of requests that ended on this thread.
@@ -369,13 +376,16 @@ mod tests {
         ledger.attach(0, Form::Source, &[], false)
     }
 
-    /// A few small ones, which are as they were opened.
+    /// A few, which are as they were opened, but for the room that they have got.
     #[test]
     fn few_machines_are_kept() {
         let many = |room| (0..2 * MOST_KEPT).map(|_| Ledger::new(room).unwrap()).collect::<Vec<_>>();
         let count = || KEPT.with(|kept| kept.borrow().len());
-        drop(many(SLOTS + 1));
+        drop(many(MOST_ROOM + 1));
         assert_eq!(count(), 0);
+        drop(many(MOST_ROOM / 3));
+        assert_eq!(count(), 3);
+        KEPT.with(|kept| kept.borrow_mut().clear());
         let mut ledgers = many(4);
         for ledger in &mut ledgers {
             promise(ledger).unwrap();
@@ -390,14 +400,28 @@ mod tests {
         assert_eq!((count(), again.room, again.words(), again.record.events()), (MOST_KEPT - 1, 4, Vec::new(), 0));
         let large = Ledger::new(5).unwrap();
         assert_eq!((count(), large.room), (MOST_KEPT - 1, 5));
-        for _ in 0..SLOTS {
-            promise(&mut again).unwrap();
+        for stage in 0..=SLOTS {
+            assert_eq!(promise(&mut again), Ok(stage));
         }
-        assert_eq!(promise(&mut again), Ok(SLOTS));
         drop(again);
-        assert_eq!(count(), MOST_KEPT - 1);
+        assert_eq!(count(), MOST_KEPT);
         drop(large);
         assert_eq!(count(), MOST_KEPT);
+        // What has grown is there for the next that is as large, and so is what a request gave back that rests.
+        let mut grown = Ledger::new(SLOTS + 1).unwrap();
+        assert_eq!((count(), grown.room, grown.words()), (MOST_KEPT - 1, SLOTS + 1, Vec::new()));
+        let mut outcomes = Vec::new();
+        for stage in 0..=SLOTS {
+            promise(&mut grown).unwrap();
+            settle(&mut grown, stage, &mut outcomes);
+        }
+        assert_eq!((grown.rests(), count()), (true, MOST_KEPT));
+        drop(grown);
+        assert_eq!(count(), MOST_KEPT);
+        for _ in 0..=SLOTS {
+            let mut next = Ledger::new(SLOTS + 1).unwrap();
+            assert_eq!((count(), promise(&mut next), next.words().len()), (MOST_KEPT - 1, Ok(0), 1));
+        }
     }
 
     /// Shows what the last call settled.

@@ -66,7 +66,8 @@ impl Request {
     }
 
     /// The same with room for so many stages at first, 16 otherwise. More room is made as it is wanted, by doing all again; a request of known
-    /// size is quicker without that.
+    /// size is quicker without that. A thread keeps machines of requests that ended on it, with the room that they have got, for the next ones:
+    /// up to eight, for 512 stages together.
     ///
     /// # Errors
     ///
