@@ -485,7 +485,7 @@ public class Stage<T> extends Waits<T> {
         Objects.requireNonNull(unit);
         Object told = seen(timeout > 0);
         if (told == null && request.watch != null) {
-            told = awaited(null, Math.max(0, unit.toNanos(timeout)));
+            told = timeout > 0 ? awaited(null, unit.toNanos(timeout)) : null;
             if (told == null) {
                 throw new TimeoutException();
             }

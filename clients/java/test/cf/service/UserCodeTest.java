@@ -121,6 +121,9 @@ final class UserCodeTest {
                 each.history().spans();
             }
             behind(request.failedFuture(new Loud()), other);
+            Stage<Object> source = request.promise(), shown = source.thenApply(x -> x), next = source.thenApply(x -> x);
+            CompletableFuture.allOf(shown).whenComplete((x, error) -> other.adopt(next)); // Which is settled, and told a moment later.
+            source.completeExceptionally(new Loud());
             Stage<Object> settled = request.failedFuture(new Loud()), open = request.promise();
             settled.toString();
             open.toString();

@@ -417,7 +417,9 @@ public final class OrdersTest {
                 made[0] = paid.orTimeout(2, SECONDS);
                 world.check(() -> charges.size() <= 1, "charged at most once");
                 world.settles(paid.exceptionally(error -> {
-                    charges.add(4900);
+                    if (charges.isEmpty()) {
+                        charges.add(4900);
+                    }
                     return 4900;
                 }));
             };
