@@ -22,8 +22,9 @@ from mutating.programs import Program, is_of_crate, nearness, program_of_rust, p
 BUILDING = 1200  # seconds
 LONGEST = 400  # seconds for the first run of a test program
 SQLITE_JDBC = "/usr/share/java/sqlite-jdbc.jar"  # of Debian's libxerial-sqlite-jdbc-java, for tests of stores
+FEATURES = ["cf/testing", "cf/tokio", "cf/rayon", "cf/serde", "cf/tracing", "cf-store/sqlite", "cf-store/postgres", "cf-store/etcd", "cf-store/testing"]
 RUNNING: Set[int] = set()  # processes, each of which leads a group
-HIDDEN = shutil.ignore_patterns("target", "build", "__pycache__", "*.so", "out")
+MADE = ["target", "__pycache__", "*.so", "out"]  # what isn't copied
 
 
 class Missing(Exception):
@@ -85,7 +86,7 @@ class Client:
     def copy(self, name: str) -> Path:
         """A copy of the client in a folder of this name, with what its tests read beside it."""
         folder = self.made / name / "clients" / self.language.client
-        shutil.copytree(self.language.folder, folder, ignore=HIDDEN)
+        shutil.copytree(self.language.folder, folder, ignore=shutil.ignore_patterns(*MADE, *["build"][: self.language.client == "python"]))
         for beside in [path for path in (TOP / "clients").iterdir() if path.name != self.language.client]:
             (folder.parent / beside.name).symlink_to(beside)
         for beside in [TOP / it for it in ["crates", "conformance", "examples"]]:
@@ -141,6 +142,8 @@ class Client:
             for program in self.nearest(mutant.file):
                 if not self.passes(program, mutant, seat) and self.is_sound(program, mutant, seat):
                     return Result(mutant, program.name, time.monotonic() - began)
+            if not self.nearest(mutant.file):
+                raise Missing(f"a test program that may reach {mutant.file} and passes over the code as it is")
             return Result(mutant, "", time.monotonic() - began)
         finally:
             self.take_back(mutant, seat)
@@ -272,10 +275,11 @@ class Rust(Client):
                                 CF_HEADER=str(TOP / "crates/cf_c/include/cf.h"), CF_TOLD=str(TOP / "conformance/requests/told.json"),
                                 CF_PYTHON=str(TOP / "clients/python"))
         has_debians = bool(list(DEBIAN.glob("tokio-postgres-[0-9]*")))
-        self.words = ["--config", "debian.toml", "--offline", "--workspace", *(["--all-features"] if has_debians else ["--features", "cf/testing"])]
-        if not has_debians:
-            say("left out cf-store's stores and what tokio, rayon, serde and tracing have part in: Debian's crates aren't there")
-            self.words = self.words[2:]
+        self.words = ["--offline", "--workspace", "--features", ",".join(FEATURES if has_debians else FEATURES[:1])]
+        if has_debians:
+            self.words = ["--config", "debian.toml", *self.words]
+        else:
+            say("left out what stands on crates of others: Debian's aren't there")
 
     def cargo(self, *words: str) -> Tuple[bool, List[Dict[str, Any]]]:
         """Runs cargo; whether it went well, and its messages."""
@@ -350,11 +354,15 @@ def try_all(client: Client, mutants: Sequence[Mutant], seats: int) -> List[Resul
     def tried(mutant: Mutant) -> None:
         with lock:
             seat = free.pop()
-        result = client.tried(mutant, seat)
+        try:
+            result = client.tried(mutant, seat)
+            with lock:
+                results.append(result)
+                client.say(str(result))
+        except Missing as what:
+            client.say(f"{mutant}: not tried, for want of {what}")
         with lock:
             free.append(seat)
-            results.append(result)
-            client.say(str(result))
 
     together = [it for it in mutants if it.number not in client.apart]
     with ThreadPoolExecutor(seats) as pool:
