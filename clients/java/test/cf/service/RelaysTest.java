@@ -68,6 +68,7 @@ final class RelaysTest {
         }
         is(adopted.isCancelled(), true);
         is(thrown(CancellationException.class, adopted::join).getMessage(), "why");
+        is(Checks.ends(relaying.history())[adopted.number()].startsWith("fault thrown "), true); // So the history says why.
         is(thrown(CompletionException.class, plain::join).getCause() instanceof CancellationException, true);
         CancellationException given = new CancellationException();
         is(thrown(CancellationException.class, relaying.adopt(SERVICE.request().<Integer>failedFuture(given))::join) == given, true);
