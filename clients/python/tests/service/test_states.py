@@ -96,6 +96,13 @@ class Its:
         self.service._works.ends.end_all()
         return ["", "told once"][self.told.count("other")]
 
+    def limit(self):
+        passed = threading.Event()
+        self.promise.add_done_callback(lambda _: passed.set())  # (by then what is behind it has its turn)
+        self.promise.or_timeout(0)
+        passed.wait(20)
+        return self.behind
+
     def shutdown(self, **how):
         self.opens.set()
         self.service.shutdown(**how)
@@ -122,7 +129,7 @@ class Its:
             "complete_on_timeout, of a promise": lambda: promise.complete_on_timeout(5, 0),
             "complete, with a function behind": lambda: promise.complete(1) and self.behind,
             "cancel, with a handler behind": lambda: promise.cancel() and self.behind,
-            "a limit, with a handler behind": lambda: promise.or_timeout(0) and self.behind,
+            "a limit, with a handler behind": self.limit,
             "start, of a flow": lambda: self.start(lambda flow: flow.supply(lambda: 1)),
             "start, of one that waits": lambda: self.start(lambda flow: flow.promise(), 1),
             "result(0), of a promise": lambda: promise.result(0),
