@@ -13,11 +13,26 @@ from case import Case, fails, inc, Oops
 
 class Instead(Case):
     def test_a_deadline_for_a_whole_request(self):
-        last, other = self.request.promise(), self.request.promise()
-        last.or_timeout(0.01).add_done_callback(lambda _: self.request.cancel())
-        self.assertIsInstance(last.exception(20), TimeoutError)
-        with self.assertRaises(concurrent.futures.CancelledError):
-            other.result(20)
+        """Where it ends well, fails, comes too late, and where nobody waits any more."""
+        for how, limit, kind in (("ends", 20, int), ("fails", 20, Oops), ("late", 0.01, TimeoutError), ("left", 20, None)):
+            with self.subTest(how):
+                request, sent = self.service.request(how), []
+                last, other = request.promise(), request.promise()
+
+                def send(value, error, sent=sent):
+                    sent.append(error or value)
+                answered = last.or_timeout(limit).handle(send)
+                answered.add_done_callback(lambda _, request=request: request.cancel())
+                if how == "left":
+                    request.cancel()
+                elif how != "late":
+                    last.complete(7) if how == "ends" else last.fail(Oops("x"))
+                with self.assertRaises(concurrent.futures.CancelledError):
+                    other.result(20)
+                concurrent.futures.wait([answered], 20)
+                self.assertTrue(answered.done())
+                if kind is not None:  # (who has left may still be sent that the request is cancelled)
+                    self.assertEqual(([type(it) for it in sent], answered.result()), ([kind], None))
 
     def test_a_scope(self):
         with self.assertRaises(Oops), contextlib.ExitStack() as scope:
