@@ -269,6 +269,46 @@ fn who_stops_beats_until_its_functions_have_ended() {
 }
 
 #[test]
+fn a_further_try_takes_what_an_earlier_one_has_attached() {
+    let (memory, clock) = (Arc::new(Memory::default()), Clock::new());
+    let watches = Arc::new(Process::new(&memory, &clock, 1, 0, Functions::new(), silent()));
+    let functions = |stops: Option<Arc<Process>>| {
+        let ticks = clock.clone();
+        let loads = move |request: &Request, number: i64| {
+            let loaded = request.supply("inc", &[number.into()])?;
+            for watcher in stops.iter().flat_map(|it| [it; 6]) {
+                ticks.pass(LEASE / 4);
+                watcher.turn();
+            }
+            loaded.then("inc")
+        };
+        Functions::new().with("inc", 1, |number: i64| Ok::<_, String>(number + 1)).composing("loads", 1, loads)
+    };
+    let stops = Process::new(&memory, &clock, 2, 1, functions(Some(Arc::clone(&watches))), silent());
+    let request = stops.service.request("r").unwrap();
+    let number = request.promise("number").unwrap();
+    let last = number.compose("loads").unwrap().again(2).unwrap();
+    let behind_it = last.again(1).unwrap();
+    assert!(number.complete(&1).unwrap());
+    watches.turn();
+    stops.work();
+    assert_eq!(names(&request, "inc"), 1, "it was taken for gone, and attaches nothing any more");
+    let works = Process::new(&memory, &clock, 3, 1, functions(None), silent());
+    works.turn();
+    let request = works.service.open("r").unwrap();
+    works.work();
+    for stage in [last, behind_it] {
+        assert_eq!(request.stage(stage.number()).unwrap().peek::<i64>(), Ok(Some(3)));
+    }
+    assert_eq!(names(&request, "inc"), 2, "what was attached before isn't attached once more");
+}
+
+/// How many stages have this name.
+fn names(request: &Request, name: &str) -> usize {
+    (0..).map_while(|number| request.stage(number)).filter(|stage| stage.name().unwrap() == name).count()
+}
+
+#[test]
 fn a_value_that_is_refused_for_a_while_is_not_lost() {
     // So many puts of its finish are refused, and whether beats are, too, as long; what stands then.
     let rows = [(1, true, Ok(7)), (2, true, Err("StoreError")), (3, true, Ok(7)), (1, false, Ok(7)), (2, false, Ok(7)), (9, false, Ok(7))];

@@ -28,9 +28,20 @@ pub(crate) struct Said {
     /// The promise for what a composing stage's function gives.
     #[serde(default, skip_serializing_if = "Option::is_none")]
     pub(crate) to: Option<u16>,
+    /// The composing stage whose function attached it.
+    #[serde(default, skip_serializing_if = "Option::is_none")]
+    pub(crate) by: Option<u16>,
     /// What goes along of the context in which it was attached.
     #[serde(default, skip_serializing_if = "Option::is_none")]
     pub(crate) context: Option<Map<String, Value>>,
+}
+
+impl Said {
+    /// Whether the functions of two stages are to do the same.
+    pub(crate) fn is_alike(&self, other: &Said) -> bool {
+        let bare = |said: &Said| Said { to: None, context: None, ..said.clone() };
+        bare(self) == bare(other)
+    }
 }
 
 #[derive(Serialize, Deserialize)]
@@ -56,6 +67,8 @@ struct Row {
 #[derive(Debug)]
 pub(crate) struct SharedPlan {
     pub(crate) plan: Plan,
+    /// The name of its flow.
+    pub(crate) flow: String,
     pub(crate) stages: Vec<(Form, Vec<u16>, Said)>,
     /// What goes along of the context in which it was begun.
     pub(crate) context: Map<String, Value>,
@@ -67,8 +80,6 @@ pub(crate) fn text_of(flow: &str, stages: Vec<(Form, Vec<u16>, Said)>, context: 
     let stages = stages.into_iter().map(|(form, of, said)| Row { form: name(form).into(), of, said }).collect();
     let text = Text { cf: FORMAT, flow: flow.into(), stages, context };
     serde_json::to_string(&text).map_err(|error| StoreError::Refused(error.to_string()))
-    /// The name of its flow.
-    pub(crate) flow: String,
 }
 
 /// Whether two texts are of one plan, wherever it was begun.
@@ -107,7 +118,7 @@ pub(crate) fn said_in(payload: &[u8], number: usize) -> Result<Said, String> {
 
 /// The stages that it speaks of are lower.
 fn checked(said: Said, number: usize) -> Result<Said, String> {
-    if [said.again, said.to].into_iter().flatten().any(|stage| usize::from(stage) >= number.max(1)) {
+    if [said.again, said.to, said.by].into_iter().flatten().any(|stage| usize::from(stage) >= number.max(1)) {
         return Err(format!("it names a stage that isn't lower than {number}"));
     }
     Ok(said)

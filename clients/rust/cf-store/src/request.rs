@@ -46,6 +46,19 @@ pub struct Stage {
 thread_local! {
     /// Where the request is whose transactional function this thread runs, or 0.
     static TRANSACTS: Cell<usize> = const { Cell::new(0) };
+    /// The composing stage whose function this thread runs.
+    static COMPOSES: RefCell<Option<Composing>> = const { RefCell::new(None) };
+}
+
+/// A stage whose function attaches stages.
+struct Composing {
+    /// Where its request is.
+    inner: usize,
+    stage: u16,
+    /// The one whose function it is: the same, or that of which this is a further try.
+    first: u16,
+    /// What it has attached, and what of an earlier try it has found in the place of that.
+    taken: BTreeSet<u16>,
 }
 
 /// What a process has once of each request.
@@ -53,12 +66,17 @@ pub(crate) struct Inner {
     pub(crate) name: String,
     pub(crate) number: i64,
     host: Arc<dyn Host>,
+    store: Arc<dyn Store>,
     view: Arc<Mutex<View>>,
     /// Where a store lets nobody else put during a transaction: taken before the view by who puts, and a transactional function runs with it. So this
     /// process's other threads wait there then, and not in the store with the view, which the function's finish needs.
     writes: Option<Mutex<()>>,
+    /// How often something was shown: who waits never waits for the view.
+    shown: Mutex<u64>,
     /// Told when stages were settled, and when the service ends.
     changed: Condvar,
+    /// Payloads that are read for who waits, by their places.
+    reads: Mutex<BTreeMap<usize, Reading>>,
     /// How many entries were seen.
     pub(crate) seen: AtomicUsize,
     /// How many the store has said that there are.
@@ -66,17 +84,12 @@ pub(crate) struct Inner {
     /// Whether a thread is to look what is to do.
     pub(crate) is_queued: AtomicBool,
     /// Whether it is closed in the store, as far as is known.
-    store: Arc<dyn Store>,
     pub(crate) is_closed: AtomicBool,
     /// Whether that has yet to be taken back.
     pub(crate) reopens: AtomicBool,
     /// Why it can't be gone on with.
-    /// How often something was shown: who waits never waits for the view.
-    shown: Mutex<u64>,
     fault: Mutex<Option<StoreError>>,
     /// The stages that somebody was given.
-    /// Payloads that are read for who waits, by their places.
-    reads: Mutex<BTreeMap<usize, Reading>>,
     #[cfg(feature = "testing")]
     pub(crate) given: Mutex<std::collections::BTreeSet<u16>>,
 }
@@ -89,9 +102,12 @@ impl Inner {
             seen: AtomicUsize::new(view.seen()),
             told: AtomicUsize::new(0),
             host: Arc::clone(host),
+            store: Arc::clone(&view.store),
             view: Arc::new(Mutex::new(view)),
             writes: locks_out.then(Mutex::default),
+            shown: Mutex::default(),
             changed: Condvar::new(),
+            reads: Mutex::default(),
             is_queued: AtomicBool::new(false),
             is_closed: AtomicBool::new(false),
             reopens: AtomicBool::new(false),
@@ -102,12 +118,9 @@ impl Inner {
     }
 
     pub(crate) fn view(&self) -> MutexGuard<'_, View> {
-            store: Arc::clone(&view.store),
         self.host.until_free(&self.view);
         self.view.lock().unwrap_or_else(PoisonError::into_inner)
-            shown: Mutex::default(),
     }
-            reads: Mutex::default(),
 
     /// The view, where no other thread has it now.
     pub(crate) fn try_view(&self) -> Option<MutexGuard<'_, View>> {
@@ -122,26 +135,13 @@ impl Inner {
     pub(crate) fn show(&self, view: MutexGuard<'_, View>) {
         self.seen.store(view.seen(), Ordering::Relaxed);
         drop(view);
-        self.changed.notify_all();
-    }
-
-    pub(crate) fn catch_up(&self) -> Result<(), StoreError> {
-        self.read(self.view())
-    }
-
-    /// Does the same where the store has said that there is more than is seen.
-    pub(crate) fn catch_up_if_told(&self) -> Result<(), StoreError> {
-        let view = self.view(); // (a put of this process's is seen by then)
-        if self.told.load(Ordering::SeqCst) <= view.seen() {
-            return Ok(());
-        }
         self.wake();
     }
 
     /// Has those who wait look again.
     pub(crate) fn wake(&self) {
         *locked(&self.shown) += 1;
-        self.read(view)
+        self.changed.notify_all();
     }
 
     /// What was read of a payload for who waits.
@@ -188,6 +188,19 @@ impl Inner {
         answers
     }
 
+    pub(crate) fn catch_up(&self) -> Result<(), StoreError> {
+        self.read(self.view())
+    }
+
+    /// Does the same where the store has said that there is more than is seen.
+    pub(crate) fn catch_up_if_told(&self) -> Result<(), StoreError> {
+        let view = self.view(); // (a put of this process's is seen by then)
+        if self.told.load(Ordering::SeqCst) <= view.seen() {
+            return Ok(());
+        }
+        self.read(view)
+    }
+
     fn read(&self, mut view: MutexGuard<'_, View>) -> Result<(), StoreError> {
         let told = view.catch_up();
         self.show(view);
@@ -225,11 +238,31 @@ impl Inner {
         act()
     }
 
+    /// Runs the function of a composing stage, on this thread.
+    pub(crate) fn composing<T>(&self, stage: u16, first: u16, act: impl FnOnce() -> T) -> T {
+        struct Composes;
+        impl Drop for Composes {
+            fn drop(&mut self) {
+                COMPOSES.with(|it| drop(it.take()));
+            }
+        }
+        let inner = self as *const Inner as usize;
+        COMPOSES.with(|it| drop(it.replace(Some(Composing { inner, stage, first, taken: BTreeSet::new() }))));
+        let _composes = Composes;
+        act()
+    }
+
+    /// Asks of the composing stage of this request whose function this thread runs.
+    fn composed<T>(&self, ask: impl FnOnce(&mut Composing) -> T) -> Option<T> {
+        COMPOSES.with(|it| it.borrow_mut().as_mut().filter(|it| it.inner == self as *const Inner as usize).map(ask))
+    }
+
     /// Has those who wait told that it can't be gone on with.
     pub(crate) fn fail(&self, fault: StoreError) {
         *locked(&self.fault) = Some(fault);
         self.wake();
     }
+}
 
 /// What becomes of a payload that is read for who waits.
 enum Reading {
@@ -265,7 +298,6 @@ impl Request {
     pub fn promise(&self, name: &str) -> Result<Stage, StoreError> {
         self.attach(Form::Source, Of::None, Said { name: name.into(), ..Said::default() })
     }
-}
 
     /// A stage that ends once all of these are settled: with null if all have values, else as the first one in this order that has none. For n stages
     /// it takes n - 1, at least one.
@@ -281,6 +313,7 @@ impl Request {
     /// A stage that ends with the list of the values of all of these, in this order, or fails as [`all_of`](Request::all_of) does. For n stages it
     /// takes 2 n - 1. [`StoreError::Refused`] of none.
     pub fn gather(&self, of: &[&Stage]) -> Result<Stage, StoreError> {
+        self.has_all(of)?;
         let attach = |form, of, function: &str| self.attach(form, of, Said { name: "gather".into(), ..self.said(function)? });
         let mut row = of.iter().map(|it| attach(Form::Apply, Of::One(it.number), "cf.gather")).collect::<Result<Vec<_>, _>>()?;
         while row.len() > 1 {
@@ -313,7 +346,6 @@ impl Request {
         for number in 0..view.len() as u16 {
             if view.said(number)?.name == name {
                 return Ok(Some(Stage::of(self, number)));
-        self.has_all(of)?;
             }
         }
         Ok(None)
@@ -354,29 +386,49 @@ impl Request {
     }
 
     fn attach(&self, form: Form, of: Of, said: Said) -> Result<Stage, StoreError> {
-        let payload = bytes_said(&said)?;
-        self.attached(|view| {
+        self.attached(form, of, said, |view, said| {
             let function = crate::plan::has_function(form).then_some(view.len() as u16);
-            Ok(vec![Wanted { call: Call::Attach(form, of, function), payload: Some(payload.clone()) }])
+            Ok(vec![Wanted { call: Call::Attach(form, of, function), payload: Some(bytes_said(said)?) }])
         })
     }
 
     /// Attaches a stage that composes, below which stands the promise for what comes.
-    fn compose(&self, source: u16, function: &str) -> Result<Stage, StoreError> {
-        let own = self.said(function)?;
-        let promise = bytes_said(&Said { name: format!("what {function} gives"), ..Said::default() })?;
-        self.attached(|view| {
+    fn compose(&self, form: Form, source: u16, said: Said) -> Result<Stage, StoreError> {
+        let promise = bytes_said(&Said { name: format!("what {} gives", said.name), ..Said::default() })?;
+        self.attached(form, Of::One(source), said, |view, said| {
             let number = view.len() as u16;
-            let own = bytes_said(&Said { to: Some(number), ..own.clone() })?;
+            let own = bytes_said(&Said { to: Some(number), ..said.clone() })?;
             Ok(vec![
                 Wanted { call: Call::Attach(Form::Source, Of::None, None), payload: Some(promise.clone()) },
-                Wanted { call: Call::Attach(Form::Compose, Of::One(source), Some(number + 1)), payload: Some(own) },
+                Wanted { call: Call::Attach(form, Of::One(source), Some(number + 1)), payload: Some(own) },
             ])
         })
     }
 
-    /// Puts words that attach stages, and gives the last of these.
-    fn attached(&self, decide: impl FnMut(&mut View) -> Result<Vec<Wanted>, StoreError>) -> Result<Stage, StoreError> {
+    /// Puts words that attach stages, the last of which is of this form, and gives that; or the one that an earlier try of the function has attached
+    /// that runs on this thread.
+    fn attached(
+        &self,
+        form: Form,
+        of: Of,
+        mut said: Said,
+        words: impl Fn(&mut View, &Said) -> Result<Vec<Wanted>, StoreError>,
+    ) -> Result<Stage, StoreError> {
+        said.by = self.inner.composed(|it| it.first);
+        let mut found = None;
+        let decide = |view: &mut View| {
+            if let Some((stage, first, taken)) = self.inner.composed(|it| (it.stage, it.first, it.taken.clone())) {
+                if !view.has(stage)? {
+                    let why = format!("{:?} is settled, and its function attaches nothing any more", view.said(first)?.name);
+                    return Err(StoreError::Refused(why));
+                }
+                found = if stage == first { None } else { view.attached_so(form, of, &said, &taken)? };
+            }
+            if found.is_some() {
+                return Ok(Vec::new());
+            }
+            words(view, &said)
+        };
         let may_be_closed = self.inner.view().is_planned() || self.inner.is_closed.load(Ordering::Relaxed);
         if may_be_closed {
             // (also where this call fails, a thread of the service does it)
@@ -387,10 +439,12 @@ impl Request {
         let reopened = if done.is_ok() { self.service.reopen(&self.inner) } else { Ok(()) };
         self.service.go_on(&self.inner);
         reopened?;
-        match done?.last().map(|it| it.reply) {
-            Some(Reply::Attached(Some(number))) => Ok(Stage::of(self, number)),
-            _ => Err(StoreError::Full),
-        }
+        let number = match (found, done?.last().map(|it| it.reply)) {
+            (Some(number), _) | (None, Some(Reply::Attached(Some(number)))) => number,
+            _ => return Err(StoreError::Full),
+        };
+        self.inner.composed(|it| it.taken.insert(number));
+        Ok(Stage::of(self, number))
     }
 
     /// Completes a flow's promises, but those that are settled.
@@ -403,8 +457,18 @@ impl Request {
         Ok(())
     }
 
+    fn has_all(&self, of: &[&Stage]) -> Result<(), StoreError> {
+        match of.iter().find(|it| !Arc::ptr_eq(&it.request.inner, &self.inner)) {
+            None => Ok(()),
+            Some(other) => {
+                Err(StoreError::Refused(format!("stage {} is one of request {:?}, not of {:?}", other.number, other.request.name(), self.name())))
+            }
+        }
+    }
+
     /// An attached stage has at most two sources; a tree of them tells what one stage of all would.
     fn tree(&self, form: Form, of: &[&Stage], name: &str) -> Result<Stage, StoreError> {
+        self.has_all(of)?;
         let mut row: Vec<u16> = of.iter().map(|it| it.number).collect();
         let said = || Said { name: name.into(), ..Said::default() };
         while row.len() > 2 {
@@ -450,25 +514,17 @@ impl Stage {
 
     /// Has a registered function called with the values of this stage and another one of the request.
     pub fn combine(&self, other: &Stage, function: &str) -> Result<Stage, StoreError> {
+        self.request.has_all(&[other])?;
         self.behind(Form::Combine, Of::Two(self.number, other.number), function)
     }
 
     /// Has a registered function called with the value of this stage or of another one of the request, whichever is settled first.
     pub fn either(&self, other: &Stage, function: &str) -> Result<Stage, StoreError> {
+        self.request.has_all(&[other])?;
         self.behind(Form::ApplyEither, Of::Two(self.number, other.number), function)
     }
-    fn has_all(&self, of: &[&Stage]) -> Result<(), StoreError> {
-        match of.iter().find(|it| !Arc::ptr_eq(&it.request.inner, &self.inner)) {
-            None => Ok(()),
-            Some(other) => {
-                Err(StoreError::Refused(format!("stage {} is one of request {:?}, not of {:?}", other.number, other.request.name(), self.name())))
-            }
-        }
-    }
-
 
     /// Has a registered function called with the value, or null, and the [`Failed`], or null.
-        self.has_all(of)?;
     pub fn handle(&self, function: &str) -> Result<Stage, StoreError> {
         self.behind(Form::Handle, Of::One(self.number), function)
     }
@@ -483,7 +539,7 @@ impl Stage {
     /// registered by [`Functions::composing`](crate::Functions::composing). It is called with the request, as the process has it that runs the
     /// function, and with the value, and gives a stage of the request. The stage that is given back ends as that one does. It takes two stages.
     pub fn compose(&self, function: &str) -> Result<Stage, StoreError> {
-        self.request.compose(self.number, function)
+        self.request.compose(Form::Compose, self.number, self.request.said(function)?)
     }
 
     /// Has a registered function called with the [`Failed`] that this stage ends in, if it does, and takes its result.
@@ -492,16 +548,20 @@ impl Stage {
     }
 
     /// Plans further tries, for the case that the process that runs this stage's function dies. The function may have done its work before, and does
-    /// it once more with each try, unless it is transactional. It gives the last try, which passes on the value of an earlier one. A stage that
-    /// composes has no further tries: [`StoreError::Refused`].
+    /// it once more with each try, unless it is transactional. It gives the last try, which passes on the value of an earlier one.
+    ///
+    /// Of a stage that composes each try takes two stages. What an earlier try has attached isn't attached once more, if the function attaches the same
+    /// on its own thread: a stage of the same kind, name, function, arguments and sources.
     pub fn again(&self, times: usize) -> Result<Stage, StoreError> {
-        if self.request.inner.view().said(self.number)?.to.is_some() {
-            return Err(StoreError::Refused("a stage that composes has no further tries; those that its function attaches may".into()));
-        }
+        let composes = self.request.inner.view().said(self.number)?.to.is_some();
         let said = Said { name: format!("{} again", self.name()?), again: Some(self.number), context: context::captured(), ..Said::default() };
         let mut stage = self.clone();
         for _ in 0..times {
-            stage = self.request.attach(Form::Exceptionally, Of::One(stage.number), said.clone())?;
+            stage = if composes {
+                self.request.compose(Form::ExceptionallyCompose, stage.number, said.clone())?
+            } else {
+                self.request.attach(Form::Exceptionally, Of::One(stage.number), said.clone())?
+            };
         }
         Ok(stage)
     }
@@ -514,13 +574,11 @@ impl Stage {
     pub fn complete<T: Serialize + ?Sized>(&self, value: &T) -> Result<bool, StoreError> {
         let payload = payload_of(value)?;
         self.settle(Call::Complete(self.number, Value::Nil), payload, false)
-        self.request.has_all(&[other])?;
     }
 
     /// Settles the stage with an error, unless it is settled. Whether this call settled it.
     pub fn fail(&self, failed: &Failed) -> Result<bool, StoreError> {
         self.settle(Call::Fail(self.number, 0), Some(bytes_of(failed)), false)
-        self.request.has_all(&[other])?;
     }
 
     /// Cancels the stage, unless it is settled or its function runs in some process. Whether it is cancelled after the call.
@@ -609,6 +667,7 @@ impl Stage {
             if self.request.service.is_over() {
                 return Err(StoreError::Refused("the service is shut down".into()).into());
             }
+            let until = if pause.is_some() { until.map(|it| it.max(least)) } else { until };
             let left = until.map(|it| it.saturating_duration_since(inner.host.now()));
             if left == Some(Duration::ZERO) {
                 return Ok(None);
@@ -653,6 +712,14 @@ impl Stage {
     }
 }
 
+/// What who waits is told.
+enum Look {
+    Ended(Result<Json, Error>),
+    Open,
+    /// It is to look again after so long, or once more was shown.
+    Later(Duration),
+}
+
 /// Whether a view, if nobody has it, knows that a stage is settled.
 fn is_shown(view: &Mutex<View>, stage: u16) -> bool {
     match view.try_lock() {
@@ -664,6 +731,12 @@ fn is_shown(view: &Mutex<View>, stage: u16) -> bool {
 
 const CANCELLED: State = State::Settled(Outcome::Fault { cause: cf_graph::Cause::Cancelled, wrapped: false });
 
+/// Until who waits looks again, where another thread has the view.
+const BETWEEN_LOOKS: Duration = Duration::from_millis(2);
+/// Until a payload is asked for again.
+const BETWEEN_READS: Duration = Duration::from_millis(100);
+/// For so long at least a payload is waited for.
+const LEAST_READING: Duration = Duration::from_millis(200);
 /// Promises that are completed in one put.
 const MOST_GIVEN: usize = 32;
 
@@ -686,7 +759,6 @@ pub(crate) fn fired(timer: &Timer) -> Wanted {
         _ => Wanted { call: Call::Complete(timer.stage, Value::Nil), payload: None },
     }
 }
-            let until = if pause.is_some() { until.map(|it| it.max(least)) } else { until };
 
 /// What a function gave.
 pub(crate) enum Given {
@@ -712,18 +784,4 @@ impl fmt::Debug for Request {
     fn fmt(&self, f: &mut fmt::Formatter<'_>) -> fmt::Result {
         f.debug_struct("Request").field("name", &self.inner.name).finish_non_exhaustive()
     }
-/// What who waits is told.
-enum Look {
-    Ended(Result<Json, Error>),
-    Open,
-    /// It is to look again after so long, or once more was shown.
-    Later(Duration),
 }
-
-}
-/// Until who waits looks again, where another thread has the view.
-const BETWEEN_LOOKS: Duration = Duration::from_millis(2);
-/// Until a payload is asked for again.
-const BETWEEN_READS: Duration = Duration::from_millis(100);
-/// For so long at least a payload is waited for.
-const LEAST_READING: Duration = Duration::from_millis(200);

@@ -98,6 +98,8 @@ pub(crate) enum Job {
 /// A stage that this session has, with its function and what that is called with, or with what it ends in without a call.
 struct Task {
     stage: u16,
+    /// The one whose function it calls: itself, or that of which it is a further try.
+    first: u16,
     name: String,
     version: u32,
     given: Result<Vec<Json>, Failed>,
@@ -133,10 +135,10 @@ impl Looks {
     }
 }
 
-
-impl Service {
 /// What a function came to, if there is one whose finish is to be put.
 type Ended = Option<(u16, Result<Given, Failed>)>;
+
+impl Service {
     /// A service of a store that runs these functions, with the usual [`Options`].
     pub fn new(store: impl Store + 'static, functions: Functions) -> Result<Service, StoreError> {
         Service::with(store, functions, Options::default())
@@ -151,9 +153,9 @@ type Ended = Option<(u16, Result<Given, Failed>)>;
         if functions.transact() && !store.transacts() {
             return Err(StoreError::Refused("the store has no transactions that a function can take part in".into()));
         }
+        let session = host.number(SESSION_BITS);
         let shared = Arc::new(Shared {
             store,
-        let session = host.number(SESSION_BITS);
             functions,
             session,
             sessions: Arc::new(Sessions::new(session, options.lease, host.now())),
@@ -162,9 +164,9 @@ type Ended = Option<(u16, Result<Given, Failed>)>;
             jobs: Mutex::default(),
             work: Condvar::new(),
             stops: AtomicBool::new(false),
+            rests: AtomicBool::new(false),
             unknown: Mutex::default(),
             firing: Mutex::default(),
-            rests: AtomicBool::new(false),
             options,
         });
         let mut service = Service { shared, pump: None, threads: Vec::new() };
@@ -247,10 +249,10 @@ impl Drop for Service {
             pump.thread().unpark();
             let _panicked = pump.join();
         }
-        }
-        let _others_see_its_silence = self.shared.store.drop_beat(self.shared.session);
         for inner in self.shared.all() {
             inner.wake();
+        }
+        let _others_see_its_silence = self.shared.store.drop_beat(self.shared.session);
     }
 }
 
@@ -435,10 +437,10 @@ impl Shared {
             thread::park_timeout(LONGEST_PAUSE.min(self.options.lease / 5));
             let _tried_again = self.beat_if_due(&mut looks);
         }
-    pub(crate) fn round(self: &Arc<Shared>, looks: &mut Looks) -> Result<(), StoreError> {
-        let is_whole = self.beat_if_due(looks)?;
     }
 
+    pub(crate) fn round(self: &Arc<Shared>, looks: &mut Looks) -> Result<(), StoreError> {
+        let is_whole = self.beat_if_due(looks)?;
         let now = self.host.now();
         if now >= looks.next_timers {
             looks.next_timers = now + BETWEEN_TIMERS;
@@ -450,9 +452,9 @@ impl Shared {
             self.submit(Job::LetGo(inner));
         }
         for (name, end) in ends {
+            self.beat_if_due(looks)?; // (rows that are read for the first time may be many and long)
             let Some(inner) = self.taken(&name) else { continue };
             inner.told.fetch_max(end, Ordering::SeqCst);
-            self.beat_if_due(looks)?; // (rows that are read for the first time may be many and long)
             // (who has the view looks)
             let needs = |inner: &Inner| inner.try_view().map_or(false, |mut view| self.needs(inner, &mut view));
             if end > inner.seen.load(Ordering::Relaxed) || (is_whole || end == 0) && needs(&inner) {
@@ -473,11 +475,11 @@ impl Shared {
         self.beat(&mut looks.is_named).map(|()| true)
     }
 
-        if !*is_named {
-            self.store.name_session(self.session, &format!("rust {}", std::process::id()))?;
     pub(crate) fn beat(&self, is_named: &mut bool) -> Result<(), StoreError> {
         self.store.beat(self.session)?;
         self.sessions.beaten();
+        if !*is_named {
+            self.store.name_session(self.session, &format!("rust {}", std::process::id()))?;
             *is_named = true;
         }
         let gone = self.sessions.look(self.host.now(), self.store.beats());
@@ -659,9 +661,9 @@ impl Shared {
                 let mut wanted = Vec::with_capacity(2);
                 let mut held = None;
                 if let Some((stage, result)) = &ended {
+                    let result = refused.as_ref().unwrap_or(result);
                     let (answer, payload) = answer_of(result, view.seen() + 1);
                     wanted.extend(view.finish(*stage, answer, payload)?);
-                    let result = refused.as_ref().unwrap_or(result);
                     held = Some((*stage, answer));
                 }
                 chosen = self.choice(view, &inner.name, held)?;
@@ -720,11 +722,8 @@ impl Shared {
 
     /// What is said of the function that a stage calls, and of the stage that it tries again.
     fn said(&self, view: &mut View, stage: u16) -> Result<(Said, Option<u16>), StoreError> {
-        let said = view.said(stage)?;
-        match said.again {
-            Some(again) => Ok((view.said(again)?, Some(again))),
-            None => Ok((said, None)),
-        }
+        let again = view.tried_again(stage)?;
+        Ok((view.said(again.unwrap_or(stage))?, again))
     }
 
     /// Whether a stage's function is registered here, as one of the kind that the stage calls, and with names for its arguments where the stage gives
@@ -739,17 +738,18 @@ impl Shared {
 
     /// The name and version of a stage's function that can't be called here.
     pub(crate) fn lacks(&self, view: &mut View, stage: u16) -> Result<Option<(String, u32)>, StoreError> {
-        let (said, _) = self.said(view, stage)?;
+        let (said, again) = self.said(view, stage)?;
         let (function, version) = (said.function.unwrap_or_default(), said.version.unwrap_or_default());
         let form = view.form(stage).0;
+        let composes = form == Form::Compose || form == Form::ExceptionallyCompose && again.is_some();
         let knows = self.functions.of(&function, version).map_or(false, |known| {
             let fits = match known.kind {
-                Kind::Composes(_) => form == Form::Compose,
+                Kind::Composes(_) => composes,
                 Kind::Plain(_) | Kind::Transacts(_) => !matches!(form, Form::Compose | Form::ExceptionallyCompose),
             };
             fits && (said.kwargs.is_empty() || !known.names.is_empty())
         });
-        if knows && form == Form::Compose && said.to.is_none() {
+        if knows && composes && view.said(stage)?.to.is_none() {
             return Err(StoreError::broken(
                 &view.opened.name,
                 view.attached(stage),
@@ -763,8 +763,8 @@ impl Shared {
     fn task(&self, inner: &Inner, stage: u16, args: Args) -> Result<Task, StoreError> {
         let view = &mut inner.view();
         let (said, again) = self.said(view, stage)?;
-        let carried = view.carried(stage)?;
-        let (name, version, to) = (said.function.unwrap_or_default(), said.version.unwrap_or_default(), said.to);
+        let (carried, to) = (view.carried(stage)?, view.said(stage)?.to);
+        let (name, version) = (said.function.unwrap_or_default(), said.version.unwrap_or_default());
         let mut given = arguments(view, stage, args)?;
         let mut ends = None;
         if let Some(first) = again {
@@ -780,7 +780,7 @@ impl Shared {
             };
         }
         let given = ends.map_or(Ok(if said.args.is_empty() { given } else { said.args }), Err);
-        Ok(Task { stage, name, version, given, named: said.kwargs, carried, to })
+        Ok(Task { stage, first: again.unwrap_or(stage), name, version, given, named: said.kwargs, carried, to })
     }
 
     /// Calls a function, and puts its finish; what was claimed with it.
@@ -802,7 +802,8 @@ impl Shared {
             (Kind::Plain(function), Some((args, _))) => function(args).map(Given::Value),
             (Kind::Transacts(function), Some((args, Some(connection)))) => function(connection, args).map(Given::Value),
             (Kind::Composes(function), Some((args, _))) => {
-                let given = function(&Request { inner: Arc::clone(inner), service: Arc::clone(self) }, args)?;
+                let request = Request { inner: Arc::clone(inner), service: Arc::clone(self) };
+                let given = inner.composing(task.stage, task.first, || function(&request, args))?;
                 match task.to.filter(|_| Arc::ptr_eq(&given.request.inner, inner)) {
                     Some(promise) => Ok(Given::Stage { promise, stage: given.number }),
                     None => Err(Failed::new("TypeError", format!("{} has to give a stage of its request", task.name))),
@@ -910,20 +911,20 @@ fn again_with(view: &mut View, stage: u16) -> Result<Vec<Json>, StoreError> {
         return arguments(view, stage, args);
     }
     let (form, of) = view.form(stage);
-    let (mut values, mut failed) = (Vec::with_capacity(2), Json::Null);
     let of = of.to_vec();
+    let (mut values, mut failed) = (Vec::with_capacity(2), Json::Null);
     for source in of {
         values.push(match view.end_of(source)? {
             Some(Ok(value)) => Some(value),
             Some(Err(error)) => {
                 failed = failure(error)?;
-            }
                 None
+            }
             None => None,
         });
     }
-    Ok(match form {
     let mut values = values.into_iter();
+    Ok(match form {
         Form::Exceptionally => vec![failed],
         Form::Handle | Form::WhenComplete => vec![values.next().flatten().unwrap_or_default(), failed],
         Form::ApplyEither => vec![values.flatten().next().unwrap_or_default()], // (null is a value, too)

@@ -72,10 +72,10 @@ pub(crate) struct View {
     stages: Vec<Known>,
     /// How many stages the plan has.
     planned: usize,
-    /// What goes along with their functions.
-    context: Map<String, Json>,
     /// Which steps of flows these are.
     steps: Prints,
+    /// What goes along with their functions.
+    context: Map<String, Json>,
     room: usize,
     /// How many entries were seen.
     seen: usize,
@@ -148,6 +148,11 @@ impl View {
         self.stages.len()
     }
 
+    /// Whether a step is of the flow with which the request was begun.
+    pub(crate) fn has_step(&self, step: Step) -> bool {
+        self.steps.have(step)
+    }
+
     /// Whether the request is a flow's.
     pub(crate) fn is_planned(&self) -> bool {
         self.planned > 0
@@ -175,11 +180,6 @@ impl View {
 
     /// The stages whose claim is open, rising, each with the session to which it was granted. Some may be settled already.
     fn claims(&mut self) -> Result<Vec<(u16, u64)>, StoreError> {
-    /// Whether a step is of the flow with which the request was begun.
-    pub(crate) fn has_step(&self, step: Step) -> bool {
-        self.steps.have(step)
-    }
-
         rising(|from| self.row.open_claim(from), |claim| claim.0)
     }
 
@@ -355,12 +355,7 @@ impl View {
         let is_own = self.doubt.remove(&entry.token).is_some();
         match (call, reply) {
             (Call::Attach(form, of, _), Reply::Attached(Some(_))) => {
-                let of = match of {
-                    Of::None => vec![],
-                    Of::One(first) => vec![first],
-                    Of::Two(first, second) => vec![first, second],
-                };
-                self.stages.push(Known { form, of, said: None, attached: place, settled: 0, failed: 0 });
+                self.stages.push(Known { form, of: sources(of), said: None, attached: place, settled: 0, failed: 0 });
             }
             (Call::Claim(stage), Reply::Claimed(Claimed::Granted(args))) => {
                 self.granted.insert(stage, args);
@@ -377,6 +372,11 @@ impl View {
         self.take_news(call, place);
         let done = Done { call, reply };
         if is_own {
+            self.tells(entry.word, &done);
+        }
+        Ok(done)
+    }
+
     /// What a word that comes tells of sessions: whose it is is there, and who fails a stage that this one has may have taken it for gone.
     fn hear(&mut self, entry: Entry, call: Call) -> Result<(), StoreError> {
         let session = entry.session();
@@ -388,11 +388,6 @@ impl View {
             self.sessions.give_up();
         }
         Ok(())
-    }
-
-            self.tells(entry.word, &done);
-        }
-        Ok(done)
     }
 
     /// Says that a word of this view's stands, which was seen last.
@@ -468,6 +463,27 @@ impl View {
             Some(said) => Ok(said.clone()),
             None => plan::said_in(&self.payload(known.attached)?, usize::from(stage)).map_err(|why| self.unreadable(known.attached, &why)),
         }
+    }
+
+    /// The stage whose function a further try calls, if a stage is one.
+    pub(crate) fn tried_again(&mut self, stage: u16) -> Result<Option<u16>, StoreError> {
+        let (mut first, mut last) = (None, stage);
+        while let Some(before) = self.said(last)?.again.filter(|it| *it < last) {
+            (first, last) = (Some(before), before);
+        }
+        Ok(first)
+    }
+
+    /// The first attached stage of this form behind these, of which this is said, and which isn't one of those that were taken.
+    pub(crate) fn attached_so(&mut self, form: Form, of: Of, said: &Said, taken: &BTreeSet<u16>) -> Result<Option<u16>, StoreError> {
+        let of = sources(of);
+        for stage in (self.planned..self.stages.len()).map(|it| it as u16).filter(|it| !taken.contains(it)) {
+            let known = &self.stages[usize::from(stage)];
+            if known.form == form && known.of == of && self.said(stage)?.is_alike(said) {
+                return Ok(Some(stage));
+            }
+        }
+        Ok(None)
     }
 
     /// Takes in what is said of a stage, and of those that were attached behind it: one question of the store for many.
@@ -629,6 +645,14 @@ impl View {
     }
 }
 
+fn sources(of: Of) -> Vec<u16> {
+    match of {
+        Of::None => vec![],
+        Of::One(first) => vec![first],
+        Of::Two(first, second) => vec![first, second],
+    }
+}
+
 /// What a question tells that asks for the lowest from a number on, asked again and again.
 fn rising<T>(mut ask: impl FnMut(u16) -> Result<Option<T>, Refused>, number: impl Fn(&T) -> u16) -> Result<Vec<T>, StoreError> {
     let (mut told, mut from) = (Vec::new(), 0);
@@ -637,6 +661,11 @@ fn rising<T>(mut ask: impl FnMut(u16) -> Result<Option<T>, Refused>, number: imp
         told.push(it);
     }
     Ok(told)
+}
+
+/// That a word names a payload that isn't there.
+pub(crate) fn missing(request: &str, place: usize) -> StoreError {
+    StoreError::broken(request, place, "no payload is there, and a word names it")
 }
 
 /// An error as bytes.
@@ -663,11 +692,6 @@ pub(crate) fn sure<T>(host: &dyn Host, mut call: impl FnMut() -> Result<T, Store
         match call() {
             Err(StoreError::Unknown(why)) if host.now() > until => return Err(StoreError::Unknown(why)),
             Err(StoreError::Unknown(_)) => host.sleep(pause),
-/// That a word names a payload that isn't there.
-pub(crate) fn missing(request: &str, place: usize) -> StoreError {
-    StoreError::broken(request, place, "no payload is there, and a word names it")
-}
-
             told => return told,
         }
         pause = (pause * 2).min(Duration::from_millis(500));

@@ -55,7 +55,6 @@ fn a_function_gives_a_stage_to_wait_for() {
     assert_eq!(late.peek::<i64>(), Ok(None));
     assert!(found.unwrap().complete(&7).unwrap());
     assert_eq!(settled::<i64>(&late), Ok(7));
-    assert!(matches!(late.again(1), Err(StoreError::Refused(_))));
     fits(&request.history().unwrap().account().unwrap());
 
     let other = service.request("another").unwrap();
