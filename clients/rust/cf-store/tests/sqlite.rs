@@ -235,6 +235,25 @@ fn a_try_whose_process_is_gone_is_done_once_more() {
     assert_eq!(told, Err(Error::Failed(Failed::new("Closed", "we are closed"))));
 }
 
+#[test]
+fn a_try_of_a_try_calls_the_function_of_the_first_stage() {
+    let place = Place::new("tries");
+    let mut nobody = quick();
+    nobody.threads = 0;
+    let planner = Service::with(place.store(), Functions::new().with("inc", 1, add_one), nobody).unwrap();
+    let request = planner.request("tries").unwrap();
+    let number = request.promise("number").unwrap();
+    let first = number.then("inc").unwrap();
+    let second = first.again(1).unwrap();
+    let third = second.again(1).unwrap();
+    assert!(number.complete(&1).unwrap());
+    for lost in [first, second] {
+        assert!(lost.fail(&Failed::new("Abandoned", "gone")).unwrap());
+    }
+    let service = Service::with(place.store(), Functions::new().with("inc", 1, add_one), quick()).unwrap();
+    assert_eq!(settled::<i64>(&service.open("tries").unwrap().stage(third.number()).unwrap()), Ok(2));
+}
+
 /// The further try of a stage that was settled by hand, and whose function wasn't called, is called with what its sources hold.
 #[test]
 fn a_try_of_what_was_settled_by_hand() {
