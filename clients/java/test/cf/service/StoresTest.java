@@ -446,8 +446,11 @@ public final class StoresTest {
                 StoredStage[] of = {request.promise("one"), request.promise("other")};
                 StoredStage[] stages = {of[0].either(of[1], "say"), of[0].combine(of[1], "both"), of[0].handle("handled")};
                 for (StoredStage stage : stages) {
-                    tries.add(stage.again(1));
-                    stage.fail(new RemoteException(RemoteException.ABANDONED, "by hand"));
+                    StoredStage again = stage.again(1);
+                    tries.add(again.again(1)); // (a further try of a further try)
+                    for (StoredStage lost : new StoredStage[] {stage, again}) {
+                        lost.fail(new RemoteException(RemoteException.ABANDONED, "by hand"));
+                    }
                 }
                 for (int n = 0; n < 2; n++) {
                     if (ends[k][n] == failed) {
