@@ -597,7 +597,7 @@ class RequestCore(Calls):
             self._works.put(self)  # type: ignore[arg-type]
             return
         with self._lock:
-            self._turns -= self._turns > 0
+            self._turns = max(self._turns - 1, 0)
         self._take_told()
 
     def _stage(self, number: int) -> "Stage[Any]":
