@@ -20,7 +20,8 @@ from mutating.mutant import Mutant
 from mutating.programs import Program, is_of_crate, nearness, program_of_rust, programs_of_java, programs_of_python
 
 BUILDING = 1200  # seconds
-LONGEST = 400  # seconds for the first run of a test program
+FIRST = 60  # seconds for a test program over a mutant, as long as nobody knows what it takes
+LONGEST = 600  # seconds for a test program over the code as it is
 SQLITE_JDBC = "/usr/share/java/sqlite-jdbc.jar"  # of Debian's libxerial-sqlite-jdbc-java, for tests of stores
 FEATURES = ["cf/testing", "cf/tokio", "cf/rayon", "cf/serde", "cf/tracing", "cf-store/sqlite", "cf-store/postgres", "cf-store/etcd", "cf-store/testing"]
 RUNNING: Set[int] = set()  # processes, each of which leads a group
@@ -115,16 +116,26 @@ class Client:
         reaching = [it for it in self.programs if file in it.reaches and self.whole.get(it.name, True)]
         return sorted(reaching, key=lambda it: (nearness(it, file), not is_of_crate(it, file), self.seconds.get(it.name, len(it.text) / 1000)))
 
+    def limit(self, program: Program) -> float:
+        """How many seconds a test program gets over a mutant."""
+        return 20 + 4 * self.seconds[program.name] if program.name in self.seconds else FIRST
+
     def passes(self, program: Program, mutant: Optional[Mutant], seat: int) -> bool:
         """Whether a test program passes in time."""
         began = time.monotonic()
-        limit = 20 + 4 * self.seconds[program.name] if program.name in self.seconds else LONGEST
-        is_well, said = run(*self.command(program, mutant, seat), limit)
+        is_well, said = run(*self.command(program, mutant, seat), self.limit(program) if mutant else LONGEST)
         if is_well:
             self.seconds.setdefault(program.name, time.monotonic() - began)
         elif not mutant:
             self.say(f"left out {program.name}: it fails over the code as it is\n{said[-2000:]}")
         return is_well
+
+    def notices(self, program: Program, mutant: Mutant, seat: int) -> bool:
+        """Whether a test program fails over a mutant alone. Where its first run was too short to say so, it is run again."""
+        limit = self.limit(program)
+        if self.passes(program, mutant, seat) or not self.is_sound(program, mutant, seat):
+            return False
+        return self.limit(program) <= limit or not self.passes(program, mutant, seat)
 
     def is_sound(self, program: Program, mutant: Mutant, seat: int) -> bool:
         """Whether a test program passes over the code as it is. It is asked once one has failed over a mutant. That of a mutant which was built
@@ -140,7 +151,7 @@ class Client:
         self.put(mutant, seat)
         try:
             for program in self.nearest(mutant.file):
-                if not self.passes(program, mutant, seat) and self.is_sound(program, mutant, seat):
+                if self.notices(program, mutant, seat):
                     return Result(mutant, program.name, time.monotonic() - began)
             if not self.nearest(mutant.file):
                 raise Missing(f"a test program that may reach {mutant.file} and passes over the code as it is")
