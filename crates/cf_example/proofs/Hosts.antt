@@ -14,7 +14,7 @@ use Rattle.cf_request.specs.Lanes.{NoneReadyIn}
 use Rattle.cf_request.specs.Machines.{IsNoNext, Machine, OnlyFinds, Passes, state_in}
 use Rattle.cf_request.specs.Rows.{AddsBehind, AreCalls, IsCall, Out, RunsOnce, all_jobs, all_told, job_of, stage_of}
 use Rattle.cf_request.specs.Rows.IsCall.{goes_on, took}
-use Rattle.cf_request.specs.Telling.{IsApart, is_settled_in}
+use Rattle.cf_request.specs.Telling.{IsApart, Teller, is_settled_in}
 use Rattle.cf_request.specs.declared.deadlines.Deadline.{Deadline}
 use Rattle.cf_example.specs.Hosting.{AreTurns, AreWoken, HandsOut, IsHandedOut, IsTurn, Now, RunsOn, RunsOut, RunsUntil, Turns, WakesOf, stage_taken}
 
@@ -56,6 +56,7 @@ taking wakes old new v w h =
       taken = ap (λ (m : Machine). m.teller.taken) h.taken ∙ ap (λ (l : List ℕ). old.teller.taken ++ l) (sym (take_all old.teller.told));
       told = ap (λ (m : Machine). m.teller.told) h.taken ∙ sym (drop_all old.teller.told);
       lanes = ap (λ (m : Machine). m.teller.lanes) h.taken;
+      rest = h.taken ∙ ap (λ (t : Teller). let m : Machine = record old { teller = t } in m) (sym (ap (λ (m : Machine). m.teller) h.taken));
     })
 
 turn_calls : {F W : Type 0} (calls : CallsOf F) (wakes : WakesOf W) (who lane : ℕ) (ts : List Taken) (a b : Now F W) → AreTurns calls wakes who lane a ts b → TurnCalls wakes a ts b
@@ -132,10 +133,10 @@ all_middle : (P : Deadline → Type 0) (xs : List Deadline) (y : Deadline) (ys :
 all_middle P [] y ys h = All-head P y ys h
 all_middle P (x ∷ xs) y ys h = all_middle P xs y ys (All-tail P x (xs ++ y ∷ ys) h)
 
--- once time has passed up to a moment, it is later
 lt_max : (k m n : ℕ) → k < m → k < max m n
 lt_max k m n l = let more = le-max_left m n in omega (arith, l, more)
 
+-- once time has passed up to a moment, it is later
 pub later_next : {W : Type 0} (wakes : WakesOf W) (moment : ℕ) (old between told : Machine) (v w : W) (d : Deadline) → Passes moment old between → HandsOut wakes between v told w → IsNextDue told.moment told.deadlines (state_in told).stages d → moment < d.moment
 later_next wakes moment old between told v w d passes out due =
     let next = due.next in

@@ -11,7 +11,7 @@ ghost use Rattle.cf_request.specs.Ready.{IsLaneCount};
 ghost use Rattle.cf_request.specs.Machines.{AppliesWord, CancelsAll, Finds, FindsToPass, GoesOn, IsNoCancel, IsNoDeadline, IsNoFollow, IsNoNext, IsNoPass, IsNoWord, OnlyFinds, Passes, Refuses, Restarts, SetsDeadline, SetsFollow, free_in, open_in, state_in, waiting_in};
 ghost use Rattle.cf_request.specs.Relays.{NoneBehind};
 ghost use Rattle.cf_request.specs.Rows.{AreCalls, nothing, unclaimed};
-ghost use Rattle.cf_request.specs.Telling.{AreFresh, AreSettled, IsOnce};
+ghost use Rattle.cf_request.specs.Telling.{AreFresh, AreSettled, IsOnce, with_memory};
 
 use crate::composing::{Composed, Composing, check_composing, check_linking, compose};
 use crate::deadlines::{Deadline, come_by, next_open, pass, set, told_from};
@@ -124,6 +124,15 @@ impl Machine {
             moment: 0,
             own,
         })
+    }
+
+    /// Finds memory for so many words to come. It fails only where there is no memory, and then changes nothing.
+    pub fn reserve(&mut self, words: usize) -> Result<(), AllocError>
+        ensures found { OnOk result (self.new ≡ record self.old { teller = with_memory words self.old.teller }) }
+        ensures refused { OnErr result (self.new ≡ self.old) }
+        ensures short { OnErr result (free_in self.old < words) }
+    {
+        self.teller.reserve(words)
     }
 
     /// Does a word as a ledger does; a stage that it attaches is this lane's. Then it settles the relays whose stages
