@@ -51,7 +51,7 @@ static void serve(cf_handle *request) {
       continue;
     }
     if (cf_request_next_deadline(request, &next) != CF_OK) return;
-    nanosleep(&(struct timespec){.tv_nsec = (long)(next.moment - now) * 1000000}, NULL);
+    nanosleep(&(struct timespec){.tv_nsec = (long)(next.moment - now) * 1000000}, NULL); /* it is never before now */
     now = next.moment;
     printf("%u ms have passed\n", (unsigned)now);
     DO(cf_request_pass(request, now, told, ROW, &n));

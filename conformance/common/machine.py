@@ -152,10 +152,15 @@ class Machine:
         ready = [self.lanes[i] for i in range(self.stages()) if self.state.stages[i][0] == "ready"]
         return [ready.count(lane) for lane in range(self.count)]
 
-    def next_deadline(self) -> Optional[Deadline]:
+    def first_deadline(self) -> Optional[Deadline]:
         """Of the deadlines of open stages the one with the least moment, and of those the one that was set first."""
         waiting = [deadline for deadline in self.deadlines if not self.is_settled(deadline.stage)]
         return min(waiting, key=lambda deadline: deadline.moment) if waiting else None
+
+    def next_deadline(self) -> Optional[Deadline]:
+        """The same, with the last moment where its own is before that: then it is due at once."""
+        first = self.first_deadline()
+        return first._replace(moment=max(first.moment, self.moment)) if first else None
 
     def words(self) -> List[int]:
         """The words of all that was done."""
@@ -344,11 +349,11 @@ class Machine:
             raise Refused("PAST_MOMENT")
         self.moment = moment
         self.settle_relays(self.own)
-        due = self.next_deadline()
+        due = self.first_deadline()
         while due is not None and due.moment <= moment:
             self.settle(self.own, due.stage, due.outcome)
             self.settle_relays(self.own)
-            due = self.next_deadline()
+            due = self.first_deadline()
 
     def refuse(self, lane: int, code: int) -> None:
         """Nobody runs this lane any more: its ready stages fail with the code."""

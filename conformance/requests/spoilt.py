@@ -174,12 +174,17 @@ class TimeGoesBack(Machine):
 
 
 class TheLastOfEqualMoments(Machine):
-    def next_deadline(self) -> Optional[Deadline]:
+    def first_deadline(self) -> Optional[Deadline]:
         self.deadlines.reverse()
         try:
-            return super().next_deadline()
+            return super().first_deadline()
         finally:
             self.deadlines.reverse()
+
+
+class APastDeadlineKeepsItsMoment(Machine):
+    def next_deadline(self) -> Optional[Deadline]:
+        return self.first_deadline()
 
 
 class AStageHasOneDeadline(Machine):

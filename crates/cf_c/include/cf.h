@@ -1124,7 +1124,9 @@ uint32_t cf_request_pass(cf_handle *request, uint64_t moment, cf_told *told, siz
 /* A deadline: the stage, the moment, CF_TIMEOUT or CF_GIVE_VALUE, and the value, which is CF_NIL for CF_TIMEOUT. */
 typedef struct { uint16_t stage; uint64_t moment; uint32_t kind; cf_value value; } cf_deadline;
 
-/* Tells the deadline that comes next, of those whose stage is open. Your program sleeps until its moment.
+/* Tells the deadline that comes next, of those whose stage is open. Your program sleeps until its moment, and then makes a
+ * cf_request_pass to it. If the deadline was set for a moment before that of the last cf_request_pass, it is due at once,
+ * and the moment of that pass is told: so a cf_request_pass to what is told goes on.
  *
  * Code: CF_NOTHING if no stage that has one is open. */
 uint32_t cf_request_next_deadline(cf_handle *request, cf_deadline *deadline);

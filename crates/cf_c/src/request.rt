@@ -190,7 +190,7 @@ pub extern "C" fn cf_request_pass(
     ask!(alloc, h, held => doing::pass(&mut held, moment, told, n))
 }
 
-/// The least deadline of a stage that is open.
+/// The first deadline of a stage that is open, from the last moment on.
 #[unsafe(no_mangle)]
 pub extern "C" fn cf_request_next_deadline(
     alloc: Global,

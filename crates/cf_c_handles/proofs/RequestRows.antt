@@ -1,8 +1,9 @@
 -- Calls of a request that are done one after another.
 use Rattle.std.proofs.Common.{◌≡◌, ℕ, zero, suc, ◌+◌, ◌<◌, ◌≤◌, Option, Some, None, Result, Ok, Err, List, [], ◌∷◌, ◌++◌, drop, get_or, length, set, take, refl, ap, sym, ◌∙◌, arith, subst, inl, inr}
+use Rattle.std.proofs.Math.Nat.{le-max_left}
 use Rattle.std.proofs.Math.Seq.{drop-cons}
 use Rattle.std.proofs.lemmas.List.{drop-drop, drop-set-lt, drop_all, length-set, set-get_or, take_more, take_more_set}
-use Rattle.cf_request.specs.Machines.{Machine, OnlyFinds}
+use Rattle.cf_request.specs.Machines.{Machine, OnlyFinds, free_in, most_words}
 use Rattle.cf_c_handles.specs.RequestRows.{AreDone, DoesAs, DoesCall, DoesCalls, StopsAt, call_of}
 use Rattle.cf_c_handles.specs.declared.code.Code.{Code}
 use Rattle.cf_c_handles.specs.declared.request.row.Call.{Call}
@@ -10,7 +11,7 @@ use Rattle.cf_c_handles.specs.declared.request.row.Call.TheVariants.{Apply, Next
 use Rattle.cf_c_handles.specs.declared.values.call.CfRequestCall.{CfRequestCall}
 
 pub finds_nothing : (old new : Machine) → new ≡ old → OnlyFinds old new
-finds_nothing old new is = subst (OnlyFinds old) (sym is) (record { found = omega arith; same = refl })
+finds_nothing old new is = subst (OnlyFinds old) (sym is) (record { found = omega arith; few = le-max_left (free_in old) (most_words old); same = refl })
 
 done_push : (m a b : Machine) (hads hases : List CfRequestCall) (had has : CfRequestCall) → AreDone m hads a hases → DoesCall a had (Ok tt) b has → AreDone m (hads ++ had ∷ []) b (hases ++ has ∷ [])
 done_push m a b [] [] had has same h = (b, subst (λ (x : Machine). DoesCall x had (Ok tt) b has) same h, refl)

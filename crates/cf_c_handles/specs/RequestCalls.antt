@@ -1,7 +1,7 @@
 -- What a request behind a handle is asked.
 use Rattle.std.specs.Prelude.{◌≡◌, ◌⊎◌, ℕ, ◌<◌, ◌≤◌, Bool, Result, Ok, Err, List, [], is_some, length}
 use Rattle.cf_model.specs.declared.events.Reply.{Reply}
-use Rattle.cf_request.specs.Deadlines.{Forgets, IsNextOpen, NoneOpen}
+use Rattle.cf_request.specs.Deadlines.{Forgets, IsNextDue, NoneOpen}
 use Rattle.cf_request.specs.Growing.{Grows, IsNoGrowth}
 use Rattle.cf_request.specs.Lanes.{ready_below}
 use Rattle.cf_request.specs.Machines.{AppliesWord, CancelsAll, GoesOn, IsNoCancel, IsNoDeadline, IsNoFollow, IsNoNext, IsNoPass, IsNoWord, Machine, OnlyFinds, Passes, Refuses, Restarts, SetsDeadline, SetsFollow, free_in, open_in, state_in}
@@ -193,10 +193,10 @@ abbrev pub TellsReadyOf : ℕ → Machine → Result ℕ Code → Type 0
 TellsReadyOf lane m (Ok n) = (lane < lanes_in m) × (n ≡ ready_below (state_in m) m.teller.lanes.of lane (length (state_in m).plan.stages))
 TellsReadyOf lane m (Err code) = (lanes_in m ≤ lane) × (code ≡ NoLane)
 
--- the deadline that comes next
+-- the deadline that comes next, from the last moment on
 pub record IsNextTo (m : Machine) (d : CfDeadline) : Type 0 where
   pub deadline : Deadline
-  pub next : IsNextOpen m.deadlines (state_in m).stages deadline
+  pub next : IsNextDue m.moment m.deadlines (state_in m).stages deadline
   pub is : d ≡ as_deadline deadline
 
 abbrev pub TellsNextDeadline : Machine → Result CfDeadline Code → Type 0

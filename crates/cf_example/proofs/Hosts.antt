@@ -1,6 +1,7 @@
 -- What a host did, one step behind another.
-use Rattle.std.proofs.Common.{◌<◌, ◌≤◌, true, All, arith, inl, inr, ◌≡◌, ℕ, Option, Some, None, List, [], ◌∷◌, ◌++◌, drop, length, map, take, refl, ap, sym, ◌∙◌, subst}
+use Rattle.std.proofs.Common.{◌<◌, ◌≤◌, true, All, arith, inl, inr, ◌≡◌, ℕ, Option, Some, None, List, [], ◌∷◌, ◌++◌, drop, length, map, max, take, refl, ap, sym, ◌∙◌, subst}
 use Rattle.std.specs.Prelude.{IfNone}
+use Rattle.std.proofs.Math.Nat.{le-max_left}
 use Rattle.std.proofs.lemmas.Bool.{cases_lt}
 use Rattle.std.proofs.lemmas.List.Elements.{All-cons, All-head, All-tail}
 use Rattle.cf_model.specs.declared.stage.Stage.{Stage}
@@ -8,12 +9,12 @@ use Rattle.cf_model.specs.Calling.{CallsOf}
 use Rattle.cf_ledger.specs.declared.faults.StepFault.{StepFault}
 use Rattle.cf_ledger.specs.declared.step.Held.{Held}
 use Rattle.cf_ledger.specs.declared.step.Taken.{Taken}
-use Rattle.cf_request.specs.Deadlines.{Forgets, IsNextOpen, NoneOverdue}
+use Rattle.cf_request.specs.Deadlines.{Forgets, IsNextDue, IsNextOpen, NoneOverdue}
 use Rattle.cf_request.specs.Lanes.{NoneReadyIn}
 use Rattle.cf_request.specs.Machines.{IsNoNext, Machine, OnlyFinds, Passes, state_in}
 use Rattle.cf_request.specs.Rows.{AddsBehind, AreCalls, IsCall, Out, RunsOnce, all_jobs, all_told, job_of, stage_of}
 use Rattle.cf_request.specs.Rows.IsCall.{goes_on, took}
-use Rattle.cf_request.specs.Telling.{IsApart, is_settled_in}
+use Rattle.cf_request.specs.Telling.{IsApart, Teller, is_settled_in}
 use Rattle.cf_request.specs.declared.deadlines.Deadline.{Deadline}
 use Rattle.cf_example.specs.Hosting.{AreTurns, AreWoken, HandsOut, IsHandedOut, IsTurn, Now, RunsOn, RunsOut, RunsUntil, Turns, WakesOf, stage_taken}
 
@@ -55,6 +56,7 @@ taking wakes old new v w h =
       taken = ap (λ (m : Machine). m.teller.taken) h.taken ∙ ap (λ (l : List ℕ). old.teller.taken ++ l) (sym (take_all old.teller.told));
       told = ap (λ (m : Machine). m.teller.told) h.taken ∙ sym (drop_all old.teller.told);
       lanes = ap (λ (m : Machine). m.teller.lanes) h.taken;
+      rest = h.taken ∙ ap (λ (t : Teller). let m : Machine = record old { teller = t } in m) (sym (ap (λ (m : Machine). m.teller) h.taken));
     })
 
 turn_calls : {F W : Type 0} (calls : CallsOf F) (wakes : WakesOf W) (who lane : ℕ) (ts : List Taken) (a b : Now F W) → AreTurns calls wakes who lane a ts b → TurnCalls wakes a ts b
@@ -131,14 +133,21 @@ all_middle : (P : Deadline → Type 0) (xs : List Deadline) (y : Deadline) (ys :
 all_middle P [] y ys h = All-head P y ys h
 all_middle P (x ∷ xs) y ys h = all_middle P xs y ys (All-tail P x (xs ++ y ∷ ys) h)
 
+lt_max : (k m n : ℕ) → k < m → k < max m n
+lt_max k m n l = let more = le-max_left m n in omega (arith, l, more)
+
 -- once time has passed up to a moment, it is later
-pub later_next : {W : Type 0} (wakes : WakesOf W) (moment : ℕ) (old between told : Machine) (v w : W) (d : Deadline) → Passes moment old between → HandsOut wakes between v told w → IsNextOpen told.deadlines (state_in told).stages d → moment < d.moment
-later_next wakes moment old between told v w d passes out next =
-    let here = subst (λ (m : Machine). IsNextOpen m.deadlines (state_in m).stages d) out.taken next in
+pub later_next : {W : Type 0} (wakes : WakesOf W) (moment : ℕ) (old between told : Machine) (v w : W) (d : Deadline) → Passes moment old between → HandsOut wakes between v told w → IsNextDue told.moment told.deadlines (state_in told).stages d → moment < d.moment
+later_next wakes moment old between told v w d passes out due =
+    let next = due.next in
+    let e = due.deadline in
+    let here = subst (λ (m : Machine). IsNextOpen m.deadlines (state_in m).stages e) out.taken next in
     let P = λ (e : Deadline). e.moment ≤ moment → is_settled_in (state_in between).stages e.stage ≡ true in
     let none = overdue_left moment (state_in between).stages old.deadlines between.deadlines passes.forgets passes.none.1 in
-    let its = all_middle P here.front d here.back (subst (All P) here.is none) in
-    elim (cases_lt moment d.moment) [
+    let its = all_middle P here.front e here.back (subst (All P) here.is none) in
+    let is = ap (λ (f : Deadline). f.moment) due.is in
+    let first : moment < e.moment = elim (cases_lt moment e.moment) [
       | inl less ↦ less
       | inr more ↦ (let on = its (omega (arith, more)) in let off = here.waits in cc)
-    ]
+    ] in
+    subst (λ (n : ℕ). moment < n) (sym is) (lt_max moment e.moment told.moment first)

@@ -5,13 +5,14 @@
 //! was one history. The promise is `ToldOneHistory` of `cf_desk`: the product's own statement, `IsOneHistory`, of a closed
 //! desk. It follows from the contracts of the calls that are made, and from nothing else. `headline` promises what closing
 //! any desk gives, `running` what a run of plain work ends as, and `racing` what a race leaves. `hosting` runs a request
-//! over a machine, for threads, clocks and waiters of any kind. `rows` has a store in memory, and asks it again for a put
-//! whose answer was lost.
+//! over a machine, for threads, clocks and waiters of any kind, and `keeping` says what the machine keeps meanwhile.
+//! `rows` has a store in memory, and asks it again for a put whose answer was lost.
 #![tactic(auto)]
 
 mod fault;
 pub mod headline;
 pub mod hosting;
+pub mod keeping;
 pub mod racing;
 pub mod rows;
 pub mod running;

@@ -1,13 +1,14 @@
 //! What a host writes that shares a request by a row in a store: a put whose answer was lost. Each clause follows from
-//! the contracts of a session's view of the row, and from its laws.
+//! the contracts of a session's view of the row, and from its laws. So does what it may rely on of sessions' numbers.
 ghost use Rattle.std.specs.Prelude.{◌≡◌, ◌≢◌, ◌<◌, ◌≤◌, ◌++◌, [], IfOk, OnErr, OnOk, drop, false, length, true};
 ghost use Rattle.std.specs.Bool.{OnFalse, OnTrue};
 ghost use Rattle.cf_row.specs.Engines.{Group, Puts};
 ghost use Rattle.cf_row.specs.Puts.{IsOnceOrNever, NoneStands, StandsOnce};
 ghost use Rattle.cf_row.specs.Rows.{BeginsWith, FitsUpTo};
+ghost use Rattle.cf_example.specs.Numbers.{RowsHaveRuledNumbers};
 
 use cf_ledger::Misfit;
-use cf_row::laws::landed_puts_stand_once;
+use cf_row::laws::{all_follow_the_rule, landed_puts_stand_once, numbers_are_ruled};
 use cf_row::{Entry, Row};
 use std::alloc::{AllocError, Global};
 use std::marker::Model;
@@ -94,4 +95,13 @@ pub fn ask_again(store: &mut Store, row: &mut Row) -> Result<bool, Misfit>
     row.saw_all(behind)?;
     let _records = row.replica().records();
     Ok(stands)
+}
+
+/// Whichever puts an engine was asked for, how often and how late: no session of the row has two numbers, none is two
+/// sessions' before all 64 are taken, and below a number that is taken all are.
+pub fn rows_have_ruled_numbers()
+    ensures { RowsHaveRuledNumbers }
+{
+    all_follow_the_rule();
+    numbers_are_ruled();
 }

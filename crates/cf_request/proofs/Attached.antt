@@ -28,12 +28,12 @@ use Rattle.cf_request.specs.Machines.{AppliesWord, IsMachine, Machine, free_in, 
 use Rattle.cf_request.specs.Ready.{with_lane}
 use Rattle.cf_request.specs.Relays.{AreRelays, AreThere, IsRelayDue, NoneBehind, waiting_of}
 use Rattle.cf_request.specs.Rows.{AreCalls, IsCall, nothing}
-use Rattle.cf_request.specs.Rows.IsCall.{applies, is_refused}
+use Rattle.cf_request.specs.Rows.IsCall.{applies, reserves}
 use Rattle.cf_request.specs.Telling.{Teller, Tells, with_memory}
 use Rattle.cf_request.specs.declared.deadlines.Deadline.{Deadline}
 use Rattle.cf_request.specs.declared.relays.Follow.{Follow}
 use Rattle.cf_request.proofs.Behind.{stay_word}
-use Rattle.cf_request.proofs.Machines.{free_found, kept_memory, relays_later}
+use Rattle.cf_request.proofs.Machines.{kept_memory, relays_later}
 use Rattle.cf_request.proofs.Memory.{few_relays, relays_stay, spends_word}
 use Rattle.cf_request.proofs.Telling.{next_is}
 use Rattle.cf_request.proofs.Turns.{StaySettled, dues_none, follows_word, keeps_memory, limits_word}
@@ -235,10 +235,9 @@ calls_row lane (e ∷ events) m end (who, form, of, function, is, are) room enou
     let call : IsCall m nothing next = applies (word_of (Attaches who form of function)) lane (ToldAttach (At (length (state_in m).plan.stages))) refl (applies_attach who form of function lane m between done (omega (arith, enough)) none_open) in
     (next, call, calls_row lane events next end are (omega (arith, room, left)) (omega (arith, enough, spent, fewer)) (follows_word m.teller.ledger between.ledger m.follows (omega (arith, now)) there) none_open rest)
 
--- a call that finds memory, and is refused then
+-- a call that finds memory
 pub call_found : (words : ℕ) (old : Machine) (found : Teller) → found ≡ with_memory words old.teller → IsCall old nothing (record old { teller = found })
-call_found words old found is =
-    is_refused refl (record { found = free_found words old.teller found is; same = ap (λ (t : Teller). let x : Machine = record old { teller = t } in x) is ∙ sym (ap (λ (k : ℕ). let x : Machine = record old { teller = record old.teller { ledger = record old.teller.ledger { free = k } } } in x) (ap (λ (t : Teller). t.ledger.free) is)) })
+call_found words old found is = reserves words refl (ap (λ (t : Teller). let x : Machine = record old { teller = t } in x) is)
 
 -- memory is found, and then each stage is attached by a call
 pub calls_attach : (lane : ℕ) (events : List Event) (old : Machine) (found end : Teller) (words : ℕ) → AreAttaches events → found ≡ with_memory words old.teller → length events + waiting_in old ≤ found.ledger.free →

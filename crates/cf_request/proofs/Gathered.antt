@@ -250,7 +250,8 @@ rest_of f (a ∷ []) = refl
 rest_of f (a ∷ b ∷ sources) = refl
 
 pub gathers_at_once : GathersAtOnce
-gathers_at_once who how sources root old new may h =
+gathers_at_once who how sources root old new h =
+    let may = h.may in
     let a = h.found in
     let s = state_of a.ledger in
     let n = length s.plan.stages in

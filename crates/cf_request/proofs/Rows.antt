@@ -26,7 +26,7 @@ use Rattle.cf_request.specs.Ready.{Lanes, with_lane}
 use Rattle.cf_request.specs.Refusals.{IsCancelled, IsRefused}
 use Rattle.cf_request.specs.Relays.{IsRelayDue, IsRelayOr}
 use Rattle.cf_request.specs.Rows.{AddsBehind, AddsLanes, AreCalls, BeginsAnew, ComesToAnEnd, IsCall, IsLater, IsOpened, Job, Out, RunsOnce, TellsOnce, Took, WasGranted, WordsTellAll, all_jobs, all_told, job_of, nothing, room_in, stage_of, unclaimed}
-use Rattle.cf_request.specs.Rows.IsCall.{applies, goes_on, sets_follow, sets_deadline, forgets, passes, refuses, cancels_all, took, grows, is_refused}
+use Rattle.cf_request.specs.Rows.IsCall.{applies, goes_on, sets_follow, sets_deadline, forgets, passes, refuses, cancels_all, took, grows, reserves, is_refused}
 use Rattle.cf_request.specs.Settling.{AreSettledInTurn, SettlesDue, settle_event}
 use Rattle.cf_request.specs.Telling.{AreFresh, AreSettled, AreSettledBy, IsApart, Teller, Tells, TellsEvent, with_memory}
 use Rattle.cf_request.specs.declared.machine.Next.{Next}
@@ -263,7 +263,7 @@ effect old new out (goes_on who lane held next is h) =
 effect old new out (sets_follow relay stage none h) =
     quiet old.teller new.teller out none (settles_found (IsRelayDue new.follows) old.own (1 + waiting_in old) (1 + length old.follows) old.teller h.found new.teller h.finds h.catches_up.settles)
 effect old new out (sets_deadline deadline none h) = quiet old.teller new.teller out none (onward_is old.teller new.teller (ap (λ (m : Machine). m.teller) h.same))
-effect old new out (forgets none same) = quiet old.teller new.teller out none (onward_is old.teller new.teller (ap (λ (m : Machine). m.teller) same))
+effect old new out (forgets none forgotten same) = quiet old.teller new.teller out none (onward_is old.teller new.teller (ap (λ (m : Machine). m.teller) same))
 effect old new out (passes moment none h) =
     quiet old.teller new.teller out none
     (settles_found (IsRelayOr old.follows (IsOverdue moment old.deadlines)) old.own (waiting_in old + length (open_of (state_in old).stages (take h.come old.deadlines))) (length old.follows + h.come) old.teller h.found new.teller h.finds h.settles)
@@ -275,6 +275,8 @@ effect old new out (cancels_all who none h) =
     quiet old.teller new.teller out none (settles (IsRelayOr old.follows IsCancelled) who found.ledger.free old.teller new.teller h.settles)
 effect old new out (took count is h) = subst (λ (o : Out). Effect old.teller o new.teller) (sym is) (takes_told count old new h)
 effect old new out (grows none h) = subst (λ (o : Out). Effect old.teller o new.teller) (sym none) (more_room old new h)
+effect old new out (reserves words none is) =
+    quiet old.teller new.teller out none (subst (λ (m : Machine). Onward old.teller m.teller) (sym is) (onward_free old.teller (with_memory words old.teller).ledger.free))
 effect old new out (is_refused none h) =
     quiet old.teller new.teller out none (subst (λ (m : Machine). Onward old.teller m.teller) (sym h.same) (onward_free old.teller new.teller.ledger.free))
 

@@ -1,5 +1,5 @@
 -- Moments by which stages have to be settled.
-use Rattle.std.specs.Prelude.{◌≡◌, ◌⊎◌, ℕ, ◌<◌, ◌≤◌, true, false, List, [], ◌∷◌, ◌++◌, All, drop, length, not, take}
+use Rattle.std.specs.Prelude.{◌≡◌, ◌⊎◌, ℕ, ◌<◌, ◌≤◌, true, false, List, [], ◌∷◌, ◌++◌, All, drop, length, max, not, take}
 use Rattle.std.specs.List.{filter}
 use Rattle.std.specs.List.Sorted.{IsNonDecreasingBy}
 use Rattle.cf_model.specs.declared.stage.Stage.{Stage}
@@ -31,6 +31,12 @@ pub record IsNextOpen (deadlines : List Deadline) (stages : List Stage) (d : Dea
   pub is : deadlines ≡ front ++ d ∷ back
   pub settled : NoneOpen front stages
   pub waits : is_settled_in stages d.stage ≡ false
+
+-- what is told of it: one that lies before the last moment is due at once, so it is told with that moment
+pub record IsNextDue (last : ℕ) (deadlines : List Deadline) (stages : List Stage) (told : Deadline) : Type 0 where
+  pub deadline : Deadline
+  pub next : IsNextOpen deadlines stages deadline
+  pub is : told ≡ record deadline { moment = max deadline.moment last }
 
 -- no stage is open that has one up to a moment
 abbrev pub NoneOverdue : ℕ → List Deadline → List Stage → Type 0

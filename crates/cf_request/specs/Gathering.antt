@@ -49,8 +49,15 @@ stages_for sources = 1 + (length sources - 2)
 
 -- ---- what they do
 
--- memory is found for all of them and for each relay that is open; they are done, and nothing else
+-- the caller has words, the sources are there, and so is room
+pub record MayGather (who : ℕ) (sources : List ℕ) (s : State) : Type 0 where
+  pub caller : who ≤ 63
+  pub there : All (λ i. i < length s.plan.stages) sources
+  pub room : stages_for sources ≤ s.plan.room
+
+-- Nothing stands against it. Memory is found for all of them and for each relay that is open; they are done, and nothing else.
 pub record Gathers (who : ℕ) (how : Gathering) (sources : List ℕ) (old : Machine) (root : ℕ) (new : Machine) : Type 0 where
+  pub may : MayGather who sources (state_in old)
   pub found : Teller
   pub finds : Finds (stages_for sources + waiting_in old) (stages_for sources + length old.follows) old.teller found
   pub tells : TellsAttaches 0 (gathers who how (length (state_in old).plan.stages) sources) found new.teller
@@ -58,12 +65,6 @@ pub record Gathers (who : ℕ) (how : Gathering) (sources : List ℕ) (old : Mac
   pub same : new ≡ record old { teller = new.teller }
 
 -- ---- why nothing is gathered
-
--- the caller has words, the sources are there, and so is room
-pub record MayGather (who : ℕ) (sources : List ℕ) (s : State) : Type 0 where
-  pub caller : who ≤ 63
-  pub there : All (λ i. i < length s.plan.stages) sources
-  pub room : stages_for sources ≤ s.plan.room
 
 -- why it may not: the first of these
 abbrev pub MayNotGather : ℕ → List ℕ → State → LedgerFault → Type 0
@@ -96,5 +97,5 @@ GathersAsOne =
 -- Where they are attached, the root has at once what one stage of this form with all these sources has.
 abbrev pub GathersAtOnce : Type 0
 GathersAtOnce =
-    (who : ℕ) (how : Gathering) (sources : List ℕ) (root : ℕ) (old new : Machine) → MayGather who sources (state_in old) → Gathers who how sources old root new →
+    (who : ℕ) (how : Gathering) (sources : List ℕ) (root : ℕ) (old new : Machine) → Gathers who how sources old root new →
     outcome_in (state_in new).stages root ≡ gathered how (map (outcome_in (state_in old).stages) sources)

@@ -1,5 +1,5 @@
 -- A request as a machine, and what its calls do.
-use Rattle.std.specs.Prelude.{◌≡◌, ℕ, ◌+◌, ◌<◌, ◌≤◌, Option, List, [], ◌∷◌, ◌++◌, length, take, ◌⊎◌}
+use Rattle.std.specs.Prelude.{◌≡◌, ℕ, ◌+◌, ◌<◌, ◌≤◌, Option, List, [], ◌∷◌, ◌++◌, length, max, take, ◌⊎◌}
 use Rattle.cf_model.specs.declared.events.Reply.{Reply}
 use Rattle.cf_model.specs.States.{State, start}
 use Rattle.cf_ledger.specs.Ledgers.{LedgerRefuses, state_of}
@@ -44,9 +44,18 @@ pub record IsMachine (teller : Teller) (follows : List Follow) (deadlines : List
   pub limits : AreSet (state_of teller.ledger) deadlines
   pub caller : own ≤ 63
 
+-- how many stages are open
+abbrev pub open_in : Machine → ℕ
+open_in m = open_below (state_in m).stages (length (state_in m).plan.stages)
+
+-- no call finds memory for more words: one for each relay, each deadline, each open stage and each that may be attached, and two more
+abbrev pub most_words : Machine → ℕ
+most_words m = 2 + length m.follows + length m.deadlines + open_in m + (state_in m).plan.room
+
 -- memory may have been found for words to come, and nothing else has changed
 pub record OnlyFinds (old new : Machine) : Type 0 where
   pub found : free_in old ≤ free_in new
+  pub few : free_in new ≤ max (free_in old) (most_words old)
   pub same : new ≡ record old { teller = record old.teller { ledger = record old.teller.ledger { free = free_in new } } }
 
 -- how many relays are open
@@ -164,10 +173,6 @@ IsNoPass moment m Full = ⊥
 IsNoPass moment m Past = moment < m.moment
 
 -- ---- stages that end at once
-
--- how many stages are open
-abbrev pub open_in : Machine → ℕ
-open_in m = open_below (state_in m).stages (length (state_in m).plan.stages)
 
 -- ready stages of the lane fail, and relays before them are settled, until none is left
 pub record Refuses (lane code : ℕ) (old new : Machine) : Type 0 where

@@ -16,10 +16,11 @@ use Rattle.cf_ledger.specs.declared.faults.LedgerFault.{LedgerFault}
 use Rattle.cf_ledger.specs.declared.faults.LedgerFault.TheVariants.{NoMemory}
 use Rattle.cf_ledger.specs.declared.step.Held.{Held}
 use Rattle.cf_ledger.specs.declared.step.Taken.{Taken}
+use Rattle.cf_request.specs.Deadlines.{Forgets}
 use Rattle.cf_request.specs.Growing.{Grows}
 use Rattle.cf_request.specs.Machines.{AppliesWord, CancelsAll, GoesOn, Machine, OnlyFinds, Passes, Refuses, Restarts, SetsDeadline, SetsFollow, state_in}
 use Rattle.cf_request.specs.Ready.{HasLanes, Lanes}
-use Rattle.cf_request.specs.Telling.{AreFresh, AreSettled, IsApart, IsOnce}
+use Rattle.cf_request.specs.Telling.{AreFresh, AreSettled, IsApart, IsOnce, with_memory}
 use Rattle.cf_request.specs.declared.deadlines.Deadline.{Deadline}
 use Rattle.cf_request.specs.declared.machine.Next.{Next}
 
@@ -42,12 +43,13 @@ abbrev pub job_of : ℕ → Option Taken → Out
 job_of who None = nothing
 job_of who (Some t) = record { jobs = (record { who = who; taken = t }) ∷ []; told = [] }
 
--- the first so many of what is told are taken
+-- the first so many of what is told are taken, and nothing else is done
 pub record Took (count : ℕ) (old new : Machine) : Type 0 where
   pub ledger : new.teller.ledger ≡ old.teller.ledger
   pub taken : new.teller.taken ≡ old.teller.taken ++ take count old.teller.told
   pub told : new.teller.told ≡ drop count old.teller.told
   pub lanes : new.teller.lanes ≡ old.teller.lanes
+  pub rest : new ≡ record old { teller = new.teller }
 
 -- one call, and what it hands out
 pub data IsCall (old : Machine) (out : Out) (new : Machine) : Type 0 where
@@ -55,12 +57,13 @@ pub data IsCall (old : Machine) (out : Out) (new : Machine) : Type 0 where
   goes_on : (who lane : ℕ) (held : Option Held) (next : Next) → out ≡ job_of who next.taken → GoesOn who lane held old next new → IsCall old out new
   sets_follow : (relay stage : ℕ) → out ≡ nothing → SetsFollow relay stage old new → IsCall old out new
   sets_deadline : (deadline : Deadline) → out ≡ nothing → SetsDeadline deadline old new → IsCall old out new
-  forgets : out ≡ nothing → new ≡ record old { deadlines = new.deadlines } → IsCall old out new
+  forgets : out ≡ nothing → Forgets (state_in old).stages old.deadlines new.deadlines → new ≡ record old { deadlines = new.deadlines } → IsCall old out new
   passes : (moment : ℕ) → out ≡ nothing → Passes moment old new → IsCall old out new
   refuses : (lane code : ℕ) → out ≡ nothing → Refuses lane code old new → IsCall old out new
   cancels_all : (who : ℕ) → out ≡ nothing → CancelsAll who old new → IsCall old out new
   took : (count : ℕ) → out ≡ (record { jobs = []; told = take count old.teller.told }) → Took count old new → IsCall old out new
   grows : out ≡ nothing → Grows old new → IsCall old out new
+  reserves : (words : ℕ) → out ≡ nothing → new ≡ record old { teller = with_memory words old.teller } → IsCall old out new
   is_refused : out ≡ nothing → OnlyFinds old new → IsCall old out new
 
 -- a row of them

@@ -3,7 +3,7 @@ ghost use Rattle.std.specs.Prelude.{◌≡◌, ◌≢◌, ◌+◌, ◌-◌, ◌^
 ghost use Rattle.cf_forms.specs.Plans.{has_place, with_room};
 ghost use Rattle.cf_model.specs.States.{claim_at, start};
 ghost use Rattle.cf_request.specs.Composing.{Composes, FinishesClaimed, Links, IsNoCompose, IsNoLink, LinksFound, MayLink, composes};
-ghost use Rattle.cf_request.specs.Deadlines.{AreInOrder, Forgets, IsNextOpen, NoneOpen};
+ghost use Rattle.cf_request.specs.Deadlines.{AreInOrder, Forgets, IsNextDue, NoneOpen};
 ghost use Rattle.cf_request.specs.Gathering.{Gathers, IsNoGather, gathers, stages_for};
 ghost use Rattle.cf_request.specs.Growing.{Grows, IsNoGrowth};
 ghost use Rattle.cf_request.specs.Lanes.{IsIdle, NoneReadyIn, ready_below};
@@ -11,10 +11,10 @@ ghost use Rattle.cf_request.specs.Ready.{IsLaneCount};
 ghost use Rattle.cf_request.specs.Machines.{AppliesWord, CancelsAll, Finds, FindsToPass, GoesOn, IsNoCancel, IsNoDeadline, IsNoFollow, IsNoNext, IsNoPass, IsNoWord, OnlyFinds, Passes, Refuses, Restarts, SetsDeadline, SetsFollow, free_in, open_in, state_in, waiting_in};
 ghost use Rattle.cf_request.specs.Relays.{NoneBehind};
 ghost use Rattle.cf_request.specs.Rows.{AreCalls, nothing, unclaimed};
-ghost use Rattle.cf_request.specs.Telling.{AreFresh, AreSettled, IsOnce};
+ghost use Rattle.cf_request.specs.Telling.{AreFresh, AreSettled, IsOnce, with_memory};
 
 use crate::composing::{Composed, Composing, check_composing, check_linking, compose};
-use crate::deadlines::{Deadline, come_by, next_open, pass, set};
+use crate::deadlines::{Deadline, come_by, next_open, pass, set, told_from};
 use crate::faults::MachineFault;
 use crate::gathering::{Gathering, check_gathering, gather};
 use crate::growing::room_for;
@@ -124,6 +124,15 @@ impl Machine {
             moment: 0,
             own,
         })
+    }
+
+    /// Finds memory for so many words to come. It fails only where there is no memory, and then changes nothing.
+    pub fn reserve(&mut self, words: usize) -> Result<(), AllocError>
+        ensures found { OnOk result (self.new ≡ record self.old { teller = with_memory words self.old.teller }) }
+        ensures refused { OnErr result (self.new ≡ self.old) }
+        ensures short { OnErr result (free_in self.old < words) }
+    {
+        self.teller.reserve(words)
     }
 
     /// Does a word as a ledger does; a stage that it attaches is this lane's. Then it settles the relays whose stages
@@ -425,15 +434,20 @@ impl Machine {
     }
 
     /// The first deadline of an open stage, if there is one. No deadline of an open stage comes before it, and of those
-    /// that come at the same moment it was set first. Those of settled stages that come before it are forgotten.
+    /// that come at the same moment it was set first. One that lies before the last moment is due at once: it is told with
+    /// that moment. So `pass` to the moment that is told goes on. Those of settled stages that come before it are
+    /// forgotten.
     pub fn next_deadline(&mut self) -> Option<Deadline>
-        ensures next { IfSome result (λ d. IsNextOpen self.old.deadlines (state_in self.old).stages d) }
+        ensures next { IfSome result (λ d.
+            IsNextDue self.old.moment self.old.deadlines (state_in self.old).stages d) }
+        ensures onward { IfSome result (λ d. self.old.moment ≤ d.moment) }
         ensures none { IfNone result (NoneOpen self.old.deadlines (state_in self.old).stages) }
         ensures order { AreInOrder self.old.deadlines }
         ensures forgets { Forgets (state_in self.old).stages self.old.deadlines self.new.deadlines }
         ensures rest { self.new ≡ record self.old { deadlines = self.new.deadlines } }
     {
-        next_open(&self.teller, &mut self.deadlines)
+        let next = next_open(&self.teller, &mut self.deadlines)?;
+        Some(told_from(self.moment, next))
     }
 
     /// Nobody runs a lane any more: its ready stages fail with a code, from the lowest on, and before each of them,

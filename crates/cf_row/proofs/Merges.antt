@@ -8,7 +8,8 @@ use Rattle.cf_model.specs.declared.events.Event.{Event}
 use Rattle.cf_event.specs.declared.record.Record.{Record}
 use Rattle.cf_event.specs.declared.record.Record.TheVariants.{Did, Saw}
 use Rattle.cf_event.specs.Histories.{InOrder, dids, place_of}
-use Rattle.cf_row.specs.Accounts.{Account, AreOfOneEach, goes_first, is_call, merged, merged_all, put_among}
+use Rattle.cf_row.specs.Accounts.{Account, AreOfOneEach, goes_first, merged, merged_all, put_among}
+use Rattle.cf_row.specs.Rows.{is_call}
 use Rattle.cf_row.proofs.Elements.{contains_cases, contains_first, contains_later, contains_none}
 
 -- ---- what is true of all of them

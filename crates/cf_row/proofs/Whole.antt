@@ -22,7 +22,7 @@ use Rattle.cf_row.specs.Numbers.{AllFollow, FollowsRule}
 use Rattle.cf_row.specs.Puts.{pair_of, pairs_of, who_at, who_by}
 use Rattle.cf_row.specs.Engines.{AreBehind, Group, IsBehind, joined}
 use Rattle.cf_row.specs.Accounts.{Account, AreOfOneEach, AreOneHistory, GivesAccount, all_completed, callers_of, completed, count_of, unread}
-use Rattle.cf_row.specs.Laws.{RowsAreOneHistory}
+use Rattle.cf_row.specs.Laws.{AllFollowTheRule, RowsAreOneHistory}
 use Rattle.cf_row.proofs.Engines.{made}
 use Rattle.cf_row.proofs.Ruled.{ruled}
 use Rattle.cf_row.proofs.Fitting.{AreFit, fit_append, fit_lift, fit_state, fit_taken, words_fit, words_who}
@@ -250,6 +250,11 @@ whole_row plan groups accounts behind give sessions =
       };
       granted_once = λ i. grants_once (start plan) (history_of row) i;
     }
+
+pub all_follow : AllFollowTheRule
+all_follow plan asked row run =
+    let m = made plan [] row asked run in
+    subst (λ (l : List Entry). AllFollow [] (pairs_of l)) (sym m.is) (follow_all plan [] m.groups m.behind)
 
 pub whole : RowsAreOneHistory
 whole plan asked row accounts run give =

@@ -7,10 +7,10 @@ use Rattle.cf_model.specs.Laws.{grants_of}
 use Rattle.cf_model.specs.States.{State, start}
 use Rattle.cf_model.specs.Events.{answered, state_after}
 use Rattle.cf_event.specs.declared.record.Record.{Record}
-use Rattle.cf_event.specs.declared.record.Record.TheVariants.{Did, Saw}
+use Rattle.cf_event.specs.declared.record.Record.TheVariants.{Did}
 use Rattle.cf_event.specs.Histories.{IsOneHistory, place_of}
 use Rattle.cf_row.specs.declared.entry.Entry.{Entry}
-use Rattle.cf_row.specs.Rows.{BeginsWith, FitsUpTo, history_of, session_of}
+use Rattle.cf_row.specs.Rows.{BeginsWith, FitsUpTo, history_of, is_call, session_of}
 use Rattle.cf_row.specs.Puts.{pairs_of}
 
 -- what a session says: the room that its graph has had in all, the front of the row that it has seen, its caller's number, and its records
@@ -51,10 +51,6 @@ abbrev pub all_completed : Planned → List Entry → List Account → List Acco
 all_completed plan row accounts = map (completed plan row) accounts
 
 -- ---- several sessions under one number
-
-abbrev pub is_call : Record → Bool
-is_call (Did place event reply) = true
-is_call (Saw place ask answer) = false
 
 -- of two sessions' next records the one of the lower place goes first, and at one place a call goes before a question
 abbrev pub goes_first : Record → Record → Bool

@@ -4,7 +4,7 @@ use Rattle.cf_forms.specs.Plans.{Planned}
 use Rattle.cf_row.specs.declared.entry.Entry.{Entry}
 use Rattle.cf_row.specs.Rows.{BeginsWith, StandsAt, session_of}
 use Rattle.cf_row.specs.Numbers.{AllFollow, AreSharedLast, HaveNoGaps, HaveOneEach}
-use Rattle.cf_row.specs.Puts.{IsOnceOrNever, NoneStands, StandsOnce, stamped}
+use Rattle.cf_row.specs.Puts.{IsOnceOrNever, NoneStands, StandsOnce, pairs_of, stamped}
 use Rattle.cf_row.specs.Engines.{Group, HaveOwnTokens, Puts, Runs}
 use Rattle.cf_row.specs.Accounts.{Account, AllGiveAccount, AreOneHistory}
 
@@ -46,6 +46,10 @@ pub record RuledNumbers (row : List (ℕ × ℕ)) : Type 0 where
 
 abbrev pub NumbersAreRuled : Type 0
 NumbersAreRuled = (row : List (ℕ × ℕ)) → AllFollow [] row → RuledNumbers row
+
+-- whichever puts an engine was asked for, all that put something follow the rule
+abbrev pub AllFollowTheRule : Type 0
+AllFollowTheRule = (plan : Planned) (asked : List Group) (row : List Entry) → Runs plan [] asked row → AllFollow [] (pairs_of row)
 
 -- ALL SESSIONS: whatever engine keeps the premises, whichever puts it was asked for, how often and how late, and whatever it answered, if
 -- each session that put something gives account of what it has seen, all accounts and the row's words are one history.

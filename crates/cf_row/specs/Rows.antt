@@ -1,5 +1,5 @@
 -- A request's row, and what one session has seen of it and was answered.
-use Rattle.std.specs.Prelude.{◌≡◌, ◌≢◌, ℕ, suc, ◌+◌, ◌-◌, ◌/◌, ◌<◌, ◌≤◌, max, cond, eqb, Option, List, [], ◌∷◌, ◌++◌, All, length, map, slice_get, take, drop, Some}
+use Rattle.std.specs.Prelude.{◌≡◌, ◌≢◌, ℕ, suc, ◌+◌, ◌-◌, ◌/◌, ◌<◌, ◌≤◌, Bool, true, false, max, cond, eqb, Option, List, [], ◌∷◌, ◌++◌, All, length, map, slice_get, take, drop, Some}
 use Rattle.std.specs.declared.vec.Vec.{Vec}
 use Rattle.std.specs.Vec.{vec_capacity}
 use Rattle.cf_forms.specs.Plans.{Planned}
@@ -118,13 +118,19 @@ pub record Takes (old : Replica) (x : Entry) (reply : Reply) (new : Replica) : T
   pub records : new.records ≡ old.records ++ cond (eqb (session_of x.token) old.session) (Did (length old.seen + 1) event reply ∷ []) []
   pub free : new.free ≡ old.free - 1
 
--- these entries are replayed: they stand behind the others, and no record is changed
+-- whether a record is of a call, and not of a question
+abbrev pub is_call : Record → Bool
+is_call (Did place event reply) = true
+is_call (Saw place ask answer) = false
+
+-- these entries are replayed: they stand behind the others, no record is changed, and those that are added are of calls, since nothing was asked
 pub record Replays (old : Replica) (entries : List Entry) (new : Replica) : Type 0 where
   pub plan : new.plan ≡ old.plan
   pub session : new.session ≡ old.session
   pub seen : new.seen ≡ old.seen ++ entries
   pub more : List Record
   pub records : new.records ≡ old.records ++ more
+  pub calls : All (λ (r : Record). is_call r ≡ true) more
   pub free : old.free ≤ new.free + length entries
 
 -- why an entry isn't replayed: no memory was found before, or the graph doesn't take its word

@@ -2,7 +2,7 @@
 //! before it concludes something.
 ghost use Rattle.cf_row.specs.Grants.{ClaimsAreOnes};
 ghost use Rattle.cf_row.specs.Next.{NextClaimsAreGranted};
-ghost use Rattle.cf_row.specs.Laws.{LandedPutsStandOnce, NumbersAreRuled, PutsKeepOnceOrNever, PutsStandOnceOrNever, RowsAreOneHistory, RowsOnlyGrow, ToldIsTrue, TokensAreApart};
+ghost use Rattle.cf_row.specs.Laws.{AllFollowTheRule, LandedPutsStandOnce, NumbersAreRuled, PutsKeepOnceOrNever, PutsStandOnceOrNever, RowsAreOneHistory, RowsOnlyGrow, ToldIsTrue, TokensAreApart};
 
 /// A row of which a session's view is true, and in which more entries stand behind it, has the longer view, too.
 pub fn told_is_true()
@@ -40,6 +40,12 @@ pub fn puts_stand_once_or_never()
 /// taken, and below a number that is taken all are.
 pub fn numbers_are_ruled()
     ensures { NumbersAreRuled }
+{}
+
+/// Whichever puts an engine was asked for, each session takes its number by the rule. So no session of a row has two, and
+/// none is two sessions' before all 64 are taken.
+pub fn all_follow_the_rule()
+    ensures { AllFollowTheRule }
 {}
 
 /// Whatever a row is, no stage's claim was granted to two sessions in it, also where they share a number. So a view tells

@@ -18,7 +18,7 @@ pub fn ready(held: &mut Object, lane: u8) -> Result<u16, Code>
     Ok(machine.ready(lane))
 }
 
-/// The least deadline of a stage that is open.
+/// The first deadline of a stage that is open, from the last moment on.
 pub fn next_deadline(held: &mut Object) -> Result<CfDeadline, Code>
     ensures { TellsNextIn held.old result held.new }
 {

@@ -193,7 +193,7 @@ const BY_STEPS: [Step; 19] = [
     Step::Next(0, HELD, 0, Ok(WON)),
     Step::News(2, &[1]),
     Step::Restart,
-    Step::Reserve(200),
+    Step::Reserve(70_000),
     Step::Len(0),
     Step::ApplyAll(&[COMPLETE, 0, CLAIM], Err(MISFIT)),
     Step::ApplyAll(&[CLAIM, CANCEL], Ok(())),

@@ -1,10 +1,10 @@
 //! Composes whose functions answer stages that aren't lower.
 use crate::request::steps::{Step, opened_with, take};
-use cf_forms::Args;
+use cf_forms::{Args, LimitKind};
 use cf_ledger::{Finish, LedgerFault, Reply, StepFault, Taken};
 use cf_model::Attached;
 use cf_outcome::{Cause, Outcome, Value};
-use cf_request::{Composed, Composing, Next};
+use cf_request::{Composed, Composing, Deadline, Next};
 
 /// Caller 0 gives source 0 the number 5.
 const COMPLETE_0: u64 = 0x0100000100000005;
@@ -107,6 +107,26 @@ const SETTLED_BY_THEN: [Step; 6] = [
     Step::Ends(8, PASSED_ON),
 ];
 
+/// It comes too late to matter.
+const LATE: Deadline = Deadline {
+    stage: 3,
+    moment: 9,
+    kind: LimitKind::Timeout,
+};
+
+/// There are so many relays and deadlines, and there is memory for more.
+const AMONG_MANY: [Step; 9] = [
+    Step::FollowOften(2, 3, 1_500),
+    Step::DeadlineOften(LATE, 1_500),
+    Step::Compose(7, Composing::Compose, 0, 3, 3, Ok(FIRST)),
+    Step::Apply(COMPLETE_0, 0, SETTLED),
+    Step::Next(7, 3, None, TAKES_8),
+    Step::Link(7, FIRST, 1, LINKS_8),
+    Step::Pass(9, Ok(())),
+    Step::Told(&[0, 3, 2]),
+    Step::Reserve(70_000),
+];
+
 /// Somebody has cancelled the compose by then.
 const TOO_LATE: [Step; 6] = [
     Step::Compose(7, Composing::Compose, 0, 3, 3, Ok(FIRST)),
@@ -162,9 +182,10 @@ const CANCELLED: Outcome = Outcome::Fault {
 };
 
 /// How much room there is, and what is done.
-const COMPOSES: [(u16, &[Step]); 6] = [
+const COMPOSES: [(u16, &[Step]); 7] = [
     (3, &LATER),
     (2, &SETTLED_BY_THEN),
+    (2, &AMONG_MANY),
     (2, &TOO_LATE),
     (4, &IN_A_CIRCLE),
     (2, &BY_ITSELF),

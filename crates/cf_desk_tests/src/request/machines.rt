@@ -262,10 +262,30 @@ const BY_MOMENTS: [Step; 17] = [
     Step::Pass(29, Ok(())),
 ];
 
+/// It is set once moment 29 has passed, so it is due at once.
+const PAST: Deadline = Deadline {
+    stage: 5,
+    moment: 20,
+    kind: LimitKind::Timeout,
+};
+
+const AT_ONCE: [Step; 5] = [
+    Step::Deadline(PAST, Ok(())),
+    Step::NextDeadline(Some(Deadline {
+        stage: 5,
+        moment: 29,
+        kind: LimitKind::Timeout,
+    })),
+    Step::Pass(29, Ok(())),
+    Step::Ends(5, TIMED_OUT),
+    Step::NextDeadline(Some(LAST)),
+];
+
 #[test]
 fn moments_come_in_order(rt: HostRuntime) {
     let mut machine = opened(&rt, rt.alloc());
     take(&rt, &mut machine, &BY_MOMENTS);
+    take(&rt, &mut machine, &AT_ONCE);
     drop(machine);
 }
 

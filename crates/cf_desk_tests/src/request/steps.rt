@@ -11,6 +11,8 @@ use std::process::Abort;
 /// A call of `Machine` with its answer last.
 #[derive(Clone, Copy)]
 pub(crate) enum Step {
+    /// Memory for so many words.
+    Reserve(usize),
     /// A word, and the lane of a stage that it attaches.
     Apply(u64, u8, Result<Reply, LedgerFault>),
     /// A caller, how it gathers, and what.
@@ -24,7 +26,11 @@ pub(crate) enum Step {
     Ready(u8, u16),
     /// A relay, and the stage that it follows.
     Follow(u16, u16, Result<(), MachineFault>),
+    /// The same so many times.
+    FollowOften(u16, u16, usize),
     Deadline(Deadline, Result<(), MachineFault>),
+    /// The same so many times.
+    DeadlineOften(Deadline, usize),
     Pass(u64, Result<(), MachineFault>),
     NextDeadline(Option<Deadline>),
     /// A lane and a code.
@@ -41,6 +47,7 @@ pub(crate) enum Step {
 /// Whether a call is answered so.
 fn is_answered(machine: &mut Machine, step: Step) -> bool {
     match step {
+        Step::Reserve(words) => machine.reserve(words).is_ok(),
         Step::Apply(word, lane, answer) => {
             lane < machine.lanes() && machine.apply(word, lane) == answer
         }
@@ -54,7 +61,9 @@ fn is_answered(machine: &mut Machine, step: Step) -> bool {
         }
         Step::Ready(lane, answer) => lane < machine.lanes() && machine.ready(lane) == answer,
         Step::Follow(relay, stage, answer) => machine.follow(relay, stage) == answer,
+        Step::FollowOften(relay, stage, times) => follows_often(machine, relay, stage, times),
         Step::Deadline(deadline, answer) => machine.deadline(deadline) == answer,
+        Step::DeadlineOften(deadline, times) => is_set_often(machine, deadline, times),
         Step::Pass(moment, answer) => machine.pass(moment) == answer,
         Step::NextDeadline(answer) => machine.next_deadline() == answer,
         Step::Refuse(lane, code) => { lane < machine.lanes() && machine.refuse(lane, code).is_ok() }
@@ -73,6 +82,26 @@ fn is_answered(machine: &mut Machine, step: Step) -> bool {
         }
         Step::Len(answer) => machine.ledger().len() == answer,
     }
+}
+
+/// Whether a relay is set so many times.
+fn follows_often(machine: &mut Machine, relay: u16, stage: u16, times: usize) -> bool {
+    for _ in 0..times {
+        if machine.follow(relay, stage).is_err() {
+            return false;
+        }
+    }
+    true
+}
+
+/// Whether a deadline is set so many times.
+fn is_set_often(machine: &mut Machine, deadline: Deadline, times: usize) -> bool {
+    for _ in 0..times {
+        if machine.deadline(deadline).is_err() {
+            return false;
+        }
+    }
+    true
 }
 
 /// The machine takes these steps, and each is answered as it says.

@@ -182,7 +182,7 @@ const GROUPS: [(u8, Step); 11] = [
     (0, Step::Records(3)),
     (0, Step::Plan(&[ATTACH_BY_0], Err(PutFault::NoWord))),
     (0, Step::Grow(1)),
-    (0, Step::Reserve(4)),
+    (0, Step::Reserve(70_000)),
     (0, Step::Plan(&[ATTACH_BY_0], DONE)),
     (1, Step::Sees),
     (1, Step::Plan(&[NO_WORD], Err(PutFault::NoWord))),

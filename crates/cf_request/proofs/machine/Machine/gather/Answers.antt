@@ -32,6 +32,7 @@ returns-clause-done c =
     let same = ap (λ (t : Teller). length (state_of t.ledger).plan.stages) c.in_ok-reserve.ensures.found in
     subst (λ (old : Machine). Gathers c.args.who c.args.how c.args.sources.now old c.gather.result new) c.self.view_is
     (record {
+      may = c.in_ok-count.ensures.may;
       found = c.reserve.new.self;
       finds = record { words = c.in_ok-count.count + m.waiting; enough = omega (arith, most, count); few = omega (arith, few, count); is = c.in_ok-reserve.ensures.found };
       tells = subst (λ (n : ℕ). TellsAttaches 0 (gathers c.args.who c.args.how n c.args.sources.now) c.reserve.new.self c.gather.new.teller) same c.gather.ensures.tells;

@@ -5,3 +5,8 @@ pub invariant_of-self : goal.invariant_of-self
 invariant_of-self c =
     let m = c.self.inside in
     (kept_left m.teller m.follows.items m.deadlines.items c.next_open.new.deadlines.items m.own c.self.invariant.0 c.next_open.ensures.forgets, c.self.invariant.1, c.self.invariant.2)
+
+pub invariant_of-self-2 : goal.invariant_of-self-2
+invariant_of-self-2 c =
+    let m = c.self.inside in
+    (kept_left m.teller m.follows.items m.deadlines.items c.next_open.new.deadlines.items m.own c.self.invariant.0 c.next_open.ensures.forgets, c.self.invariant.1, c.self.invariant.2)
