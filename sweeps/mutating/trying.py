@@ -24,6 +24,7 @@ FIRST = 60  # seconds for a test program over a mutant, as long as nobody knows 
 LONGEST = 600  # seconds for a test program over the code as it is
 SQLITE_JDBC = "/usr/share/java/sqlite-jdbc.jar"  # of Debian's libxerial-sqlite-jdbc-java, for tests of stores
 FEATURES = ["cf/testing", "cf/tokio", "cf/rayon", "cf/serde", "cf/tracing", "cf-store/sqlite", "cf-store/postgres", "cf-store/etcd", "cf-store/testing"]
+STARTS = threading.RLock()
 RUNNING: Set[int] = set()  # processes, each of which leads a group
 MADE = ["target", "__pycache__", "*.so", "out"]  # what isn't copied
 
@@ -50,7 +51,8 @@ def end(group: int) -> None:
 
 
 def end_all() -> None:
-    """Ends all that `run` has running."""
+    """Ends all that `run` has running, and lets it start nothing more."""
+    STARTS.acquire()
     for group in list(RUNNING):
         end(group)
 
@@ -58,9 +60,10 @@ def end_all() -> None:
 def run(command: Sequence[str], folder: Path, environment: Dict[str, str], seconds: float) -> Tuple[bool, str]:
     """Whether a command ends with status 0 in time, and what it printed. All that it started is ended."""
     with tempfile.TemporaryFile("w+", encoding="utf-8", errors="replace") as said:
-        done = subprocess.Popen(command, cwd=str(folder), env=environment, stdin=subprocess.DEVNULL, stdout=said, stderr=subprocess.STDOUT,
-                                start_new_session=True)
-        RUNNING.add(done.pid)
+        with STARTS:
+            done = subprocess.Popen(command, cwd=str(folder), env=environment, stdin=subprocess.DEVNULL, stdout=said, stderr=subprocess.STDOUT,
+                                    start_new_session=True)
+            RUNNING.add(done.pid)
         try:
             is_well = done.wait(seconds) == 0
         except subprocess.TimeoutExpired:
