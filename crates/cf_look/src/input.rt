@@ -13,10 +13,7 @@ pub(crate) fn input_of<R: Input + AllocGlobal>(rt: &R) -> io::Result<Vec<u8>> {
 }
 
 /// The JSON value of these bytes, or where they are none. Refused memory is an error, and never told as bytes that are no JSON.
-pub(crate) fn read_json(
-    alloc: Global,
-    bytes: &[u8],
-) -> Result<Result<Json, NotJson>, AllocError> {
+pub(crate) fn read_json(alloc: Global, bytes: &[u8]) -> Result<Result<Json, NotJson>, AllocError> {
     match Json::from_slice(alloc, bytes) {
         Ok(json) => Ok(Ok(json)),
         Err(fault) if fault.is_memory() => Err(AllocError),
