@@ -31,7 +31,7 @@ def told(folder, *command, **environment):
 def cannot_be_built(client, include):
     """Without its library, or with another one in its place, the module isn't built, though one of before is there."""
     with tempfile.TemporaryDirectory() as other:
-        for text, why in ((None, "CF_LIBRARY_DIR=/folder/of/libcf.a"), ("garbage", "ld returned 1")):
+        for text, why in ((None, "CF_LIBRARY_DIR=/folder/of/libcf.a"), ("garbage", "libcf.a: file format not recognized")):
             if text is not None:
                 Path(other, "libcf.a").write_text(text)
             env = dict(os.environ, CF_INCLUDE=str(include), CF_LIBRARY_DIR=other, PKG_CONFIG_LIBDIR=other)
