@@ -231,20 +231,26 @@ class Transactions(Case):
 
 
     def test_a_place_that_a_transaction_loses_in_postgresql(self):
-        """As above: another service puts to the request while its function runs."""
+        """As above: another service puts to the request just before the transaction does."""
         for address in [it for it in STORES if it.startswith("postgres")]:
-            paying, other, called = self.service(address), self.service(address), []
+            from cf.shared import postgres
+
+            paying, other, called, real = self.service(address), self.service(address), [], postgres._Transaction.append
+
+            def append(transaction, put, called=called, other=other, real=real):
+                if len(called) == 1:
+                    other.open(self.name).promise()
+                return real(transaction, put)
             with paying.store.transaction() as transaction:
                 transaction.connection.execute("create table if not exists lost (name text)")
                 transaction._db.commit()
 
-            def pay(connection, called=called, other=other):
+            def pay(connection, called=called):
                 called.append(1)
                 connection.execute("insert into lost values (?)", (self.name,))
-                if len(called) == 1:
-                    other.open(self.name).promise()
             pay = paying.function(self.name, transactional=True)(pay)
-            self.assertIsNone(paying.request(self.name).supply(pay).result(20))
+            with unittest.mock.patch.object(postgres._Transaction, "append", append):
+                self.assertIsNone(paying.request(self.name).supply(pay).result(20))
             rows = paying.store._ask("select count(*) from lost where name = %s", self.name)
             self.assertEqual((rows, len(called)), ([(1,)], 2))
 
