@@ -17,7 +17,7 @@ from languages_judge import LANGUAGES, LanguagesJudge
 from mixed_judge import KEPT, MixedJudge
 from process import HERE, sure, workers_of
 
-from cf.shared import connect
+from cf.store import connect
 
 DIED = "workers that died by themselves"
 WRITES = {"18": "pwrite64", "75": "fdatasync", "74": "fsync"}  # of x86-64

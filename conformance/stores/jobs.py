@@ -15,7 +15,7 @@ from jobs_functions import both, functions, inside, outside, same
 from process import CLIENT, HERE, database_of
 
 from cf.service import Flow
-from cf.shared import Abandoned, DurableService, connect
+from cf.store import Abandoned, DurableService, connect
 
 OPEN = 12  # requests at a time
 HANG = 60  # seconds in which something has to be settled

@@ -6,7 +6,7 @@ import time
 
 from process import database_of
 
-from cf.shared import Functions
+from cf.store import Functions
 
 functions = Functions()
 INSERT = "insert into effect values ('%s')"

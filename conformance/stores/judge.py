@@ -15,7 +15,7 @@ from replies import outcome_text, reply_text, shape
 
 from cf.events import event_of
 from cf.service.words import ATTACH, CLAIM, COMPLETE, FAIL, FINISH, FORMS, PENDING, Told
-from cf.shared import Broken, connect
+from cf.store import Broken, connect
 
 CALLERS = 64
 UNFIT = (AssertionError, AttributeError, LookupError, TypeError, ValueError)  # of a word that can't be done where it stands

@@ -7,7 +7,7 @@ from mixed_functions import said_of
 from process import spoils
 
 from cf.service import Flow
-from cf.shared import Functions
+from cf.store import Functions
 
 functions = Functions()
 note = print  # the process's own log

@@ -26,8 +26,8 @@ from plans import flow_of, is_flow, kinds_of
 from process import Process, sure
 
 from cf.service import RequestFull
-from cf.shared import Broken, DurableService, StoreError, Unknown, connect
-from cf.shared import service as shared_service
+from cf.store import Broken, DurableService, StoreError, Unknown, connect
+from cf.store import service as shared_service
 
 WINDOW = int(os.environ.get("WINDOW", "8"))
 GONE = float(os.environ.get("GONE", "0.7"))
@@ -72,8 +72,8 @@ class Client(Process):
         shared_service.RowView, mixed_functions.note = NotedView, self.note
         self.services = [DurableService(store, self.rng.choice([1, 2, 3]), functions=self.functions, lease=GONE, takes_all=not k or self.rng.random() < 0.5,
                                         groups=self.rng.random() < 0.3, note=self.note) for k, store in enumerate(stores)]
-        logging.getLogger("cf.shared").addHandler(Errors(self.note))
-        logging.getLogger("cf.shared").propagate = False
+        logging.getLogger("cf.store").addHandler(Errors(self.note))
+        logging.getLogger("cf.store").propagate = False
         self.store, self.kinds = stores[0], kinds_of(stores[0].is_transactional)
         self.kept, self.known, self.timed, self.count = {}, set(), set(), 0
 

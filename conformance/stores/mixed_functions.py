@@ -7,7 +7,7 @@ import zlib
 
 import process  # noqa: F401 (for the path)
 
-from cf.shared import Functions, RemoteError
+from cf.store import Functions, RemoteError
 
 functions = Functions()
 INSERT = "insert into effect values ('%s')"

@@ -24,7 +24,7 @@ from judge import UNFIT, Judge
 from mixed_functions import given_by, raises
 
 from cf.service.words import ATTACH, CANCEL, CLAIM, COMPLETE, FAIL, FAIL_AS, FINISH, LINKS
-from cf.shared import Broken
+from cf.store import Broken
 
 KEPT = {  # what keeps the rows of requests that are dropped
     "sqlite": ["create table kept_request (id integer, name text, plan text)",

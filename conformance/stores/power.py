@@ -18,7 +18,7 @@ import servers
 from languages_judge import LANGUAGES
 from process import workers_of
 
-from cf.shared import Put, Unknown, connect
+from cf.store import Put, Unknown, connect
 
 SIZE = 192 * 2**20
 PLAN = '{"cf":3,"flow":"","stages":[]}'

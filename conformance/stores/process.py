@@ -13,7 +13,7 @@ from pathlib import Path
 HERE = Path(__file__).resolve().parent
 CLIENT = HERE.parents[1] / "clients/python"
 sys.path[:0] = [str(CLIENT), str(HERE.parent / "common")]
-from cf.shared import Unknown  # noqa: E402
+from cf.store import Unknown  # noqa: E402
 
 
 SPOILT, _at = os.environ.get("SPOILT"), itertools.count(1)

@@ -7,7 +7,7 @@ from pathlib import Path
 import process  # noqa: F401 (for the path)
 import servers
 
-from cf.shared import Put, Unknown, connect
+from cf.store import Put, Unknown, connect
 
 PLAN = '{"cf":3,"flow":"","stages":[]}'
 

@@ -11,8 +11,8 @@ from pathlib import Path
 from process import HERE
 
 from cf.service.words import CLAIM, COMPLETE, FINISH, GIVES
-from cf.shared import DurableService, Functions, Put, RowView, StoreError, Timer, Unknown, connect, new_session
-from cf.shared import sqlite as sqlite_store
+from cf.store import DurableService, Functions, Put, RowView, StoreError, Timer, Unknown, connect, new_session
+from cf.store import sqlite as sqlite_store
 
 SUPPLIES = json.dumps({"cf": 3, "flow": "", "stages": [{"form": "supply", "name": "s", "fn": "s", "version": 1}] * 80})
 

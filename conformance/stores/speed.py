@@ -15,7 +15,7 @@ import process  # noqa: F401 (for the path)
 import servers
 
 from cf.service.words import CLAIM, FINISH, GIVES
-from cf.shared import Put, RowView, connect, new_session
+from cf.store import Put, RowView, connect, new_session
 
 STAGES, SLICE, SLICES = 100, 0.1, int(os.environ.get("SLICES", "30"))
 PLAN = json.dumps({"cf": 3, "flow": "", "stages": [{"form": "supply", "name": "s", "fn": "s", "version": 1}] * STAGES})

@@ -12,7 +12,7 @@ from mixed_functions import functions
 from mixed_judge import KEPT, MixedJudge
 
 from cf.service import Flow
-from cf.shared import DurableService, connect
+from cf.store import DurableService, connect
 
 
 class Behind(Client):

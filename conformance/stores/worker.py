@@ -14,7 +14,7 @@ from process import Process, sure
 
 from cf.service.words import (ATTACH, CANCEL, CLAIM, COMPLETE, FAIL, FAIL_AS, FINISH, FORMS, GIVES, LINKS, THROWS, THROWN,
                               TICK, VALUE)
-from cf.shared import Put, RowView, StoreError, Unknown, Watcher, connect, new_session
+from cf.store import Put, RowView, StoreError, Unknown, Watcher, connect, new_session
 
 WINDOW = int(os.environ.get("WINDOW", "12"))
 GONE = float(os.environ.get("GONE", "0.7"))

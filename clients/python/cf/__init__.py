@@ -20,10 +20,8 @@ from .values import (BadAnswer, Cancelled, ClaimReply, ClaimStatus, Code, Failur
                      Misfit, Now, NowKind, Outcome, Refused, Task, Thrown, TimedOut)
 from .workers import Workers
 
-Stage = StageState  # its name of before, which goes with the version for the library 1.5
-
 __all__ = ["Applied", "BadAnswer", "BadScript", "Caller", "Cancelled", "ClaimReply", "ClaimStatus", "Closed", "Code",
            "Desk", "Did", "Event", "Failure", "Fault", "FinishReply", "Form", "Future", "Graph", "InUse",
            "InvalidStateError", "Ledger", "Link", "Misfit", "Now", "NowKind", "Outcome", "Plan", "Record", "Refused",
-           "Saw", "SawNow", "SharedFuture", "Stage", "StageKind", "StageState", "Stepped", "Task", "Thrown", "TimedOut",
+           "Saw", "SawNow", "SharedFuture", "StageKind", "StageState", "Stepped", "Task", "Thrown", "TimedOut",
            "Workers", "code_text", "event_of", "events", "outcome_text", "run_script", "word_of"]

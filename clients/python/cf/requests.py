@@ -27,8 +27,8 @@ from urllib.parse import urlsplit
 
 from .service.history import escaped
 from .service.words import CANCEL, IS_CLAIMED, IS_PENDING, IS_READY
-from .shared import Broken, RowView, Json, Store, StoreError, Unknown, connect, new_session
-from .shared.rows import Gone
+from .store import Broken, RowView, Json, Store, StoreError, Unknown, connect, new_session
+from .store.rows import Gone
 
 MOST_NAMED = 3  # stages that a line of the list names
 LEAST_TOKEN = 20  # characters
@@ -85,9 +85,9 @@ def _parser() -> argparse.ArgumentParser:
 
 def _serve(at: argparse.Namespace) -> int:
     """Shows the requests in a browser, until the process is told to end."""
-    from .shared.web.server import Server
-    from .shared.web.wording import TEXTS
-    from .shared.worker import told_to_end
+    from .store.web.server import Server
+    from .store.web.wording import TEXTS
+    from .store.worker import told_to_end
     from .worker import reached
 
     logging.basicConfig(level=logging.WARNING, format="%(asctime)s %(name)s %(message)s")

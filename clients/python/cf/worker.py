@@ -1,9 +1,9 @@
 """A worker of a store: python3 -m cf.worker --store ADDRESS MODULE.. [--threads N] [--lease SECONDS] [--grace SECONDS]
 [--codec MODULE:NAME] [--spans FILE]
 
-It runs the functions of these modules, each of which has a member `functions`, a cf.shared.Functions, in all requests
+It runs the functions of these modules, each of which has a member `functions`, a cf.store.Functions, in all requests
 that are open in the store, until it is told to end by SIGTERM or SIGINT; a store that doesn't answer is waited for. A
-module may have a member `contexts`, a list of cf.shared.Carrier: what goes along with functions. Values and exceptions
+module may have a member `contexts`, a list of cf.store.Carrier: what goes along with functions. Values and exceptions
 are read and written by --codec, a member of a module, where the processes that share the store have one of their own.
 With --spans the spans of each request that this worker closes go to OpenTelemetry, where `opentelemetry-api` is
 installed, and else to the file.
@@ -21,8 +21,8 @@ import threading
 from typing import List, Optional
 
 from .service import spans_to
-from .shared import Carrier, Functions, Json, Store, StoreError, Unknown, Worker, connect
-from .shared.worker import told_to_end
+from .store import Carrier, Functions, Json, Store, StoreError, Unknown, Worker, connect
+from .store.worker import told_to_end
 
 
 def reached(address: str, ends: threading.Event, may_create: bool = True) -> Optional[Store]:
@@ -41,7 +41,7 @@ def codec_of(name: str) -> Json:
     module, _, member = name.partition(":")
     found = getattr(importlib.import_module(module), member, None)
     if not isinstance(found, Json):
-        raise StoreError(f"{name} is no codec, a cf.shared.Json")
+        raise StoreError(f"{name} is no codec, a cf.store.Json")
     return found
 
 

@@ -6,7 +6,7 @@ import asyncio
 import tempfile
 
 from cf.service import Flow
-from cf.shared import DurableService, connect
+from cf.store import DurableService, connect
 
 service = DurableService(connect(f"sqlite:///{tempfile.mkdtemp()}/orders.db"))
 

@@ -1,4 +1,4 @@
-from cf.shared import Functions
+from cf.store import Functions
 from cf.testing import orders
 
 

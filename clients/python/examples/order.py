@@ -15,7 +15,7 @@ import time
 from pathlib import Path
 
 from cf.service import Flow
-from cf.shared import DurableService, Functions, connect
+from cf.store import DurableService, Functions, connect
 
 functions = Functions()
 MARK = "packing"  # a file in which whoever packs says so

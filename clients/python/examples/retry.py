@@ -4,7 +4,7 @@
 """
 import tempfile
 
-from cf.shared import DurableService, connect
+from cf.store import DurableService, connect
 
 service = DurableService(connect(f"sqlite:///{tempfile.mkdtemp()}/orders.db"))
 answers = [None, None, 4900]  # the bank's

@@ -58,7 +58,7 @@ def main(made):
     way = told(made, python, "-c", "from cf.service._core import IS_MODULE; print(IS_MODULE)").strip()
     if way != "True":
         raise SystemExit("installed.py: the wheel has no C module")
-    told(made, python, "-c", "from cf.shared.web.server import Page; Page()")  # (page.html is there, too)
+    told(made, python, "-c", "from cf.store.web.server import Page; Page()")  # (page.html is there, too)
     first = CLIENT / "examples/first.py"
     wanted = told(made, python, first)
     if told(made, python, first, CF_NO_MODULE="1") != wanted:

@@ -5,7 +5,7 @@ each remark is needed.
     mypy --strict clients/python/cf clients/python/tests/typed.py
 
 It is read and not run. `python3 clients/python/tests/typed.py` says which public function or method, and which
-attribute of a class that cf, cf.service, cf.shared or cf.testing exports, has its type left out, which mypy may guess and pyright
+attribute of a class that cf, cf.service, cf.store or cf.testing exports, has its type left out, which mypy may guess and pyright
 reports.
 """
 import ast
@@ -19,7 +19,7 @@ if TYPE_CHECKING:
     import cf
     from cf.service import (Flow, History, LoopService, Request, RequestFull, Service, Span, SpanFile, Spans, Stage,
                             describe_nothing, describe_types, spans_of, spans_to)
-    from cf.shared import DurableRequest, DurableStage, Functions
+    from cf.store import DurableRequest, DurableStage, Functions
     from cf.testing import Arrival, Failure, Report, World, orders, pure, touches
 
     def load(number: int) -> str: ...

@@ -3,7 +3,7 @@ orders no claim may be granted twice, and each put stands as its process was tol
 import random
 from collections import Counter
 
-from cf.shared import Functions, StoreError
+from cf.store import Functions, StoreError
 from cf.testing import orders, pure, touches
 
 FAULTS = ["lost", "unanswered", "late", "silent", "killed", "slow"]

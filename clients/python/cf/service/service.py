@@ -19,7 +19,7 @@ from ..values import Form
 if TYPE_CHECKING:
     from typing_extensions import ParamSpec
 
-    from ..shared import Store
+    from ..store import Store
 
     P = ParamSpec("P")
 
@@ -44,7 +44,7 @@ class Service(concurrent.futures.Executor):
             fails with `BrokenThreadPool`.
         initargs: What it is called with.
         store: Where requests are kept, so that they outlive the process: `Service(store=..)` gives a
-            `cf.shared.DurableService`.
+            `cf.store.DurableService`.
         describe: What histories tell of values and exceptions: `describe_all`, `describe_types`, `describe_nothing`, or
             another function that makes a text of one.
         watch: Who runs the functions, keeps the time and is told of all that is done to stages, in the place of threads
@@ -68,10 +68,10 @@ class Service(concurrent.futures.Executor):
 
     def __new__(cls, max_workers: Optional[int] = None, *given: Any, store: "Optional[Store]" = None,
                 **more: Any) -> Any:
-        """With a `store` of `cf.shared` it is a `cf.shared.DurableService`, whose requests outlive the process."""
+        """With a `store` of `cf.store` it is a `cf.store.DurableService`, whose requests outlive the process."""
         if store is None:
             return super().__new__(cls)
-        from ..shared import DurableService
+        from ..store import DurableService
 
         return DurableService(store, max_workers, *given, **more)
 

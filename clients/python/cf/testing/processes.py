@@ -7,13 +7,13 @@ from typing import TYPE_CHECKING, Any, Callable, List, NamedTuple, Optional, Seq
 
 from ..service.history import describe_all
 from ..service.words import ANSWER, CLAIM, name_of
-from ..shared.functions import Functions
-from ..shared.host import Host
-from ..shared.request import DurableStage
-from ..shared.rows import Gone as Dropped
-from ..shared.rows import Timer
-from ..shared.service import DurableService
-from ..shared.view import Done
+from ..store.functions import Functions
+from ..store.host import Host
+from ..store.request import DurableStage
+from ..store.rows import Gone as Dropped
+from ..store.rows import Timer
+from ..store.service import DurableService
+from ..store.view import Done
 from .answers import OF_CALLS
 from .footprints import CHANGES, CHECKED, READS, USER, Thing
 from .marks import names_of

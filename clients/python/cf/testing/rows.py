@@ -6,9 +6,9 @@ from typing import TYPE_CHECKING, Any, Callable, ContextManager, Dict, List, Opt
 from ..service.history import describe_all
 from ..service.words import (ATTACH, CANCEL, CANCELLED, CLAIM, COMPLETE, FAIL, FAIL_AS, FINISH, LINKS, THROWN, THROWS,
                              TIMED_OUT, VALUE)
-from ..shared.codec import Json
-from ..shared.rows import Entry, Glance, Listed, Memory, Opened, Put, Store, Timer, Transaction
-from ..shared.view import RowView
+from ..store.codec import Json
+from ..store.rows import Entry, Glance, Listed, Memory, Opened, Put, Store, Timer, Transaction
+from ..store.view import RowView
 from .answers import OF_PUTS, OF_READS, OF_WRITES
 from .footprints import CHANGES, READS, Thing
 

@@ -20,11 +20,11 @@ import json
 from typing import TYPE_CHECKING, Any, Callable, Dict, List, Optional, Sequence, Tuple, TypeVar
 
 from ..service.history import History
-from ..shared.codec import Json
-from ..shared.functions import Functions
-from ..shared.rows import Put, Timer, Unknown
-from ..shared.service import PATIENCE
-from ..shared.view import RowView
+from ..store.codec import Json
+from ..store.functions import Functions
+from ..store.rows import Put, Timer, Unknown
+from ..store.service import PATIENCE
+from ..store.view import RowView
 from .answers import OF_CALLS, OF_READS, Answer, Bounds
 from .carriers import CARRIERS, Carrier, Gone
 from .footprints import CHANGES, READS, USER, Move, Thing
@@ -78,7 +78,7 @@ class WorldStore:
         return made
 
     def worker(self, name: str, functions: Functions, *, workers: int = 1, lease: float = 10) -> Process:
-        """A process that works on all requests, as `cf.shared.Worker` does."""
+        """A process that works on all requests, as `cf.store.Worker` does."""
         return self.process(name, functions, workers=workers, takes_all=True, lease=lease)
 
     def outcome(self, request: str, stage: str) -> Any:

@@ -98,7 +98,7 @@ class World:
 
     def store(self, *, lost: int = 0, unanswered: int = 0, late: int = 0, silent: int = 0, killed: int = 0,
               slow: int = 0) -> "WorldStore":
-        """A store that processes share, as `cf.shared` has them. What may go wrong in it is bounded for each order.
+        """A store that processes share, as `cf.store` has them. What may go wrong in it is bounded for each order.
 
         Args:
             lost: How many calls of the store never come there.

@@ -4,7 +4,7 @@ with a world.
 `FAULTY` has of each the service and what is told where it fails. `SOUND` has services.
 """
 from cf.service import Flow
-from cf.shared import Abandoned, Functions, Unknown
+from cf.store import Abandoned, Functions, Unknown
 
 
 def told_in_the_end(call):

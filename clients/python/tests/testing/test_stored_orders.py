@@ -1,4 +1,4 @@
-"""What does `cf.testing` find in services over a store, what may go wrong there, and what does it say of `cf.shared`?
+"""What does `cf.testing` find in services over a store, what may go wrong there, and what does it say of `cf.store`?
 
     CF_LIBRARY=/path/to/libcf.so python3 -m unittest discover -s clients/python/tests/testing
 """
@@ -14,7 +14,7 @@ if not os.environ.get("CF_INSTALLED"):
 sys.path.insert(0, str(Path(__file__).resolve().parent))
 import stored_services as services  # noqa: E402
 from cf.service import Flow  # noqa: E402
-from cf.shared import Functions, Unknown  # noqa: E402
+from cf.store import Functions, Unknown  # noqa: E402
 from cf.testing import orders, pure, touches  # noqa: E402
 
 SECONDS = 10  # within which each planted fault has to be found
@@ -359,7 +359,7 @@ class Working(unittest.TestCase):
 
 
 def small(plan, workers=2, **faults):
-    """A small plan that a worker or two run, with what `cf.shared` promises of it."""
+    """A small plan that a worker or two run, with what `cf.store` promises of it."""
     def test(world):
         functions = Functions()
         load = functions.function("load")(touches()(lambda *_: 1))
@@ -399,7 +399,7 @@ PLANS = {
 
 
 class Properties(unittest.TestCase):
-    """What `cf.shared` promises, over small plans, whatever goes wrong once."""
+    """What `cf.store` promises, over small plans, whatever goes wrong once."""
 
     def test_no_claim_is_granted_twice_and_no_put_stands_twice(self):
         tried = [(name, fault) for name in ("one stage", "again", "transactional") for fault in FAULTS]

@@ -7,7 +7,7 @@ thread_local! {
 }
 
 /// What goes along here: with each stage with a function that this thread attaches, and with each flow that it starts. A function that is called has
-/// what went along with its stage, from any process and any language: in Python it is what the carriers of `cf.shared` give, by their names.
+/// what went along with its stage, from any process and any language: in Python it is what the carriers of `cf.store` give, by their names.
 pub fn context() -> Map<String, Value> {
     CURRENT.with(|it| it.borrow().clone())
 }

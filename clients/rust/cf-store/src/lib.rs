@@ -3,7 +3,7 @@
 //! A process that works on a request reads the row and has its graph. To change something it puts a word behind the words that it has seen. Of
 //! two that put at one place the store takes one; the other reads what stands there, and decides again. So the row is the one order of all that
 //! happened. What a session, which is one running [`Service`], knows of a row and may put there, the proved [`Row`](cf_graph::Row) says. Python's
-//! `cf.shared` has the same rows: a request that it opened is gone on with here, and the other way round. Functions are known by name and
+//! `cf.store` has the same rows: a request that it opened is gone on with here, and the other way round. Functions are known by name and
 //! version, and values are JSON.
 //!
 //! | File | What it has |

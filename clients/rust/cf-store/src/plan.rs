@@ -1,4 +1,4 @@
-//! The text of a request's plan, of which each process builds the same graph. It is the JSON that Python's `cf.shared` writes.
+//! The text of a request's plan, of which each process builds the same graph. It is the JSON that Python's `cf.store` writes.
 use crate::error::StoreError;
 use cf_graph::{Form, Plan, PlanBuilder};
 use serde::{Deserialize, Serialize};

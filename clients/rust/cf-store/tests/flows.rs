@@ -265,8 +265,8 @@ fn a_flow_is_begun_once() {
 const STARTS: &str = "
 import sys, contextvars
 from cf.service import Flow
-from cf.shared import DurableService, connect
-from cf.shared.contexts import Variables
+from cf.store import DurableService, connect
+from cf.store.contexts import Variables
 TENANT = contextvars.ContextVar('tenant')
 service = DurableService(connect(sys.argv[1]), int(sys.argv[2]), lease=2, contexts=[Variables(tenant=TENANT)])
 @service.function('pay', version=1)

@@ -21,7 +21,7 @@ import java.util.concurrent.ConcurrentLinkedDeque;
 
 /**
  * Rows in keys of an etcd cluster, by the JSON gateway of etcd 3.4: for few and important requests that outlive machines. The keys are those of
- * Python's {@code cf.shared}. It answers what a majority of the members has on disk, unless they were started with {@code --unsafe-no-fsync}, which
+ * Python's {@code cf.store}. It answers what a majority of the members has on disk, unless they were started with {@code --unsafe-no-fsync}, which
  * can't be seen here. It has no clock: timers go by each process's own.
  */
 public final class EtcdStore implements Store {

@@ -17,7 +17,7 @@ import java.util.concurrent.ConcurrentLinkedDeque;
 
 /**
  * Rows in tables, by JDBC: a file of SQLite's, which processes of one machine share, or a database of PostgreSQL's. The tables are those of
- * Python's {@code cf.shared} and Rust's {@code cf-store}. What it has answered is on disk; an engine that is set to lose something is refused.
+ * Python's {@code cf.store} and Rust's {@code cf-store}. What it has answered is on disk; an engine that is set to lose something is refused.
  */
 public abstract class JdbcStore implements Store {
     /** How long a writer waits for an engine that others have, in seconds. */

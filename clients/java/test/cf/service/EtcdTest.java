@@ -30,7 +30,7 @@ final class EtcdTest {
     private static final String PYTHON = String.join("\n",
             "import sys",
             "from cf.service import Flow",
-            "from cf.shared import DurableService, Functions, Worker, connect",
+            "from cf.store import DurableService, Functions, Worker, connect",
             "functions = Functions()",
             "@functions.function('inc')",
             "def inc(number): return number + 1",
@@ -55,7 +55,7 @@ final class EtcdTest {
     }
 
     static boolean hasPython() {
-        return StoresTest.onPath("python3") && System.getenv("CF_LIBRARY") != null && new File("clients/python/cf/shared").isDirectory();
+        return StoresTest.onPath("python3") && System.getenv("CF_LIBRARY") != null && new File("clients/python/cf/store").isDirectory();
     }
 
     private static int freePort() throws IOException {

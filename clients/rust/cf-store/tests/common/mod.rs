@@ -183,7 +183,7 @@ pub fn quick() -> Options {
     options
 }
 
-/// Runs a program in Python over `cf.shared`, with these arguments. `None` where the client for Python isn't there, or its library.
+/// Runs a program in Python over `cf.store`, with these arguments. `None` where the client for Python isn't there, or its library.
 pub fn python(program: &str, args: &[&str]) -> Option<Child> {
     let (client, _library) = (std::env::var_os("CF_PYTHON")?, std::env::var_os("CF_LIBRARY").filter(|it| std::path::Path::new(it).exists())?);
     let mut command = Command::new(std::env::var_os("CF_INTERPRETER").unwrap_or_else(|| "python3".into()));
@@ -218,7 +218,7 @@ pub fn settled<T: serde::de::DeserializeOwned>(stage: &Stage) -> Result<T, cf_st
 
 const FINISHES: &str = "
 import sys
-from cf.shared import DurableService, connect
+from cf.store import DurableService, connect
 service = DurableService(connect(sys.argv[1]), 2, lease=2)
 @service.function('twice', version=1)
 def twice(number):
@@ -232,7 +232,7 @@ service.shutdown()
 
 const BEGINS: &str = "
 import sys
-from cf.shared import DurableService, connect
+from cf.store import DurableService, connect
 service = DurableService(connect(sys.argv[1]), 0, lease=2)
 @service.function('inc', version=1)
 def inc(number): ...

@@ -2,7 +2,7 @@
 """Who is told of the end of a request in a store, with which spans? Which context have functions there? In the place of
 OpenTelemetry's package stands the few of its calls that are used.
 
-    CF_LIBRARY=/path/to/libcf.so python3 clients/python/tests/shared/test_durable_traces.py [-v] [TEST ..]
+    CF_LIBRARY=/path/to/libcf.so python3 clients/python/tests/store/test_durable_traces.py [-v] [TEST ..]
 """
 import contextvars
 import json
@@ -17,9 +17,9 @@ from pathlib import Path
 from case import Case
 import shared_functions as f
 from cf.service import Flow, Service, SpanFile
-from cf.shared import Abandoned, Broken, DurableService, Functions, Memory, Trace, Variables, Worker, connect
-from cf.shared.host import Host
-from cf.shared.plans import SharedPlan, said_in
+from cf.store import Abandoned, Broken, DurableService, Functions, Memory, Trace, Variables, Worker, connect
+from cf.store.host import Host
+from cf.store.plans import SharedPlan, said_in
 
 OTHER = contextvars.ContextVar("other")
 

@@ -1,7 +1,7 @@
 #!/usr/bin/env python3
 """A store that is away, silent, read-only or refusing for a while: nothing is lost, run twice or told wrongly.
 
-    CF_LIBRARY=/path/to/libcf.so python3 clients/python/tests/shared/test_outages.py [-v] [TEST ..]
+    CF_LIBRARY=/path/to/libcf.so python3 clients/python/tests/store/test_outages.py [-v] [TEST ..]
 """
 import contextlib
 import threading
@@ -12,8 +12,8 @@ import unittest.mock
 from case import Case, STORES
 import shared_functions as f
 from cf.service.words import COMPLETE
-from cf.shared.host import Host
-from cf.shared import (Broken, connect, DurableService, Functions, Memory, new_session, RowView,
+from cf.store.host import Host
+from cf.store import (Broken, connect, DurableService, Functions, Memory, new_session, RowView,
                        service as shared_service, StoreError, Unknown)
 
 
@@ -48,7 +48,7 @@ class Outages(Case):
                     asks = DurableService(failing_store, 0, functions=functions)
                     stages = [asks.request("r").supply(function, k) for k in range(3)]
                     failing_store.lands, failing_store.left = lands, left
-                    with self.assertLogs("cf.shared", "WARNING"):
+                    with self.assertLogs("cf.store", "WARNING"):
                         works = DurableService(failing_store, 2, functions=functions, takes_all=True, lease=1)
                         asks._lease = works._lease = 1
                         self.assertEqual([outlasting_stage.result(20) for outlasting_stage in stages], [None] * 3)
@@ -87,7 +87,7 @@ class Outages(Case):
         self.services.append(service)
         outlasting = service.request("r")
         for fails in (False, True):
-            with self.assertLogs("cf.shared", "WARNING") as logs:
+            with self.assertLogs("cf.store", "WARNING") as logs:
                 outlasting_stage = outlasting.supply(function, 17, fails)
                 self.until(lambda: len(refused) > 1)  # what it came to, and that it was refused
                 failing_store.is_shut = False
@@ -171,7 +171,7 @@ class Outages(Case):
         last = functions.function("last")(silent.set)
         with unittest.mock.patch.object(shared_service, "PATIENCE", 0.01):
             service = DurableService(Silent(), 1, functions=functions)
-            with self.assertLogs("cf.shared", "ERROR") as logs:
+            with self.assertLogs("cf.store", "ERROR") as logs:
                 service.request("r").supply(last)
                 self.assertTrue(silent.wait(20))
                 service.shutdown()
@@ -283,7 +283,7 @@ class Outages(Case):
         asks = DurableService(failing_store, 0, functions=f.functions)
         self.services.append(asks)
         asks.request("r").promise("p").complete(1)
-        with unittest.mock.patch.object(shared_service, "PATIENCE", 0), self.assertLogs("cf.shared", "WARNING"):
+        with unittest.mock.patch.object(shared_service, "PATIENCE", 0), self.assertLogs("cf.store", "WARNING"):
             works = DurableService(failing_store, 1, functions=f.functions, lease=0.5)
             self.services.append(works)
             outlasting_stage = works.open("r")

@@ -1,7 +1,7 @@
 #!/usr/bin/env python3
 """Stages in a store: each form, settling, composing, flows, callbacks, who waits or looks.
 
-    CF_LIBRARY=/path/to/libcf.so python3 clients/python/tests/shared/test_durable_stages.py [-v] [TEST ..]
+    CF_LIBRARY=/path/to/libcf.so python3 clients/python/tests/store/test_durable_stages.py [-v] [TEST ..]
 """
 import asyncio
 import threading
@@ -13,7 +13,7 @@ from case import Case, Watched
 import shared_functions as f
 from cf.service import Flow, RequestFull
 from cf.service.words import CLAIM, FINISH, VALUE
-from cf.shared import Abandoned, Broken, DurableService, Functions, Memory
+from cf.store import Abandoned, Broken, DurableService, Functions, Memory
 
 
 class DurableStages(Case):
@@ -325,7 +325,7 @@ class DurableStages(Case):
         with self.assertRaises(SystemExit):
             other.complete(0)
         self.assertEqual(heard, [other, other])
-        with self.assertLogs("cf.shared", "CRITICAL") as logs:
+        with self.assertLogs("cf.store", "CRITICAL") as logs:
             with self.assertRaises(SystemExit):
                 promise.complete(1)
             self.until(lambda: len(heard) == 8 and logs.output)

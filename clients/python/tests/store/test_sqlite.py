@@ -2,7 +2,7 @@
 """The store in SQLite alone: its file and the line before it, its settings, transactions that can't be undone, rows
 that somebody changed.
 
-    CF_LIBRARY=/path/to/libcf.so python3 clients/python/tests/shared/test_sqlite.py [-v] [TEST ..]
+    CF_LIBRARY=/path/to/libcf.so python3 clients/python/tests/store/test_sqlite.py [-v] [TEST ..]
 """
 import contextlib
 import fcntl
@@ -15,8 +15,8 @@ import unittest.mock
 from pathlib import Path
 
 from case import Case
-from cf.shared import Broken, connect, Put, sqlite as shared_sqlite, StoreError, tables, Timer, Unknown
-from cf.shared.rows import Glance
+from cf.store import Broken, connect, Put, sqlite as shared_sqlite, StoreError, tables, Timer, Unknown
+from cf.store.rows import Glance
 
 
 class SQLite(Case):

@@ -1,7 +1,7 @@
 #!/usr/bin/env python3
 """The commands python3 -m cf.requests and python3 -m cf.worker.
 
-    CF_LIBRARY=/path/to/libcf.so python3 clients/python/tests/shared/test_commands.py [-v] [TEST ..]
+    CF_LIBRARY=/path/to/libcf.so python3 clients/python/tests/store/test_commands.py [-v] [TEST ..]
 """
 import contextlib
 import io
@@ -19,7 +19,7 @@ from pathlib import Path
 from case import Case, CLIENT, HERE
 import shared_functions as f
 from cf import requests
-from cf.shared import connect, DurableService, Functions, Memory, StoreError, Worker, worker
+from cf.store import connect, DurableService, Functions, Memory, StoreError, Worker, worker
 
 
 class Commands(Case):
@@ -125,7 +125,7 @@ class Commands(Case):
             working.request("r").supply(waits)
             self.until(working.running)
             ends.set()
-            with unittest.mock.patch.object(worker, "BETWEEN_TOLD", 0), self.assertLogs("cf.shared", "WARNING") as logs:
+            with unittest.mock.patch.object(worker, "BETWEEN_TOLD", 0), self.assertLogs("cf.store", "WARNING") as logs:
                 with ThreadPoolExecutor(1) as pool:
                     running = pool.submit(working.run, ends)
                     self.until(lambda: any("waits for waits (request 'r', stage 0) for" in it for it in logs.output))

@@ -2,7 +2,7 @@
 """Transactional functions: their effects stand once, with the finish, or not at all; what they put and do to the
 connection.
 
-    CF_LIBRARY=/path/to/libcf.so python3 clients/python/tests/shared/test_transactions.py [-v] [TEST ..]
+    CF_LIBRARY=/path/to/libcf.so python3 clients/python/tests/store/test_transactions.py [-v] [TEST ..]
 """
 import contextlib
 import sqlite3
@@ -15,7 +15,7 @@ from case import Case, STORES
 import shared_functions as f
 from cf.service import Flow
 from cf.service.words import CLAIM
-from cf.shared import (connect, DurableService, Functions, Memory, Put, service as shared_service,
+from cf.store import (connect, DurableService, Functions, Memory, Put, service as shared_service,
                        sqlite as shared_sqlite, Unknown)
 
 
@@ -233,7 +233,7 @@ class Transactions(Case):
     def test_a_place_that_a_transaction_loses_in_postgresql(self):
         """As above: another service puts to the request just before the transaction does."""
         for address in [it for it in STORES if it.startswith("postgres")]:
-            from cf.shared import postgres
+            from cf.store import postgres
 
             paying, other, called, real = self.service(address), self.service(address), [], postgres._Transaction.append
 
@@ -281,7 +281,7 @@ class KilledTransactions(Case):
 
     def test_a_commit_whose_reply_is_lost(self):
         """The connection drops around the commit: the effect stands exactly once, whether it had landed or not."""
-        from cf.shared import sqlite as store_of
+        from cf.store import sqlite as store_of
         path, real, notes = f"{self.folder.name}/db", store_of._Transaction.commit, []
         db = sqlite3.connect(path, isolation_level=None)
         db.execute("create table paid (account text)")
@@ -297,7 +297,7 @@ class KilledTransactions(Case):
                         raise Unknown("cut")
                 store_of._Transaction.commit = commit
                 name = f"lands {lands}"
-                with self.assertLogs("cf.shared", "WARNING") as logged:
+                with self.assertLogs("cf.store", "WARNING") as logged:
                     paying = self.service(note=lambda *said: notes.append(said))
                     self.assertEqual(paying.request(name).supply(f.pay, name).result(30), name)
                     end = time.monotonic() + 30  # the stage may be told before the worker has said what was cut

@@ -1,14 +1,14 @@
 #!/usr/bin/env python3
 """Functions by name and version, and what services and functions refuse.
 
-    CF_LIBRARY=/path/to/libcf.so python3 clients/python/tests/shared/test_functions.py [-v] [TEST ..]
+    CF_LIBRARY=/path/to/libcf.so python3 clients/python/tests/store/test_functions.py [-v] [TEST ..]
 """
 import unittest
 
 from case import Case
 import shared_functions as f
 from cf.service import Flow, Service
-from cf.shared import connect, DurableService, Functions, Memory, StoreError
+from cf.store import connect, DurableService, Functions, Memory, StoreError
 
 
 class NamedFunctions(Case):

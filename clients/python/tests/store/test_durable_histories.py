@@ -1,7 +1,7 @@
 #!/usr/bin/env python3
 """Histories of requests in a store, and what they tell of values.
 
-    CF_LIBRARY=/path/to/libcf.so python3 clients/python/tests/shared/test_durable_histories.py [-v] [TEST ..]
+    CF_LIBRARY=/path/to/libcf.so python3 clients/python/tests/store/test_durable_histories.py [-v] [TEST ..]
 """
 import json
 import threading
@@ -10,7 +10,7 @@ import unittest
 from case import Case
 import shared_functions as f
 from cf.service import describe_nothing, describe_types, Service
-from cf.shared import Memory
+from cf.store import Memory
 
 
 class DurableHistories(Case):

@@ -2,7 +2,7 @@
 """What lists ask of a store: all open requests with glances at them, closed ones, names of sessions; and who keeps
 glances there.
 
-    CF_LIBRARY=/path/to/libcf.so python3 clients/python/tests/shared/test_glances.py [-v] [TEST ..]
+    CF_LIBRARY=/path/to/libcf.so python3 clients/python/tests/store/test_glances.py [-v] [TEST ..]
 """
 import time
 import unittest
@@ -11,12 +11,12 @@ import unittest.mock
 from case import Case, STORES
 import shared_functions as f
 from cf.service import Flow
-from cf.shared import (Abandoned, Broken, connect, DurableService, Grouped, Memory, new_session, Put, RowView, Store,
+from cf.store import (Abandoned, Broken, connect, DurableService, Grouped, Memory, new_session, Put, RowView, Store,
                        StoreError, tables, Unknown)
-from cf.shared.glances import glance_of, read
-from cf.shared.plans import text_of
-from cf.shared.rows import FIRST, flow_of, Glance, Gone, Wanted
-from cf.shared.tables import TableStore
+from cf.store.glances import glance_of, read
+from cf.store.plans import text_of
+from cf.store.rows import FIRST, flow_of, Glance, Gone, Wanted
+from cf.store.tables import TableStore
 
 
 class Lists(Case):

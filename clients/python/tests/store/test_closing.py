@@ -2,7 +2,7 @@
 """Requests that are over are closed and let go, opened again by whoever goes on, dropped, and begun anew under their
 name.
 
-    CF_LIBRARY=/path/to/libcf.so python3 clients/python/tests/shared/test_closing.py [-v] [TEST ..]
+    CF_LIBRARY=/path/to/libcf.so python3 clients/python/tests/store/test_closing.py [-v] [TEST ..]
 """
 import contextlib
 import threading
@@ -13,10 +13,10 @@ from case import Case, STORES, Watched
 import shared_functions as f
 from cf.service import Flow
 from cf.service.words import ATTACH, CANCEL, CLAIM, COMPLETE
-from cf.shared import (Broken, connect, DurableService, Memory, new_session, RowView, service as shared_service,
+from cf.store import (Broken, connect, DurableService, Memory, new_session, RowView, service as shared_service,
                        Timer, Unknown)
-from cf.shared.plans import text_of
-from cf.shared.request import DurableRequest
+from cf.store.plans import text_of
+from cf.store.request import DurableRequest
 
 
 class Closing(Case):

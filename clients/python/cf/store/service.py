@@ -34,7 +34,7 @@ if TYPE_CHECKING:
     P = ParamSpec("P")
 
 T = TypeVar("T")
-LOGGER = logging.getLogger("cf.shared")
+LOGGER = logging.getLogger("cf.store")
 PATIENCE = 60  # seconds
 MOST_GLANCES = 500  # that a beat keeps
 LONG = 60  # seconds of a function, from which on it is told of
@@ -149,7 +149,7 @@ class DurableService(concurrent.futures.Executor):
         self._workers, self._takes_all, self._lease = workers, takes_all, lease
         self._note, self._describe = note, describe
         self.contexts: Tuple[Carrier, ...] = tuple(contexts)
-        named = f"cf-shared-{next(self._numbers)}"
+        named = f"cf-store-{next(self._numbers)}"
         self._pool = host.pool(max(workers, 1), named)
         self._ends = None if on_end is None else Ends(on_end, f"{named}_ends")
         self._requests: Dict[str, DurableRequest] = {}
@@ -168,7 +168,7 @@ class DurableService(concurrent.futures.Executor):
         self._mark: Any = None
         self._is_named = False
         self._firing: Set[Tuple[str, int, float]] = set()
-        self._pump = host.pump(self._run_pump, "cf-shared")
+        self._pump = host.pump(self._run_pump, "cf-store")
 
     # What users call.
 
@@ -388,7 +388,7 @@ class DurableService(concurrent.futures.Executor):
             except BaseException:
                 if self._stops.is_set():
                     break
-                LOGGER.critical("cf.shared", exc_info=True)
+                LOGGER.critical("cf.store", exc_info=True)
                 self._stops.wait(0.2)
         # what runs is finished: until then others have to see that this session is there
         while self._busy and not self._is_idle.wait(min(0.2, self._lease / 5)):

@@ -2,7 +2,7 @@
 """Time limits of stages in a store: how they and those behind them end, also if the limit was set before, and timers
 that fail.
 
-    CF_LIBRARY=/path/to/libcf.so python3 clients/python/tests/shared/test_durable_timeouts.py [-v] [TEST ..]
+    CF_LIBRARY=/path/to/libcf.so python3 clients/python/tests/store/test_durable_timeouts.py [-v] [TEST ..]
 """
 import threading
 import unittest
@@ -13,7 +13,7 @@ import shared_functions as f
 from cf import BadAnswer, run_script
 from cf.service import Service
 from cf.service.words import ATTACH, BAD_ANSWER, FAIL, FAIL_AS, TIMED_OUT
-from cf.shared import DurableService, Json, Memory, new_session, RowView, service as shared_service, Timer, Unknown
+from cf.store import DurableService, Json, Memory, new_session, RowView, service as shared_service, Timer, Unknown
 
 
 class DurableTimeouts(Case):
@@ -117,7 +117,7 @@ class DurableTimeouts(Case):
             service = DurableService(late_store, 1, functions=f.functions, lease=5)
             self.services.append(service)
             stored_limit = service.request("r").promise()
-            with self.assertLogs("cf.shared", "WARNING"):
+            with self.assertLogs("cf.store", "WARNING"):
                 late_store.left = 3
                 self.assertIsInstance(stored_limit.or_timeout(0.01).exception(20), TimeoutError)
             self.until(lambda: not late_store._timers)

@@ -2,7 +2,7 @@
 """RowView: what one session knows of a row and may put there, if replies are lost, reads are stale, numbers are
 shared, words don't fit. Watcher: who is gone?
 
-    CF_LIBRARY=/path/to/libcf.so python3 clients/python/tests/shared/test_views.py [-v] [TEST ..]
+    CF_LIBRARY=/path/to/libcf.so python3 clients/python/tests/store/test_views.py [-v] [TEST ..]
 """
 import json
 import os
@@ -15,8 +15,8 @@ import unittest.mock
 from case import Case, EMPTY
 from cf.service import RequestFull
 from cf.service.words import ATTACH, CANCEL, CLAIM, COMPLETE, FAIL, FINISH
-from cf.shared.host import Host
-from cf.shared import (Broken, DurableService, Json, Memory, new_session, Put, RowView, StoreError, Unknown, Watcher)
+from cf.store.host import Host
+from cf.store import (Broken, DurableService, Json, Memory, new_session, Put, RowView, StoreError, Unknown, Watcher)
 
 
 class Silent(Memory):

@@ -1,7 +1,7 @@
 #!/usr/bin/env python3
 """Bad plans, rows, payloads and timers: each is told with its request and place, and others go on.
 
-    CF_LIBRARY=/path/to/libcf.so python3 clients/python/tests/shared/test_bad_rows.py [-v] [TEST ..]
+    CF_LIBRARY=/path/to/libcf.so python3 clients/python/tests/store/test_bad_rows.py [-v] [TEST ..]
 """
 import os
 import sqlite3
@@ -10,7 +10,7 @@ import unittest
 from case import Case, EMPTY
 import shared_functions as f
 from cf.service.words import ATTACH, CLAIM, COMPLETE, FINISH
-from cf.shared import Broken, connect, new_session, RowView, Timer
+from cf.store import Broken, connect, new_session, RowView, Timer
 
 
 class BadRows(Case):
@@ -24,7 +24,7 @@ class BadRows(Case):
                "odd": '{"cf":3,"flow":"","stages":[{"form":"supply","name":"s","args":5}]}'}
         for name, plan in bad.items():
             store.open(name, plan)
-        with self.assertLogs("cf.shared", "ERROR") as logs:
+        with self.assertLogs("cf.store", "ERROR") as logs:
             service = self.service(takes_all=True)
             self.assertEqual(service.request("good").supply(f.load, 1).result(20)["number"], 1)
             self.until(lambda: len(service.broken) == len(bad))
@@ -41,7 +41,7 @@ class BadRows(Case):
         waits, value = bad.promise(), gone.promise("value")
         value.complete({"a": 1})
         db.execute("update cf_word set payload = null where request = 2 and at = 1")
-        with self.assertLogs("cf.shared", "ERROR") as logs:
+        with self.assertLogs("cf.store", "ERROR") as logs:
             db.execute("insert into cf_word (request, at, word, token) values (1, 1, 77, 7)")
             self.assertIsInstance(waits.exception(20), Broken)
         self.assertIn("'bad', place 2", "\n".join(logs.output))
@@ -72,7 +72,7 @@ class BadRows(Case):
         db = sqlite3.connect(f"{self.folder.name}/db", isolation_level=None)
         db.execute("insert into cf_timer values (3, 77, 0, 'by hand')")
         db.close()
-        with self.assertLogs("cf.shared", "WARNING") as logs:
+        with self.assertLogs("cf.store", "WARNING") as logs:
             service = self.service(takes_all=True)
             self.until(lambda: len(service.broken) == 2 and "'no timer'" in "".join(logs.output))
             self.assertEqual(service.request("no timer").supply(f.load, 1).result(20)["number"], 1)
@@ -89,7 +89,7 @@ class BadRows(Case):
         store = connect(self.address)
         store.open("newer", '{"cf":99}')
         store.set_timer(Timer("newer", 0, 0.0, b"N"))
-        with self.assertLogs("cf.shared", "ERROR"):
+        with self.assertLogs("cf.store", "ERROR"):
             service = self.service(takes_all=True)
             self.until(lambda: service.broken)
             self.assertEqual(service.request("good").supply(f.slow, 0.2).result(20), os.getpid())

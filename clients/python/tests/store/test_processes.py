@@ -1,7 +1,7 @@
 #!/usr/bin/env python3
 """Requests that go on in other processes: resumed, by timers, and after a worker was killed.
 
-    CF_LIBRARY=/path/to/libcf.so python3 clients/python/tests/shared/test_processes.py [-v] [TEST ..]
+    CF_LIBRARY=/path/to/libcf.so python3 clients/python/tests/store/test_processes.py [-v] [TEST ..]
 """
 import os
 import signal
@@ -14,7 +14,7 @@ from pathlib import Path
 from case import Case, CLIENT, HERE
 import shared_functions as f
 from cf.service import Flow
-from cf.shared import Abandoned
+from cf.store import Abandoned
 
 
 class Processes(Case):
@@ -46,7 +46,7 @@ class Processes(Case):
         self.assertEqual(second.open("r")["number"].result(20), 5)
 
     def test_a_timer_outlives_who_set_it(self):
-        code = ("import sys, os; sys.path[:0] = %r; import shared_functions as f; from cf.shared import *; "
+        code = ("import sys, os; sys.path[:0] = %r; import shared_functions as f; from cf.store import *; "
                 "s = DurableService(connect(%r), 0, functions=f.functions); "
                 "s.request('r').promise('p').or_timeout(0.5); os._exit(0)")
         paths = [str(HERE)] + ([] if os.environ.get("CF_INSTALLED") else [str(CLIENT)])

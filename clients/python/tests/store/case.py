@@ -1,8 +1,8 @@
-"""What the tests of cf.shared stand on: services and workers over a store in a temporary folder, which are ended.
+"""What the tests of cf.store stand on: services and workers over a store in a temporary folder, which are ended.
 
 All of them:
 
-    CF_LIBRARY=/path/to/libcf.so python3 -m unittest discover -s clients/python/tests/shared
+    CF_LIBRARY=/path/to/libcf.so python3 -m unittest discover -s clients/python/tests/store
 
 They are over SQLite in a temporary folder. With CF_STORES="postgresql://.. etcd://.." those of stores and services are
 over these, too, which have to be empty.
@@ -22,10 +22,10 @@ sys.path.insert(0, str(HERE))
 if not os.environ.get("CF_INSTALLED"):
     sys.path.insert(0, str(CLIENT))
 import shared_functions as f  # noqa: E402
-from cf.shared import DurableService, Functions, Memory, connect, new_session  # noqa: E402
-from cf.shared.plans import text_of  # noqa: E402
+from cf.store import DurableService, Functions, Memory, connect, new_session  # noqa: E402
+from cf.store.plans import text_of  # noqa: E402
 
-logging.getLogger("cf.shared").addHandler(logging.NullHandler())  # (what functions raise isn't shown)
+logging.getLogger("cf.store").addHandler(logging.NullHandler())  # (what functions raise isn't shown)
 STORES = os.environ.get("CF_STORES", "").split()
 EMPTY = text_of(None, Functions())
 

@@ -1,7 +1,7 @@
 #!/usr/bin/env python3
 """The page of a store's requests: who is let in, what lists and requests tell, what actions do, how faults are told.
 
-    CF_LIBRARY=/path/to/libcf.so python3 clients/python/tests/shared/test_web.py [-v] [TEST ..]
+    CF_LIBRARY=/path/to/libcf.so python3 clients/python/tests/store/test_web.py [-v] [TEST ..]
 """
 import base64
 import hashlib
@@ -25,12 +25,12 @@ from urllib.parse import urlencode
 from case import Case, CLIENT, STORES
 import shared_functions as f
 from cf.service import Flow
-from cf.shared import (connect, DurableService, Functions, Memory, new_session, Put, RowView, StoreError, Unknown)
-from cf.shared.plans import text_of
-from cf.shared.rows import Changes
-from cf.shared.web import server
-from cf.shared.web.server import Server
-from cf.shared.web.wording import TEXTS
+from cf.store import (connect, DurableService, Functions, Memory, new_session, Put, RowView, StoreError, Unknown)
+from cf.store.plans import text_of
+from cf.store.rows import Changes
+from cf.store.web import server
+from cf.store.web.server import Server
+from cf.store.web.wording import TEXTS
 
 logging.getLogger("cf.requests").addHandler(logging.NullHandler())  # (it names each action)
 HOSTILE = "</script><img src=x onerror=alert(1)>\"'`&\n\u202e\u2028{{said}}"
@@ -646,7 +646,7 @@ class Lists(WebCase):
                 yield json.loads(line[6:])
 
     def test_too_many_pages(self):
-        with unittest.mock.patch("cf.shared.web.server.MOST_LIVE", 1):
+        with unittest.mock.patch("cf.store.web.server.MOST_LIVE", 1):
             self.page_over(Memory())
         next(self.live(view="requests"))
         self.assertEqual(self.ask("GET", "/live?view=requests")[0], 503)

@@ -1,7 +1,7 @@
 #!/usr/bin/env python3
 """The store in PostgreSQL alone, without a server: what one says, and notices that can't be sent.
 
-    CF_LIBRARY=/path/to/libcf.so python3 clients/python/tests/shared/test_postgres.py [-v] [TEST ..]
+    CF_LIBRARY=/path/to/libcf.so python3 clients/python/tests/store/test_postgres.py [-v] [TEST ..]
 """
 import contextlib
 import importlib.util
@@ -11,14 +11,14 @@ import unittest
 import unittest.mock
 
 from case import Case
-from cf.shared import StoreError, Unknown
+from cf.store import StoreError, Unknown
 
 
 class PostgreSQL(Case):
     @unittest.skipIf(importlib.util.find_spec("psycopg2") is None, "no psycopg2")
     def test_what_a_server_of_postgresql_says(self):
         """One that can only be read for now is away; what it refuses for good is told as such, also at a commit."""
-        from cf.shared import postgres
+        from cf.store import postgres
         said = {"ReadOnlySqlTransaction": Unknown, "AdminShutdown": Unknown, "UniqueViolation": StoreError,
                 "DataError": StoreError, "ProgramLimitExceeded": StoreError, "InFailedSqlTransaction": StoreError}
         for name, kind in said.items():
@@ -30,7 +30,7 @@ class PostgreSQL(Case):
         absent = {it: unittest.mock.MagicMock() for it in ("psycopg2", "psycopg2.errors")}
         is_absent = importlib.util.find_spec("psycopg2") is None
         with unittest.mock.patch.dict(sys.modules, absent) if is_absent else contextlib.nullcontext():
-            from cf.shared import postgres
+            from cf.store import postgres
         postgres_store, sent = postgres.Postgres.__new__(postgres.Postgres), threading.Event()
         left = [StoreError("refused"), ValueError("odd"), Unknown("away")]
         postgres_store._changes, postgres_store._notifier = threading.Event(), None

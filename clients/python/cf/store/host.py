@@ -7,7 +7,7 @@ import threading
 import time
 from typing import Any, Callable, Optional, Tuple, Type
 
-LOGGER = logging.getLogger("cf.shared")
+LOGGER = logging.getLogger("cf.store")
 
 
 class Host:

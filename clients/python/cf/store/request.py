@@ -1,6 +1,6 @@
 """A request whose row stands in a store, and its stages as futures.
 
-The design of `cf.shared`, which this file leads through:
+The design of `cf.store`, which this file leads through:
 
 A request is a row of words in a store. Each process that works on it replays the words on a graph of its own, so all
 have the same. To change something is to put a word at the end of the row that one has seen. Of two that put at the same

@@ -14,7 +14,7 @@ from .rows import Store
 from .service import DurableService
 
 
-LOGGER = logging.getLogger("cf.shared")
+LOGGER = logging.getLogger("cf.store")
 BETWEEN_TOLD = 10.0  # seconds between two lines that tell what an ending worker waits for
 
 

@@ -2,13 +2,13 @@
 """Values and exceptions as bytes: codecs of one's own, one that ends the program, exceptions of other processes, odd
 ones.
 
-    CF_LIBRARY=/path/to/libcf.so python3 clients/python/tests/shared/test_codec.py [-v] [TEST ..]
+    CF_LIBRARY=/path/to/libcf.so python3 clients/python/tests/store/test_codec.py [-v] [TEST ..]
 """
 import sys
 import unittest
 
 from case import Case
-from cf.shared import Broken, connect, DurableService, Functions, Json, Memory, RemoteError
+from cf.store import Broken, connect, DurableService, Functions, Json, Memory, RemoteError
 
 
 class Codecs(Case):

@@ -12,9 +12,6 @@ from .stores import connect
 from .view import RowView, Watcher, new_session
 from .worker import Worker
 
-# The names of before. They go with the version for the library 1.5.
-Desk, Request, Stage = RowView, DurableRequest, DurableStage
-
-__all__ = ["Abandoned", "Broken", "Carrier", "Desk", "DurableRequest", "DurableService", "DurableStage", "Functions",
-           "Grouped", "Json", "Memory", "Put", "RemoteError", "Request", "RowView", "Stage", "Store", "StoreError",
-           "Timer", "Trace", "Unknown", "Variables", "Watcher", "Worker", "connect", "new_session"]
+__all__ = ["Abandoned", "Broken", "Carrier", "DurableRequest", "DurableService", "DurableStage", "Functions", "Grouped", "Json", "Memory", "Put",
+           "RemoteError", "RowView", "Store", "StoreError", "Timer", "Trace", "Unknown", "Variables", "Watcher", "Worker", "connect",
+           "new_session"]

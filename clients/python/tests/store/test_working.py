@@ -2,7 +2,7 @@
 """Which service works on which request: claims, signs of life, threads that can't be started, functions that it
 doesn't know.
 
-    CF_LIBRARY=/path/to/libcf.so python3 clients/python/tests/shared/test_working.py [-v] [TEST ..]
+    CF_LIBRARY=/path/to/libcf.so python3 clients/python/tests/store/test_working.py [-v] [TEST ..]
 """
 import threading
 import time
@@ -14,7 +14,7 @@ from case import Case, EMPTY
 import shared_functions as f
 from cf.service import Flow
 from cf.service.words import CLAIM
-from cf.shared import connect, DurableService, Functions, Memory, service as shared_service
+from cf.store import connect, DurableService, Functions, Memory, service as shared_service
 
 
 class Working(Case):
@@ -73,7 +73,7 @@ class Working(Case):
         """The log tells of them, with how many threads there are, and `running` does."""
         functions, goes = Functions(), threading.Event()
         hangs = functions.function("hangs")(lambda: goes.wait(20))
-        with unittest.mock.patch.object(shared_service, "LONG", 0.05), self.assertLogs("cf.shared", "WARNING") as logs:
+        with unittest.mock.patch.object(shared_service, "LONG", 0.05), self.assertLogs("cf.store", "WARNING") as logs:
             working = DurableService(Memory(), 7, functions=functions, lease=0.05)
             self.services.append(working)
             worked_on = working.request("r")
@@ -95,7 +95,7 @@ class Working(Case):
         fails = functions.function("raises")(lambda *_: deep())
         composes = functions.function("composes")(lambda request, _: deep())
         functions.add(f.functions)
-        with self.assertLogs("cf.shared", "WARNING") as logs:
+        with self.assertLogs("cf.store", "WARNING") as logs:
             working = DurableService(Memory(), 1, functions=functions)
             self.services.append(working)
             worked_on = working.request("r")
@@ -118,7 +118,7 @@ class Working(Case):
                 refused.append(act.__name__)
                 raise RuntimeError("can't start new thread")
             return submit(call, name, act, *given)
-        with unittest.mock.patch.object(working._pool, "submit", submits), self.assertLogs("cf.shared", "WARNING"):
+        with unittest.mock.patch.object(working._pool, "submit", submits), self.assertLogs("cf.store", "WARNING"):
             worked_on = working.request("r")
             self.assertEqual(worked_on.supply(f.inc, 1).result(20), 2)
             self.assertIsInstance(worked_on.promise().or_timeout(0.05).exception(20), TimeoutError)
@@ -152,7 +152,7 @@ class Working(Case):
         known = flow.supply(f.inc, 1)
         asks = DurableService(Memory(), 0, functions=more)
         worked_on = asks.start(flow, name="r")
-        with self.assertLogs("cf.shared", "WARNING"):
+        with self.assertLogs("cf.store", "WARNING"):
             works = DurableService(asks.store, 1, functions=f.functions, takes_all=True)
             self.assertEqual(worked_on[known].result(20), 2)
         works.shutdown(), asks.shutdown()
@@ -170,7 +170,7 @@ class UnknownFunctions(Case):
         self.services.append(first)
         worked_on = first.request("r")
         waits, runs = worked_on.supply(strange), worked_on.supply(f.load, 1)
-        with self.assertLogs("cf.shared", "WARNING") as logs:
+        with self.assertLogs("cf.store", "WARNING") as logs:
             working = self.service(takes_all=True)
             self.assertEqual(working.open("r")[runs.number].result(20)["number"], 1)
         self.assertIn("'r', stage 0: function strange, version 2 isn't known here", "\n".join(logs.output))

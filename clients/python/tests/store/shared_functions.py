@@ -1,10 +1,10 @@
-"""The functions of tests of cf.shared, which several processes know."""
+"""The functions of tests of cf.store, which several processes know."""
 import contextvars
 import os
 import threading
 import time
 
-from cf.shared import Functions, Json, Variables
+from cf.store import Functions, Json, Variables
 
 TENANT = contextvars.ContextVar("tenant")
 functions, contexts, codec = Functions(), [Variables(tenant=TENANT)], Json()

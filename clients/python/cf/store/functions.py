@@ -73,7 +73,7 @@ class Functions:
         module = importlib.import_module(name)
         found = getattr(module, "functions", None)
         if not isinstance(found, Functions):
-            raise StoreError(f"module {name} has no `functions`, a cf.shared.Functions")
+            raise StoreError(f"module {name} has no `functions`, a cf.store.Functions")
         return found
 
 

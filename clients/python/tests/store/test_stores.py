@@ -2,7 +2,7 @@
 """What each store does, by whatever engine: appends, news, beats, timers, names that are dropped and used again,
 waiting, addresses; and the one that puts in groups.
 
-    CF_LIBRARY=/path/to/libcf.so python3 clients/python/tests/shared/test_stores.py [-v] [TEST ..]
+    CF_LIBRARY=/path/to/libcf.so python3 clients/python/tests/store/test_stores.py [-v] [TEST ..]
 """
 import os
 import subprocess
@@ -14,8 +14,8 @@ from concurrent.futures import ThreadPoolExecutor
 from pathlib import Path
 
 from case import Case, CLIENT, STORES
-from cf.shared import Broken, connect, Grouped, new_session, Put, StoreError, Timer, Unknown, Watcher
-from cf.shared.rows import Glance
+from cf.store import Broken, connect, Grouped, new_session, Put, StoreError, Timer, Unknown, Watcher
+from cf.store.rows import Glance
 
 
 class Stores(Case):

@@ -2,7 +2,7 @@
 """The store in etcd alone: a watch that is cut off, in each way that one can be, and answers that come in parts. It
 starts etcd's server for itself, and is left out where there is none.
 
-    CF_LIBRARY=/path/to/libcf.so python3 clients/python/tests/shared/test_etcd.py [-v] [TEST ..]
+    CF_LIBRARY=/path/to/libcf.so python3 clients/python/tests/store/test_etcd.py [-v] [TEST ..]
 """
 import contextlib
 import http.client
@@ -17,8 +17,8 @@ import unittest
 import unittest.mock
 
 from case import Case
-from cf.shared import Put, Unknown, connect, etcd
-from cf.shared.rows import Glance, Wanted
+from cf.store import Put, Unknown, connect, etcd
+from cf.store.rows import Glance, Wanted
 
 HOST = "127.0.0.1"
 
