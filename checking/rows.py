@@ -17,7 +17,7 @@ class Row(NamedTuple):
     name: str
     needs: Sequence[str]
     commands: Sequence[Sequence[str]]  # the last one's output is compared
-    prints: Optional[Tuple[str, str]] = None  # the page, or the folder of a README.md, and the name there
+    prints: Optional[Tuple[str, str]] = None  # a page and the name there; or a folder, with a README.md or NAME.out, and the name
     is_shown: bool = False  # whether what it prints is shown, too, where it passes
 
 
@@ -26,11 +26,15 @@ def blocks(folder: str) -> dict:
     return dict(BLOCK.findall((TOP / (folder if folder.endswith(".md") else folder + "/README.md")).read_text()))
 
 
+def wanted(folder: str, name: str) -> Optional[str]:
+    """What a program has to print: by a file of its own, or else by a page."""
+    path = TOP / folder / (Path(name).stem + ".out")
+    return path.read_text(encoding="utf-8") if path.is_file() else blocks(folder).get(name)
+
+
 def rows_of_c(tools: Tools, made: Path) -> List[Row]:
-    """A program that has a block and no file fails, and so does a file without a block."""
     rows = []
-    names = {path.name for path in (TOP / "clients/c").glob("*.c")} | {name for name in blocks("clients/c") if name.endswith(".c")}
-    for name in sorted(names):
+    for name in sorted(path.name for path in (TOP / "clients/c").glob("*.c")):
         plain, checked = str(made / name[:-2]), str(made / (name[:-2] + ".asan"))
         rest = ["-std=c11", "-O1", SEEN, "-pthread", *WARNED, "-I" + HEADER, "clients/c/" + name, str(made / "libcf.a"), "-o"]
         build, prints = [tools["clang"], *rest, plain], ("clients/c", name)
