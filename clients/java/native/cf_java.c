@@ -34,8 +34,8 @@ enum { WORDS = 64, MOST = 4096, TOLD = 128, CLAIMED = 32, READY = 64, FEW = 12 }
 /* Lanes: a stage's function is called by the thread that made the stage ready, or by an executor. */
 enum { HERE = 0, BY_EXECUTOR = 1, LANES = 2 };
 
-/* In whose name a machine itself settles stages. */
-enum { OWN = 0 };
+/* In whose name a machine itself settles stages: CLOCK of Request.java. */
+enum { OWN = 1 };
 
 /* What Java reads and writes, in the machine's order of bytes; Machine.java has the places. */
 struct block {
