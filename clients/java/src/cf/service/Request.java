@@ -669,7 +669,7 @@ public final class Request implements AutoCloseable {
         short[] numbers = new short[of.length];
         Stage<?>[] made = new Stage<?>[count];
         for (int k = 0; k < of.length; k++) {
-            numbers[k] = (short) of[k].number;
+            numbers[k] = of[k].number;
         }
         for (int k = watch != null || Recorder.hasStages() ? 0 : count - 1; k < count; k++) {
             made[k] = new Stage<>(this, first + k, form, null, null);
