@@ -5,7 +5,7 @@ The design of `cf.store`, which this file leads through:
 A request is a row of words in a store. Each process that works on it replays the words on a graph of its own, so all
 have the same. To change something is to put a word at the end of the row that one has seen. Of two that put at the same
 place, the store takes one; the other reads what stands there, and decides again. So the row is the one order of all
-that happened, and the proved library says what follows from it. docs/SCALE.md says what that asks of a store.
+that happened, and the proved library says what follows from it. docs/ENGINES.md says what that asks of a store.
 
 What is kept where
     - A `Store` (rows.py) has rows, payloads, timers and the beats of sessions. A payload is what a word's number stands
