@@ -120,6 +120,7 @@ def rows_of_rust(tools: Tools, made: Path) -> List[Row]:
     testing = [python, offline, "run", "-q", "-p", "cf", "--features", "testing", "--example"]
     stored = [python, offline, "--debian", "run", "-q", "-p", "cf-store", "--features", "testing", "--example"]
     both = "sqlite,postgres"  # (built once)
+    order, orders = made / "cargo/debug/examples/order", made / "rust-orders.db"
     return [
         Row("Rust's tests", needs, [[python, offline, "test", "-q", "--lib", "--tests", "--examples"]]),
         Row("Rust's tests under tokio, rayon, serde and tracing", [*needs, DEBIANS],
@@ -130,9 +131,11 @@ def rows_of_rust(tools: Tools, made: Path) -> List[Row]:
             [[tools[POSTGRES], "conformance/stores/over", "python3", offline, "--debian", "test", "-q", "-p", "cf-store", "--features", both, "--tests"]]),
         Row("Rust's requests in etcd", [*needs, DEBIANS],
             [[python, offline, "--debian", "test", "-q", "-p", "cf-store", "--features", "etcd", "--tests"]]),
-        Row("Rust's order in SQLite", [*needs, DEBIANS],
-            [[python, offline, "--debian", "run", "-q", "-p", "cf-store", "--features", "sqlite", "--example", "order", "--", str(made / "orders.db")]],
-            ("clients/rust", "cf-store/examples/order.rs")),
+        Row("Rust's order whose process is killed", [*needs, DEBIANS], [
+            [python, offline, "--debian", "build", "-q", "-p", "cf-store", "--features", "sqlite", "--example", "order"],
+            ["sh", "-c", f"rm -f {orders}* && ! {order} {orders} die && {order} {orders}"]], ("clients/rust", "order.rs")),
+        Row("Rust's orders under tokio", [*needs, DEBIANS],
+            [[python, offline, "--debian", "run", "-q", "-p", "cf", "--features", "tokio", "--example", "handler"]], ("clients/rust", "handler.rs")),
         Row("services of Rust's in every order", needs, [[python, offline, "test", "-q", "-p", "cf", "--features", "testing", "--lib", "--test", "orders"]]),
         Row("Rust's order that charges twice", needs, [[*testing, "twice"]], ("docs/TESTING.md", "twice.rs")),
         Row("Rust's orders that charge once", needs, [[*testing, "once"]], ("docs/TESTING.md", "once.rs")),
@@ -144,11 +147,14 @@ def rows_of_rust(tools: Tools, made: Path) -> List[Row]:
         Row("random orders of Rust's requests beside explore", [*needs, "cf_look"],
             [[python, "conformance/clients/rust-orders", "short", "0", "100", tools["cf_look"]]]),
         Row("the examples of Rust's pages", needs, [[python, offline, "test", "-q", "--doc", "--features", "cf/testing"]]),
-        Row("Rust's spans", needs, [[python, offline, "run", "-q", "-p", "cf", "--example", "traced"]], ("clients/rust", "traced.rs")),
+        Row("Rust's spans", needs, [[python, offline, "run", "-q", "-p", "cf", "--example", "traced"]], ("clients/rust/GUIDE.md", "traced.rs")),
+        Row("Rust's order whose bank is away", needs,
+            [[python, offline, "run", "-q", "-p", "cf", "--example", "retry"]], ("clients/rust/GUIDE.md", "retry.rs")),
         Row("Rust's first program", needs, [[python, offline, "run", "-q", "-p", "cf", "--example", "first"]], ("clients/rust", "first.rs")),
         Row("random requests of Rust's crate", [*needs, "cf", "cf_look"],
             [[python, "conformance/clients/rust-requests", "0", "100", tools["cf"], tools["cf_look"]]]),
-        Row("Rust's example", needs, [[python, offline, "run", "-q", "-p", "cf-graph", "--example", "request"]], ("clients/rust", "cf-graph/examples/request.rs")),
+        Row("Rust's example", needs,
+            [[python, offline, "run", "-q", "-p", "cf-graph", "--example", "request"]], ("clients/rust/GUIDE.md", "cf-graph/examples/request.rs")),
     ]
 
 
