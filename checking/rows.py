@@ -126,7 +126,8 @@ def rows_of_rust(tools: Tools, made: Path) -> List[Row]:
         Row("Rust's tests under tokio, rayon, serde and tracing", [*needs, DEBIANS],
             [[python, offline, "--debian", "test", "-q", "-p", "cf", "--features", "tokio,rayon,serde,tracing", "--lib", "--tests"]]),
         Row("Rust's requests in SQLite", [*needs, "cf_look", DEBIANS],
-            [["env", f"CF_LOOK={tools['cf_look']}", python, offline, "--debian", "test", "-q", "-p", "cf-store", "--features", both, "--tests"]]),
+            [["env", f"CF_LOOK={tools['cf_look']}", python, offline, "--debian", "test", "-q", "-p", "cf-store", "--features", both, kind]
+             for kind in ["--tests", "--doc"]]),
         Row("Rust's requests in PostgreSQL", [*needs, DEBIANS, POSTGRES],
             [[tools[POSTGRES], "conformance/stores/over", "python3", offline, "--debian", "test", "-q", "-p", "cf-store", "--features", both, "--tests"]]),
         Row("Rust's requests in etcd", [*needs, DEBIANS],
@@ -147,6 +148,8 @@ def rows_of_rust(tools: Tools, made: Path) -> List[Row]:
         Row("random orders of Rust's requests beside explore", [*needs, "cf_look"],
             [[python, "conformance/clients/rust-orders", "short", "0", "100", tools["cf_look"]]]),
         Row("the examples of Rust's pages", needs, [[python, offline, "test", "-q", "--doc", "--features", "cf/testing"]]),
+        Row("the reference of Rust's crates", [*needs, DEBIANS],
+            [["env", "RUSTDOCFLAGS=-D warnings", python, offline, "--debian", "doc", "-q", "--no-deps", "--all-features"]]),
         Row("Rust's spans", needs, [[python, offline, "run", "-q", "-p", "cf", "--example", "traced"]], ("clients/rust/GUIDE.md", "traced.rs")),
         Row("Rust's order whose bank is away", needs,
             [[python, offline, "run", "-q", "-p", "cf", "--example", "retry"]], ("clients/rust/GUIDE.md", "retry.rs")),
