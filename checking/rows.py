@@ -161,7 +161,7 @@ def rows_of_rust(tools: Tools, made: Path) -> List[Row]:
         Row("random requests of Rust's crate", [*needs, "cf", "cf_look"],
             [[python, "conformance/clients/rust-requests", "0", "100", tools["cf"], tools["cf_look"]]]),
         Row("Rust's example", needs,
-            [[python, offline, "run", "-q", "-p", "cf-graph", "--example", "request"]], ("clients/rust/GUIDE.md", "cf-graph/examples/request.rs")),
+            [[python, offline, "run", "-q", "-p", "cf-graph", "--example", "request"]], ("clients/rust/cf-graph/examples", "request.rs")),
     ]
 
 
