@@ -701,6 +701,7 @@ pub struct cf_row_claim {
 /// A function of yours, as cf_work calls it.
 pub type cf_stage_function = unsafe extern "C" fn(context: *mut c_void, task: *const cf_task, answer: *mut cf_answer);
 
+#[rustfmt::skip] // (the test header.rs reads a call from one line)
 extern "C" {
     /// Frees what stands behind a handle, and leaves the handle empty.
     pub fn cf_free(h: *mut cf_handle);
