@@ -169,6 +169,7 @@ def rows_of_rust(tools: Tools, made: Path) -> List[Row]:
     testing = [python, offline, "run", "-q", "-p", "cf", "--features", "testing", "--example"]
     stored = [python, offline, "--debian", "run", "-q", "-p", "cf-store", "--features", "testing", "--example"]
     both = "sqlite,postgres"  # (built once)
+    order, orders = made / "cargo/debug/examples/order", made / "rust-orders.db"
     return [
         Row("Rust's tests", needs, [[python, offline, "test", "-q", "--lib", "--tests", "--examples"]]),
         Row(
@@ -179,7 +180,10 @@ def rows_of_rust(tools: Tools, made: Path) -> List[Row]:
         Row(
             "Rust's requests in SQLite",
             [*needs, "cf_look", DEBIANS],
-            [["env", f"CF_LOOK={tools['cf_look']}", python, offline, "--debian", "test", "-q", "-p", "cf-store", "--features", both, "--tests"]],
+            [
+                ["env", f"CF_LOOK={tools['cf_look']}", python, offline, "--debian", "test", "-q", "-p", "cf-store", "--features", both, kind]
+                for kind in ["--tests", "--doc"]
+            ],
         ),
         Row(
             "Rust's requests in PostgreSQL",
@@ -207,26 +211,19 @@ def rows_of_rust(tools: Tools, made: Path) -> List[Row]:
             [[python, offline, "--debian", "test", "-q", "-p", "cf-store", "--features", "etcd", "--tests"]],
         ),
         Row(
-            "Rust's order in SQLite",
+            "Rust's order whose process is killed",
             [*needs, DEBIANS],
             [
-                [
-                    python,
-                    offline,
-                    "--debian",
-                    "run",
-                    "-q",
-                    "-p",
-                    "cf-store",
-                    "--features",
-                    "sqlite",
-                    "--example",
-                    "order",
-                    "--",
-                    str(made / "orders.db"),
-                ]
+                [python, offline, "--debian", "build", "-q", "-p", "cf-store", "--features", "sqlite", "--example", "order"],
+                ["sh", "-c", f"rm -f {orders}* && ! {order} {orders} die && {order} {orders}"],
             ],
-            ("clients/rust", "cf-store/examples/order.rs"),
+            ("clients/rust", "order.rs"),
+        ),
+        Row(
+            "Rust's orders under tokio",
+            [*needs, DEBIANS],
+            [[python, offline, "--debian", "run", "-q", "-p", "cf", "--features", "tokio", "--example", "handler"]],
+            ("clients/rust", "handler.rs"),
         ),
         Row(
             "services of Rust's in every order",
@@ -243,7 +240,9 @@ def rows_of_rust(tools: Tools, made: Path) -> List[Row]:
                 for kind in ["--tests", "--doc"]
             ],
         ),
-        Row("Rust's order over a store that charges twice", [*needs, DEBIANS], [[*stored, "killed"]], ("clients/rust/cf-store/examples", "killed.rs")),
+        Row(
+            "Rust's order over a store that charges twice", [*needs, DEBIANS], [[*stored, "killed"]], ("clients/rust/cf-store/examples", "killed.rs")
+        ),
         Row("Rust's orders over a store that charge once", [*needs, DEBIANS], [[*stored, "keyed"]], ("clients/rust/cf-store/examples", "keyed.rs")),
         Row(
             "random orders of Rust's requests beside explore",
@@ -251,6 +250,17 @@ def rows_of_rust(tools: Tools, made: Path) -> List[Row]:
             [[python, "conformance/clients/rust-orders", "short", "0", "100", tools["cf_look"]]],
         ),
         Row("the examples of Rust's pages", needs, [[python, offline, "test", "-q", "--doc", "--features", "cf/testing"]]),
+        Row(
+            "the reference of Rust's crates",
+            [*needs, DEBIANS],
+            [["env", "RUSTDOCFLAGS=-D warnings", python, offline, "--debian", "doc", "-q", "--no-deps", "--all-features"]],
+        ),
+        Row(
+            "Rust's order whose bank is away",
+            needs,
+            [[python, offline, "run", "-q", "-p", "cf", "--example", "retry"]],
+            ("clients/rust/GUIDE.md", "retry.rs"),
+        ),
         Row("Rust's spans", needs, [[python, offline, "run", "-q", "-p", "cf", "--example", "traced"]], ("clients/rust/cf/examples", "traced.rs")),
         Row("Rust's first program", needs, [[python, offline, "run", "-q", "-p", "cf", "--example", "first"]], ("clients/rust", "first.rs")),
         Row(
@@ -262,7 +272,7 @@ def rows_of_rust(tools: Tools, made: Path) -> List[Row]:
             "Rust's example",
             needs,
             [[python, offline, "run", "-q", "-p", "cf-graph", "--example", "request"]],
-            ("clients/rust", "cf-graph/examples/request.rs"),
+            ("clients/rust/cf-graph/examples", "request.rs"),
         ),
     ]
 
