@@ -63,10 +63,12 @@ public final class History extends RequestHistory {
         return this;
     }
 
+    /** How many events there were: each is one word of 8 bytes. */
     public int events() {
         return words.length;
     }
 
+    /** How many stages the request had, relays included. */
     public int stages() {
         return stages;
     }
