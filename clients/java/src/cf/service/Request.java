@@ -377,7 +377,8 @@ public final class Request implements AutoCloseable {
      *
      * <p>A stage behind one that timed out ends with a {@code CompletionException} around the {@code TimeoutException}. Its relay is told as timed
      * out in the history, if it was made for a stage that wraps each exception, as one of {@code thenCombine} or {@code thenCompose}; a relay of this
-     * method is told as failed, with that {@code CompletionException}.
+     * method is told as failed, with that {@code CompletionException}. If somebody failed the other stage with a {@code TimeoutException} by hand,
+     * the relay has failed with that.
      */
     @SuppressWarnings("unchecked")
     public <U> Stage<U> adopt(CompletionStage<U> of) {

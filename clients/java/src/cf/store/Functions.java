@@ -131,7 +131,11 @@ public final class Functions {
         return add(name, version, Takes.NAMED, -1, given -> function.call(given.args, given.named));
     }
 
-    /** Registers a function that attaches stages to the request and returns one of them, for {@link StoredStage#compose}. */
+    /**
+     * Registers a function that attaches stages to the request and returns one of them, for {@link StoredStage#compose}. A further try calls it from
+     * its beginning; {@link StoredStage#again} says what it then attaches. A call that goes on after its process was taken for gone attaches nothing
+     * more: that throws a {@link RemoteException} of the kind {@link RemoteException#ABANDONED}.
+     */
     public Functions composing(String name, int version, Compose function) {
         return add(name, version, Takes.REQUEST, 1, given -> function.call(given.request, given.args.get(0)));
     }

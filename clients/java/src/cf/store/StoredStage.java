@@ -126,11 +126,16 @@ public final class StoredStage {
     }
 
     /**
-     * Cancels the stage, unless it is settled, also while its function runs: its answer comes too late then. This cancels all of a request:
+     * Cancels the stage, unless it is settled, also while its function runs: its answer comes too late then. This cancels all of a request, the last
+     * stage first, so that no function behind a cancelled one is called:
      *
      * <pre>{@code
-     * for (int k = 0; request.stage(k) != null; k++) {
-     *     request.stage(k).abandon();
+     * int stages = 0;
+     * while (request.stage(stages) != null) {
+     *     stages++;
+     * }
+     * while (stages > 0) {
+     *     request.stage(--stages).abandon();
      * }
      * request.end();
      * }</pre>
