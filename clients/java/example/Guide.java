@@ -46,8 +46,9 @@ public class Guide {
 
     static final Flow QUOTE = new Flow("quote");
     static final Flow.Step<Integer> PIECES = QUOTE.promise();
+    static final Flow.Step<Integer> PRICE = PIECES.thenApply(pieces -> 4900 * pieces).named("price");
     static final Flow.Step<Integer> POSTAGE = QUOTE.supplyAsync(() -> 500).named("postage");
-    static final Flow.Step<Integer> TOTAL = PIECES.thenApply(pieces -> 4900 * pieces).named("price").thenCombine(POSTAGE, Integer::sum).named("total");
+    static final Flow.Step<Integer> TOTAL = PRICE.thenCombine(POSTAGE, Integer::sum).named("total");
 
     static int quote(Service service, int pieces) {
         try (Request request = service.start(QUOTE, pieces)) { // the values of the promises, in their order
