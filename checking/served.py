@@ -29,4 +29,4 @@ def main(paths: List[str], command: List[str]) -> None:
 
 if __name__ == "__main__":
     at = sys.argv.index("--")
-    main(sys.argv[1:at], sys.argv[at + 1:])
+    main(sys.argv[1:at], sys.argv[at + 1 :])
