@@ -290,15 +290,37 @@ def rows_of_java(tools: Tools, made: Path) -> List[Row]:
     drivers = [tools.found[it] for it in [SQLITE_JDBC, POSTGRES_JDBC] if tools.found[it]]  # (Java's tests leave out what they have none for)
     java = [str(Path(javac).parent / "java"), "-Xmx64m", "-XX:+UseSerialGC", "-XX:TieredStopAtLevel=1", "-cp", ":".join([jar, tests, *drivers])]
     orders, order = made / "java-orders.db", " ".join(java + ["Order"])
+    shop, worker = made / "java-shop.db", " ".join(java + ["Worker"])
+    made_table = f"import sqlite3; sqlite3.connect('{shop}').execute('create table payment (cents integer)')"
     return [
         Row("Java's service", needs, [*built, [*java, "-Dcf.look=" + tools["cf_look"], "cf.service.AllTests"]]),
         Row("Java's first program", needs, [[*java, "First"]], ("clients/java", "First")),
+        Row(
+            "Java's handler",
+            [*needs, "python3"],
+            [[tools["python3"], "checking/served.py", "/quote?10", "/quote?5000", "--", *java, "Handler", "0"]],
+            ("clients/java", "curl"),
+        ),
+        Row("the listings of Java's guide", needs, [[*java, "Guide"]]),
         Row("Java's spans", needs, [[*java, "Traced"]], ("clients/java/example", "Traced")),
         Row(
             "Java's order that waits for an approval",
             [*needs, SQLITE_JDBC],
             [["sh", "-c", f"rm -f {orders}* && {order} {orders} && {order} {orders} Ada && {order} {orders}"]],
             ("clients/java", "Order"),
+        ),
+        Row(
+            "Java's worker that runs alone",
+            [*needs, "python3", SQLITE_JDBC],
+            [
+                [
+                    "sh",
+                    "-c",
+                    f"rm -f {shop}* && {tools['python3']} -c \"{made_table}\" && {{ {worker} jdbc:sqlite:{shop} & }} && "
+                    f"{worker} jdbc:sqlite:{shop} 'order 17'; kill $!",
+                ]
+            ],
+            ("clients/java/GUIDE.md", "Worker"),
         ),
         Row(
             "Java's requests in PostgreSQL",

@@ -63,18 +63,21 @@ public final class History extends RequestHistory {
         return this;
     }
 
+    /** How many events there were: each is one word of 8 bytes. */
     public int events() {
         return words.length;
     }
 
+    /** How many stages the request had, relays included. */
     public int stages() {
         return stages;
     }
 
     /**
      * What happened as OpenTelemetry's spans: one for the request, and then within it one for each call of a function, in the order of their
-     * stages. Names and attributes are those of {@code cf_look trace --spans}. There are none where nothing happened. The request has failed where a
-     * stage has that no other one waits for; those that functions attached aren't looked at for that.
+     * stages, from its claim to its finish. Names and attributes are those of {@code cf_look trace --spans}. There are none if nothing happened. A
+     * thread claims all functions at once that one event made ready, so the spans of the later ones have the waiting for the earlier ones in them.
+     * The request has failed if a stage has that no other one waits for; stages that functions attached aren't looked at for that.
      */
     public List<Span> spans() {
         read();

@@ -11,9 +11,11 @@ import java.nio.file.Files;
 import java.nio.file.Path;
 
 /**
- * What happened to a request, in memory or in a store: told in words, as an account that {@code cf_look check} judges, and as a script for
- * {@code cf run}. It stays as it is while the request goes on. The library does the words again for these texts, and tells the same in each
- * language. Each text takes time by the number of words.
+ * What happened to a request, in memory or in a store, up to the moment when the history was taken. Each text takes time by the number of events:
+ * the library does them once more, and tells the same in each language.
+ *
+ * <p>Values and exceptions are told by the request's {@link Describe}; names are always told. The words of {@link #toString} and {@link #line} are
+ * for people, and any version may change them: a program should read {@link #account} or {@link #script}, which are JSON on one line.
  */
 public abstract class RequestHistory {
     /** @hidden */
@@ -22,20 +24,20 @@ public abstract class RequestHistory {
     /** @hidden What tells it. */
     protected abstract Telling telling();
 
-    /** The words of all events in their order. */
+    /** The events in their order, each as a word of 64 bits. */
     public long[] words() {
         return telling().words.clone();
     }
 
-    /** A line for each event, and one for each stage that it settled. Names and texts can't add a line: see {@link Describe}. */
+    /** A line for each event with its time, and one for each stage that it settled. Names and texts can't add a line: see {@link Describe}. */
     @Override
     public String toString() {
         return telling().as(Tale.Kind.LINES);
     }
 
     /**
-     * The same in one line, for a log: the name, how much there was, which stage failed first, and which one is open. Between these parts
-     * stands a semicolon; one of a name or text is told as JSON's escape of it.
+     * A sum in one line, for a log: the name, how many events and stages there were, which stage failed first, and which one is open, with semicolons
+     * between. A semicolon of a name or a text is escaped as in JSON.
      */
     public String line() {
         return telling().as(Tale.Kind.LINE);
@@ -50,8 +52,8 @@ public abstract class RequestHistory {
     }
 
     /**
-     * What {@code cf run} does again, and {@code cf_look} draws and makes a page of. It is of version 3 where an event times a stage out, and
-     * else of version 2. Functions give what they gave.
+     * A script that {@code cf run} does again, and that {@code cf_look} draws or makes a page of. None of your functions is called then: the script
+     * has what they returned or threw. It is of version 3 if an event times a stage out, else of version 2.
      */
     public String script() {
         return withoutEnd(telling().as(Tale.Kind.SCRIPT));

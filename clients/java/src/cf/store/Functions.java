@@ -8,9 +8,18 @@ import java.util.Map;
 import java.util.TreeMap;
 
 /**
- * Functions by name and version, so that a request which one process began goes on in another. Arguments and results are JSON's values: null,
- * Boolean, Long, Double, String, List, and Map by Strings. Where a stage's exception is an argument it is a {@link RemoteException}. A function is
- * registered in the place of one of this name and version. A changed meaning is a new version: keep the old one as long as requests have it.
+ * Functions by name and version, so that a request which one process began goes on in another.
+ *
+ * <pre>{@code
+ * Functions functions = new Functions().with("charge", 1, order -> charge((Map<?, ?>) order)).with("ship", 2, Shop::ship);
+ * }</pre>
+ *
+ * <p>Arguments and results are JSON's values: null, {@code Boolean}, {@code Long}, {@code Double}, {@code String}, {@code List}, and {@code Map} by
+ * {@code String}s; a number that is given as an {@code Integer} comes as a {@code Long}. Where a stage's exception is an argument it is a
+ * {@link RemoteException}. What a function throws becomes one, with the simple name of its class as the kind.
+ *
+ * <p>A stage calls the latest version that was registered where it was attached. A changed meaning is a new version: keep the old one as long as
+ * requests have it. A second function of the same name and version takes the place of the first.
  */
 public final class Functions {
     private final Map<String, TreeMap<Integer, Known>> known = new HashMap<>();
@@ -98,7 +107,11 @@ public final class Functions {
         });
     }
 
-    /** Registers a function without arguments. It returns this. */
+    /**
+     * Registers a function without arguments.
+     *
+     * @return this
+     */
     public Functions with(String name, int version, Call0 function) {
         return add(name, version, Takes.NOTHING, 0, given -> function.call());
     }
@@ -118,22 +131,36 @@ public final class Functions {
         return add(name, version, Takes.NAMED, -1, given -> function.call(given.args, given.named));
     }
 
-    /** Registers a function that attaches stages to the request and returns one of them, for {@link StoredStage#compose}. */
+    /**
+     * Registers a function that attaches stages to the request and returns one of them, for {@link StoredStage#compose}. A further try calls it from
+     * its beginning; {@link StoredStage#again} says what it then attaches. A call that goes on after its process was taken for gone attaches nothing
+     * more: that throws a {@link RemoteException} of the kind {@link RemoteException#ABANDONED}.
+     */
     public Functions composing(String name, int version, Compose function) {
         return add(name, version, Takes.REQUEST, 1, given -> function.call(given.request, given.args.get(0)));
     }
 
     /**
-     * Registers a function that gets the connection of the store, SQLite or PostgreSQL, in a transaction: what it does with that stands exactly where
-     * its finish does. It has to be short, may be called again where it didn't stand, and neither puts to its request nor, in SQLite, to its file.
+     * Registers a function that is called with the connection of the store, SQLite or PostgreSQL, in a transaction. What it does with that
+     * connection is committed together with the stage's end, or not at all. Keep it short: in SQLite nobody else writes meanwhile. It may be called
+     * again if the transaction didn't stand. It must neither commit, nor put to its own request, nor, in SQLite, to its own file: that throws.
+     *
+     * <pre>{@code
+     * functions.transactional("pay", 1, (db, args) -> {
+     *     try (PreparedStatement insert = db.prepareStatement("insert into payment (cents) values (?)")) {
+     *         insert.setLong(1, (Long) args.get(0));
+     *         return insert.executeUpdate();
+     *     }
+     * });
+     * }</pre>
      */
     public Functions transactional(String name, int version, Transact function) {
         return add(name, version, Takes.CONNECTION, -1, given -> function.call(given.connection, given.args));
     }
 
     /**
-     * Says that other processes have a function of this name and version. Here stages can be attached that call it, and it isn't called: so a process
-     * that only begins requests needs no function's code.
+     * Says that other processes have a function of this name and version. Stages that call it can be attached here, and it isn't called here: so a
+     * process that only begins requests needs no code of functions. A name that nobody registered is refused, since it may be mistyped.
      */
     public Functions elsewhere(String name, int version) {
         return add(name, version, Takes.ELSEWHERE, -1, given -> {

@@ -13,6 +13,7 @@ public final class RemoteException extends RuntimeException {
 
     private static final long serialVersionUID = 1;
 
+    /** Its kind, and what it says. */
     private final String kind, text;
     private final transient List<Object> args;
 

@@ -23,8 +23,27 @@ import java.util.concurrent.atomic.AtomicInteger;
 import java.util.function.Consumer;
 
 /**
- * A process, or a part of one, that works on requests of a store: threads run functions, and one thread looks what is new. To close it is to begin
- * nothing more, and to wait for the functions that run. What is open stays in the store, and others go on with it.
+ * Opens requests in a store, and works on them: its threads run functions, and one more thread looks what is new. All of them are daemons, so a
+ * worker that does nothing else has to keep a thread of its own:
+ *
+ * <pre>{@code
+ * Functions functions = new Functions().with("charge", 1, Shop::charge);
+ * StoreService worker = new StoreService(JdbcStore.open("jdbc:sqlite:shop.db"), functions, 8, 10, TimeUnit.SECONDS, true);
+ * Runtime.getRuntime().addShutdownHook(new Thread(worker::close));
+ * Thread.currentThread().join();
+ * }</pre>
+ *
+ * <p>Any number of services, in any processes and languages, may work on one store. Which functions this one runs is what its {@link Functions} say:
+ * a stage whose function isn't registered waits for another process, and a warning says so once, unless {@link Functions#elsewhere} names it.
+ * Warnings go to the logger {@code cf.store}.
+ *
+ * <p>It says every fifth of its lease that it is there, also while it is closed and its functions end. If it was silent for longer than a lease, as
+ * while its machine stood still, others fail the stages whose functions it runs, with a {@link RemoteException} of the kind
+ * {@link RemoteException#ABANDONED}; it learns that from the row, and says that it is there before it claims more.
+ *
+ * <p>What a function gave is put until it stands, also while the store takes nothing; once the service is closed, for a minute at most. If the store
+ * refuses a value twice while it takes something else, the stage fails with a {@code StoreError}. While the payload of a settled stage can't be read,
+ * the stage isn't shown as settled; it is asked for five times a second.
  */
 public final class StoreService implements AutoCloseable {
     /** How long the pump waits for news at most, and how often timers are looked for, in milliseconds. */
@@ -60,38 +79,39 @@ public final class StoreService implements AutoCloseable {
     /** How many jobs were handed to threads and haven't ended. */
     private final AtomicInteger jobs = new AtomicInteger();
 
-    /** Works on the requests that are opened here, with four threads and a lease of 10 s. The store is closed with the service. */
+    /** Works on the requests that are opened here, with four threads and a lease of 10 s. The service closes the store. */
     public StoreService(Store store, Functions functions) {
         this(store, functions, 4, 10, TimeUnit.SECONDS, false);
     }
 
     /**
-     * With these bounds.
+     * With these numbers. The service closes the store.
      *
-     * @param threads how many threads run functions. With 0 this process runs none
-     * @param lease after how long without a sign of life another process takes this one for gone, and abandons the stages whose functions it runs
-     * @param takesAll whether it works on all requests that are open in the store, and not only on those that were opened here
+     * @param threads how many threads run functions; 0 if this process is to run none
+     * @param lease after how long without a sign of life another process takes this one for gone, and fails the stages whose functions it runs
+     * @param unit of the lease
+     * @param takesAll whether it works on all open requests of the store, and not only on those that were opened here
+     * @throws IllegalArgumentException the threads are below 0, the lease isn't above it, or a function is transactional, and the store has no
+     *         transactions that it could take part in
      */
     public StoreService(Store store, Functions functions, int threads, long lease, TimeUnit unit, boolean takesAll) {
         this(store, functions, threads, lease, unit, takesAll, null);
     }
 
-    /**
-     * With contexts that go along with functions, too.
-     *
-     * @throws IllegalArgumentException a function is transactional, and the store has no transactions that it can take part in
-     */
+    /** With contexts that go along with functions, too; otherwise as the shorter one. */
     public StoreService(Store store, Functions functions, int threads, long lease, TimeUnit unit, boolean takesAll, StoredContexts contexts) {
         this(store, functions, threads, lease, unit, takesAll, contexts, null, new Host());
     }
 
     /**
-     * With a hook that is told of each request that this service has closed, too: of a flow's once all is settled, and of one that was
-     * {@link StoredRequest#end ended by hand} here. If the process dies as it closes one, nobody is told of that. The hook is called on a thread of
-     * its own, one request after another, with the context of the place where the request was begun, as far as the contexts carry that. What it
-     * throws is logged as a warning of {@code cf.store}.
+     * With a hook that is told of each request that this service closes, too: of a flow's once all is settled, and of one that is
+     * {@link StoredRequest#end ended by hand} here. Another process may be first, and then tells its own hook. If the process dies as it closes one,
+     * nobody is told of that. The hook is called on the thread {@code cf-ends}, one request after another, with the context of the place where the
+     * request was begun, as far as the contexts carry that. What it throws is logged as a warning of {@code cf.store}. {@link #close} waits
+     * until it was told of all, for 30 s at most.
      *
      * @param contexts what goes along with functions, or null
+     * @param onEnd the hook
      */
     public StoreService(Store store, Functions functions, int threads, long lease, TimeUnit unit, boolean takesAll, StoredContexts contexts,
             Consumer<? super StoredHistory> onEnd) {
@@ -120,7 +140,12 @@ public final class StoreService implements AutoCloseable {
         host.begin(threads, this::pump);
     }
 
-    /** Opens a request without stages, or gives the one of this name as it stands in the store. */
+    /**
+     * Opens a request without stages. If one of this name stands in the store, goes on with that: so a program that is run twice does nothing twice
+     * that it attaches once.
+     *
+     * @param name by which any process finds it
+     */
     public StoredRequest request(String name) {
         String plan = StoredPlan.text("", Collections.emptyList(), captured());
         return opened(RowView.sure(host, () -> store.open(name, plan)));
@@ -177,7 +202,11 @@ public final class StoreService implements AutoCloseable {
         return along(said);
     }
 
-    /** A request that stands in the store. {@link StoreException.Gone} where there is none of this name. */
+    /**
+     * A request that stands in the store, as one that another process has begun.
+     *
+     * @throws StoreException.Gone there is none of this name
+     */
     public StoredRequest open(String name) {
         Store.Opened found = RowView.sure(host, () -> store.find(name));
         if (found == null) {
@@ -186,7 +215,7 @@ public final class StoreService implements AutoCloseable {
         return opened(found);
     }
 
-    /** Goes on with all requests that are open in the store, as after a crash. Those that are broken are left out and logged. */
+    /** Opens all requests that are open in the store, as after a crash. Those that are broken are left out, and a warning names them. */
     public List<StoredRequest> resume() {
         List<StoredRequest> resumed = new ArrayList<>();
         for (String name : RowView.sure(host, () -> store.news(null)).ends.keySet()) {
@@ -199,6 +228,10 @@ public final class StoreService implements AutoCloseable {
         return resumed;
     }
 
+    /**
+     * Begins nothing more, waits for the functions that run, and closes the store. What is open stays in the store, and other processes go on with
+     * it. Those who wait here for a stage get an {@link IllegalStateException}.
+     */
     @Override
     public void close() {
         lastPut = host.nanoTime() + RowView.PATIENCE;
@@ -888,8 +921,8 @@ public final class StoreService implements AutoCloseable {
     }
 
     /**
-     * What a stage's function was called with before. One that was settled by hand, and whose function wasn't to be called, has what its sources hold by
-     * now.
+     * What a stage's function was called with before. One that was settled by hand, and whose function wasn't to be called, has what its sources
+     * hold by now.
      */
     private static List<Object> argumentsAgain(RowView view, int stage) {
         int[] granted = view.granted.get(stage);

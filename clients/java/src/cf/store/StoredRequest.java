@@ -76,7 +76,11 @@ public final class StoredRequest {
         return name;
     }
 
-    /** Has a registered function called, in its latest version, by any process that works on the request, with arguments of JSON's. */
+    /**
+     * Attaches a stage that calls a registered function, in its latest version, with arguments of JSON's. Any process that works on the request runs
+     * it. If that process dies, the stage fails with a {@link RemoteException} of the kind {@link RemoteException#ABANDONED}, and the function may
+     * have run; {@link StoredStage#again} plans further tries.
+     */
     public StoredStage supply(String function, Object... args) {
         return supplyNamed(function, Collections.emptyMap(), args);
     }
@@ -140,8 +144,8 @@ public final class StoredRequest {
     }
 
     /**
-     * The stage of a step of the flow that the request was begun with, in any process: of a flow of the same name, whose steps up to this one have the
-     * same forms, sources and names.
+     * The stage of a step of the flow that the request was begun with, in any process: of a flow of the same name, whose steps up to this one have
+     * the same forms, sources and names.
      *
      * @throws IllegalArgumentException it was begun with another one
      */
@@ -512,8 +516,8 @@ public final class StoredRequest {
     }
 
     /**
-     * Settles the futures of stages that are settled by now. Their payloads are read, and those who wait are told, without the lock. What can't be read
-     * now is read soon by a thread of the service.
+     * Settles the futures of stages that are settled by now. Their payloads are read, and those who wait are told, without the lock. What can't be
+     * read now is read soon by a thread of the service.
      */
     void show() {
         Map<StoredStage, RowView.Ended> ends = settled();

@@ -97,32 +97,58 @@ public final class StoredStage {
         return last;
     }
 
-    /** Settles the stage with a value of JSON's, unless it is settled. Whether this call settled it. */
+    /**
+     * Settles the stage with a value of JSON's, unless it is settled. Any process may do that, as for an approval:
+     * {@code service.open("order 17").stage("approval").complete("Ada")}.
+     *
+     * @return whether this call settled it
+     */
     public boolean complete(Object value) {
         return request.settle(Words.complete(0, number, Words.NIL), value == null ? null : Json.write(value), number, false);
     }
 
-    /** Settles the stage with an exception, unless it is settled. Whether this call settled it. */
+    /**
+     * Settles the stage with an exception, unless it is settled. It is seen as a {@link RemoteException}.
+     *
+     * @return whether this call settled it
+     */
     public boolean fail(Throwable thrown) {
         return request.settle(Words.fail(0, number, 0), Json.write(RemoteException.of(thrown).written()), number, false);
     }
 
-    /** Cancels the stage, unless it is settled or its function runs in some process. Whether it is cancelled after the call. */
+    /**
+     * Cancels the stage, unless it is settled, or its function runs in some process.
+     *
+     * @return whether it is cancelled after the call
+     */
     public boolean cancel() {
         return request.settle(Words.cancel(0, number), null, number, true);
     }
 
     /**
-     * Cancels the stage, unless it is settled, also while its function runs, whose answer comes too late then. Whether it is cancelled after the
-     * call.
+     * Cancels the stage, unless it is settled, also while its function runs: its answer comes too late then. This cancels all of a request, the last
+     * stage first, so that no function behind a cancelled one is called:
+     *
+     * <pre>{@code
+     * int stages = 0;
+     * while (request.stage(stages) != null) {
+     *     stages++;
+     * }
+     * while (stages > 0) {
+     *     request.stage(--stages).abandon();
+     * }
+     * request.end();
+     * }</pre>
+     *
+     * @return whether it is cancelled after the call
      */
     public boolean abandon() {
         return request.settle(Words.cancel(0, number), null, number, false);
     }
 
     /**
-     * Sets a timer in the store, by which the stage times out unless it is settled. Any process that works on the request fires it. A stage has one
-     * timer; a second call replaces the first one's.
+     * Sets a timer in the store, by which the stage times out unless it is settled. Any process that works on the request fires it, also if this one
+     * has ended; timers are looked for 50 times a second. A stage has one timer: a second call replaces the first.
      *
      * @return this stage itself
      */

@@ -25,10 +25,12 @@ public final class Failure {
             this.settled = Collections.unmodifiableList(settled);
         }
 
+        /** What was done. */
         public String text() {
             return text;
         }
 
+        /** Which stages that settled, and how. */
         public List<String> settled() {
             return settled;
         }
@@ -48,10 +50,12 @@ public final class Failure {
             this.second = second;
         }
 
+        /** The place of the move that comes first in the row. */
         public int first() {
             return first;
         }
 
+        /** The place of the move that comes second. */
         public int second() {
             return second;
         }

@@ -24,6 +24,7 @@ public final class World {
     /** Something that is done. */
     @FunctionalInterface
     public interface Act {
+        /** Does it. */
         void run() throws Exception;
     }
 

@@ -12,7 +12,14 @@ import java.util.LinkedHashSet;
 import java.util.Set;
 import java.util.concurrent.Callable;
 
-/** Runs all tests, or those that are named, one after another in one process. They ask what OpenJDK's tests can't know of. */
+/**
+ * Runs all tests, or those that are named, one after another in one process. They ask what OpenJDK's tests can't know of.
+ *
+ * <p>Requests in stores are tested over SQLite, if the class path has its driver, and over etcd, if {@code etcd} is there. If {@code CF_STORES} is
+ * the address of a PostgreSQL, as {@code postgresql://postgres@127.0.0.1:5432/postgres}, they are tested over that, and nothing else is;
+ * {@code conformance/stores/over} starts one. What Java and Python do together is tested if {@code CF_LIBRARY} names {@code libcf.so}. Threads are
+ * stopped by a debugger, if the JDK has the module {@code jdk.jdi}. {@code told.json} is found from the top, or from {@code clients/java}.
+ */
 public final class AllTests {
     private static int tests;
     /** Names of tests that are still to be run; null where all are. */
