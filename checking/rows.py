@@ -92,6 +92,7 @@ def rows_of_python(tools: Tools, made: Path) -> List[Row]:
             [[tools[tested], "conformance/clients/python-suites", "FutureTests", "ThreadPoolExecutorTest", "ToThreadTests"]]),
         Row("Python's ledgers, steps and workers", ["library", "python3"],
             [[python, "-m", "unittest", "discover", "-s", "clients/python/tests"]]),
+        Row("the reference of Python's package", ["library", "python3"], [[python, "clients/python/reference", str(made / "reference")]]),
         Row("the types of Python's module", ["mypy", "python3"], [
             [python, "clients/python/tests/typed.py"],
             [tools["mypy"], "--strict", "--cache-dir", str(made / "mypy"), "clients/python/cf", "clients/python/tests/typed.py"]]),

@@ -102,6 +102,11 @@ class History:
     """The events of a request in their one order, with all that callers were told. It stays as it is while the request
     goes on.
 
+        history = request.history()
+        log.error(history.line())
+        folder.joinpath("account.json").write_text(history.account())
+        folder.joinpath("script.json").write_text(history.script())
+
     `print(history)` tells it in words, a line for each event, and `line()` sums it up in one line, for a log.
     `account()` is for `cf_look check`, `page()` for a browser, `script()` for `cf run` and `cf_look dot`. The library
     does the words again for these, and tells the same in each language.

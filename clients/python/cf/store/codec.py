@@ -42,7 +42,15 @@ class Json:
                                                        "CancelledError": CancelledError}
 
     def add(self, kind: Type[BaseException]) -> Type[BaseException]:
-        """Lets exceptions of a class come back as such. It returns the class, so it can be used as a decorator."""
+        """Lets exceptions of a class come back as such. It returns the class, so it can be used as a decorator.
+
+            codec = Json()
+
+            @codec.add
+            class Declined(Exception): ...
+
+            service = DurableService(connect("sqlite:///orders.db"), codec=codec)    # or: cf.worker --codec MODULE:codec
+        """
         self._kinds[kind.__name__] = kind
         return kind
 

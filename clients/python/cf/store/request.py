@@ -164,6 +164,12 @@ class DurableStage(_Future[T]):
     def compose(self, fn: "Callable[[DurableRequest, T], DurableStage[U]]") -> "DurableStage[U]":
         """Has a function attach stages to this request, and waits for one of them without holding a thread.
 
+            @service.function("ship")
+            def ship(request, order):
+                return request.supply(pack, order).then(send)
+
+            shipped = paid.compose(ship)
+
         Args:
             fn: A registered function. It is called with the request, as the process has it that runs the function, and
                 with the value. It attaches stages to the request and returns one of them.

@@ -224,7 +224,9 @@ class DurableService(concurrent.futures.Executor):
         return request
 
     def open(self, name: str) -> DurableRequest:
-        """A request that stands in the store.
+        """A request that stands in the store, whichever process began it.
+
+            service.open("order 17")["approval"].complete("yes")
 
         Raises:
             KeyError: There is none of this name.
