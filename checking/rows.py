@@ -3,7 +3,7 @@ import re
 from pathlib import Path
 from typing import List, NamedTuple, Optional, Sequence, Tuple
 
-from checking.crates import TOP
+from checking.crates import TOP, edits_of_gate, own
 from checking.tools import DEBIANS, JUNIT, POSTGRES, POSTGRES_JDBC, SQLITE_JDBC, Tools
 
 HEADER = "crates/cf_c/include"
@@ -17,7 +17,7 @@ class Row(NamedTuple):
     name: str
     needs: Sequence[str]
     commands: Sequence[Sequence[str]]  # the last one's output is compared
-    prints: Optional[Tuple[str, str]] = None  # the page, or the folder of a README.md, and the name there
+    prints: Optional[Tuple[str, str]] = None  # a page and the name there; or a folder, with a README.md or NAME.out, and the name
     is_shown: bool = False  # whether what it prints is shown, too, where it passes
 
 
@@ -26,11 +26,15 @@ def blocks(folder: str) -> dict:
     return dict(BLOCK.findall((TOP / (folder if folder.endswith(".md") else folder + "/README.md")).read_text()))
 
 
+def wanted(folder: str, name: str) -> Optional[str]:
+    """What a program has to print: by a file of its own, or else by a page."""
+    path = TOP / folder / (Path(name).stem + ".out")
+    return path.read_text(encoding="utf-8") if path.is_file() else blocks(folder).get(name)
+
+
 def rows_of_c(tools: Tools, made: Path) -> List[Row]:
-    """A program that has a block and no file fails, and so does a file without a block."""
     rows = []
-    names = {path.name for path in (TOP / "clients/c").glob("*.c")} | {name for name in blocks("clients/c") if name.endswith(".c")}
-    for name in sorted(names):
+    for name in sorted(path.name for path in (TOP / "clients/c").glob("*.c")):
         plain, checked = str(made / name[:-2]), str(made / (name[:-2] + ".asan"))
         rest = ["-std=c11", "-O1", SEEN, "-pthread", *WARNED, "-I" + HEADER, "clients/c/" + name, str(made / "libcf.a"), "-o"]
         build, prints = [tools["clang"], *rest, plain], ("clients/c", name)
@@ -206,17 +210,17 @@ def rows_of_mutants(tools: Tools, made: Path) -> List[Row]:
         Row("the mutants of the examples", ["python3", "JDK of 17 or later"], [["sweeps/mutants", "--examples"]]),
         Row("the exceptions of mutants, read", ["python3", "JDK of 17 or later"], [["sweeps/mutants", "--read"]]),
         Row("the types of what makes mutants", ["mypy", "python3"], 
-            [["env", "MYPYPATH=sweeps:.", *typed, *its] for its in [["sweeps/mutants", "sweeps/mutating"], ["sweeps/spoilt"]]]),
+            [["env", "MYPYPATH=sweeps:.", *typed, *its] for its in [["sweeps/mutants", "sweeps/mutating"], ["sweeps/edits/clients"]]]),
     ]
 
 
 def edited() -> List[str]:
     """The crates whose wrong bodies are tried together."""
-    return sorted(path.name for path in (TOP / "sweeps/must-fail").iterdir())
+    return [name for name in sorted(own()) if edits_of_gate(name)]
 
 
 def rows_of_edits() -> List[Row]:
-    return [Row(f"wrong bodies of {name}", ["rt", f"proofs below {name}"], [["sweeps/edits", "--gate", name]]) for name in edited()]
+    return [Row(f"wrong bodies of {name}", ["rt", f"proofs below {name}"], [["sweeps/edits/crates", "--gate", name]]) for name in edited()]
 
 
 def rows(tools: Tools, made: Path, is_gate: bool) -> List[Row]:
@@ -226,8 +230,8 @@ def rows(tools: Tools, made: Path, is_gate: bool) -> List[Row]:
                                         for name in ["sweeps/ample", "sweeps/bytes", "sweeps/meets", "conformance/desks/overlaps"])
     return [
         *(rows_of_edits() if is_gate else []),
-        Row("the edits of the crates, read", ["python3"], [["sweeps/edits", "--read"]]),
-        Row("the edits that spoil the clients, read", ["python3"], [["sweeps/spoilt", "--read"]]),
+        Row("the edits of the crates, read", ["python3"], [["sweeps/edits/crates", "--read"]]),
+        Row("the edits that spoil the clients, read", ["python3"], [["sweeps/edits/clients", "--read"]]),
         *rows_of_mutants(tools, made),
         Row("what a program can check of the pages", ["python3"], [["sweeps/pages"]]),
         Row("where want of memory is told, and that nothing is kept from being freed", ["python3"], [["sweeps/memory"]]),
