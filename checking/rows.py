@@ -65,8 +65,13 @@ def rows_of_python(tools: Tools, made: Path) -> List[Row]:
     def example(name: str, file: str, page: str = "clients/python") -> Row:
         """A program of the client's pages, run in the tree."""
         return Row(name, ["library", "python3"], [["env", "PYTHONPATH=clients/python", python, f"clients/python/examples/{file}"]], (page, file))
+    durable = f"{python} {TOP}/clients/python/examples/durable.py"  # (which leaves a file where it runs)
+    killed = f"cd {made} && rm -f orders.db* && ({durable} killed; {durable})"
     return [
-        example("Python's example", "example.py"), example("Python's first program", "first.py"),
+        Row("Python's order whose process is killed", ["library", "python3"],
+            [["env", f"PYTHONPATH={TOP}/clients/python", "sh", "-c", killed]], ("clients/python", "durable.py")),
+        example("Python's example", "example.py", "clients/python/examples"),
+        example("Python's handler on an event loop", "async_handler.py"), example("Python's first program", "first.py"),
         example("Python's spans in a file", "traced.py"), example("Python's order of three processes", "order.py"),
         example("Python's order whose bank is away", "retry.py"), example("Python's orders in an event loop", "handler.py"),
         example("Python's order that charges twice", "twice.py", "docs/TESTING.md"),
