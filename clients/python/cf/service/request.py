@@ -175,7 +175,7 @@ class Request(RequestCore):
     # Stages.
 
     def supply(self, fn: "Callable[P, T]", /, *args: "P.args", **kwargs: "P.kwargs") -> "Stage[T]":
-        """Has a function called by one of the service's threads, or by the loop of a `LoopService`.
+        """Calls a function on one of the service's threads, or on the loop of a `LoopService`.
 
         Args:
             fn: Called with the other arguments.

@@ -46,7 +46,8 @@ class Stage(_Future[T]):
 
     A stage fails with what its function raises. A stage that waits for a failed one fails with the same exception, and a
     stage that waits for a cancelled one with `CancelledError`. Its own function isn't called then, unless it takes
-    exceptions (`handle`, `when_done`, `recover`, `recover_compose`).
+    exceptions (`handle`, `when_done`, `recover`, `recover_compose`). However often an exception is raised by `result` or
+    `await`, its traceback begins as it was at first.
 
     Cost: a stage takes one of the 4,096 of its request, and one event of the history; `compose` and `recover_compose`
     take two of each. A call of its function is two more events, the claim and the finish.

@@ -21,7 +21,8 @@ class Known(NamedTuple):
 
 
 class Functions:
-    """The functions that a process knows, by name and version. A module of functions has one, for `python3 -m cf.worker`:
+    """The functions that a process knows, by name and version. A module of functions has one, which `python3 -m cf.worker`
+    looks for:
 
         functions = Functions()
 
@@ -63,12 +64,12 @@ class Functions:
         return named
 
     def add(self, other: "Functions") -> None:
-        """Takes all that another has. `ValueError` where a name and version are another function's here."""
+        """Takes all functions of another one. `ValueError` if a name and version are another function's here."""
         for known in other._known.values():
             self.function(known.name, known.version, known.is_transactional)(known.call)
 
     def of(self, call: Callable[..., Any]) -> Known:
-        """What a function is registered as; `TypeError` where it isn't."""
+        """What a function is registered as; `TypeError` if it isn't."""
         found = self._names.get(call)
         if found is None:
             name = getattr(call, "__qualname__", repr(call))
