@@ -1,12 +1,14 @@
 #!/usr/bin/env python3
-"""Does what the README says to write instead of what isn't there do what is wanted?
+"""Does what the guide says to write do what is wanted?
 
     CF_LIBRARY=/path/to/libcf.so python3 clients/python/tests/service/test_instead.py [-v] [TEST ..]
 """
 import concurrent.futures
 import contextlib
+import gc
 import threading
 import unittest
+import weakref
 
 from case import Case, fails, inc, Oops
 
@@ -65,14 +67,37 @@ class Instead(Case):
         self.assertEqual(self.request.promise().complete_on_timeout(1, 0.01).then(inc).result(20), 2)
 
     def test_a_further_try(self):
-        tries = iter([fails, fails, lambda: 7])
+        """The function of the guide, which ends well with the last try, or raises what that raised."""
+        def tried(request, call, tries=3, pause=0.01):
+            stage = request.supply(call)
+            if tries == 1:
+                return stage
+            return stage.recover_compose(lambda error: request.promise("pause").complete_on_timeout(None, pause).compose(
+                lambda _: tried(request, call, tries - 1, 2 * pause)))
 
-        def call():
-            return self.request.supply(lambda: next(tries)())
+        calls = iter([fails, fails, lambda: 7, fails, fails, fails, lambda: 8])
+        self.assertEqual(tried(self.request, lambda: next(calls)()).result(20), 7)
+        self.assertIsInstance(tried(self.request, lambda: next(calls)()).exception(20), Oops)
+        self.assertEqual(next(calls)(), 8)
 
-        def again(_error):
-            return self.request.promise().complete_on_timeout(None, 0.01).compose(lambda _: call())
-        self.assertEqual(call().recover_compose(again).recover_compose(again).result(20), 7)
+    def test_what_is_open(self):
+        opened = weakref.WeakSet()
+        opened.add(self.request)
+        self.request.promise("approval")
+        opened.add(self.service.request("nobody has it"))
+        gc.collect()
+        self.assertEqual([it.history().line().endswith("; 1 open: 0 approval") for it in opened], [True])
+
+    def test_a_function_that_looks_whether_it_is_wanted(self):
+        begun, stop = threading.Event(), threading.Event()
+
+        def work():
+            begun.set()
+            return stop.wait(20)
+        stage = self.request.supply(work)
+        stage.add_done_callback(lambda _: stop.set())
+        self.assertTrue(begun.wait(20))
+        self.assertEqual((stage.cancel(), stage.abandon(), stop.is_set()), (False, True, True))
 
     def test_a_request_within_a_request(self):
         inner = self.service.request("inner")
