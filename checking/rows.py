@@ -186,8 +186,8 @@ def rows_of_java(tools: Tools, made: Path) -> List[Row]:
         Row("Java's charge with a key in every order", needs, [[*java, "Keyed"]], ("docs/TESTING.md", "Keyed")),
         Row("Java's tests of JUnit in every order", [*needs, JUNIT], [
             [javac, "-Xlint:all", "-Werror", "-encoding", "UTF-8", "-cp", f"{jar}:{made}/java/cf-service-junit.jar:{junit}", "-d", every_order,
-             "clients/java/junit/test/cf/service/junit/EveryOrderTest.java"],
-            [*java[:-1], f"{jar}:{made}/java/cf-service-junit.jar:{every_order}:{junit}", "cf.service.junit.EveryOrderTest"]]),
+             "clients/java/junit/test/cf/testing/junit/EveryOrderTest.java"],
+            [*java[:-1], f"{jar}:{made}/java/cf-service-junit.jar:{every_order}:{junit}", "cf.testing.junit.EveryOrderTest"]]),
         Row("random orders of Java's service beside explore", [*needs, "python3", "cf_look"],
             [[tools["python3"], "conformance/clients/java-orders", "short", jar, "0", "100", tools["cf_look"]]]),
         Row("random requests of Java's service", [*needs, "python3", "cf", "cf_look"],

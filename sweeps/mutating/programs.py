@@ -76,7 +76,7 @@ def programs_of_java(folder: Path, has_junit: bool) -> List[Program]:
         names.setdefault(test, []).append(name)
     words = {test: ["cf.service.AllTests", *its] for test, its in sorted(names.items())}
     if has_junit:
-        words["EveryOrderTest"] = ["cf.service.junit.EveryOrderTest"]
+        words["EveryOrderTest"] = ["cf.testing.junit.EveryOrderTest"]
     paths = {name: str(path.relative_to(folder)) for name, path in sources.items()}
     return [Program(test, its, paths[test], texts[test], [paths[it] for it in closure([test], follow)]) for test, its in words.items()]
 

@@ -1,8 +1,8 @@
-import cf.service.Functions;
-import cf.service.JdbcStore;
-import cf.service.StoreService;
-import cf.service.StoredFlow;
-import cf.service.StoredRequest;
+import cf.store.Functions;
+import cf.store.JdbcStore;
+import cf.store.StoreService;
+import cf.store.StoredFlow;
+import cf.store.StoredRequest;
 import java.util.concurrent.TimeUnit;
 
 public class Order {

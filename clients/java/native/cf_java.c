@@ -1,4 +1,4 @@
-/* The library's requests as native methods of cf.service.Machine, and its plans and histories as those of cf.service.Native.
+/* The library's requests as native methods of cf.service.Machine, and its plans and histories as those of cf.internal.Native.
  *
  * A core is a request of the library (docs/REQUEST.md) with a block of memory that Java reads and writes by a direct buffer, so that one
  * crossing does some words and brings back the reply, the stages that were settled, and those whose functions are to be called. Its caller
@@ -96,7 +96,7 @@ struct crossing {
 #define PLAN(at) ((at) ? (struct plan *)(intptr_t)(at) : &empty)
 /* Each crossing has a copy of its own of these, which takes a fifth off what the binding does. */
 #define INLINE static inline __attribute__((always_inline))
-#define METHOD(type, name) JNIEXPORT type JNICALL Java_cf_service_Native_##name
+#define METHOD(type, name) JNIEXPORT type JNICALL Java_cf_internal_Native_##name
 #define CALL(type, name) JNIEXPORT type JNICALL Java_cf_service_Machine_##name
 
 static void enter(struct link *list, struct link *one) {

@@ -1,5 +1,6 @@
 package cf.service;
 
+import cf.internal.Text;
 import java.lang.reflect.Array;
 import java.util.Collection;
 import java.util.Map;

@@ -1,5 +1,8 @@
 package cf.service;
 
+import cf.internal.Form;
+import cf.internal.Full;
+import cf.internal.Text;
 import java.util.ArrayList;
 import java.util.List;
 import java.util.Objects;
@@ -227,7 +230,7 @@ public final class Flow {
     private void open(int steps, int sources) {
         open();
         if (rows.size() + steps > Machine.MOST_STAGES || edges + sources > Machine.MOST_EDGES) {
-            throw new RequestFullException(name);
+            throw new RequestFullException(new Full(name));
         }
     }
 

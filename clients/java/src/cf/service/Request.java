@@ -1,8 +1,12 @@
 package cf.service;
 
+import cf.internal.Form;
+import cf.internal.Full;
+import cf.internal.Native;
+import cf.internal.Watch;
+import cf.internal.Words;
 import cf.service.Faults.Fault;
 import cf.service.Waits.Alarm;
-import cf.service.watch.Watch;
 import java.util.ArrayList;
 import java.util.Arrays;
 import java.util.BitSet;
@@ -118,7 +122,7 @@ public final class Request implements AutoCloseable {
      * before anything is done; one of a flow becomes one as it is claimed (`granted`). `closed` sees to it that a hook of the
      * service's is told of the request once, by `Ends`, as soon as the stages that it has then are settled.
      *
-     * Watches. A service may have a Watch, as cf.service.testing makes it, which takes the place of executors and the clock. It is told of each
+     * Watches. A service may have a Watch, as cf.testing makes it, which takes the place of executors and the clock. It is told of each
      * word under the lock, and has `tell` hand it the News, which it works off as a Turn, one function at a time. Tasks, limits and waits are the
      * watch's, and histories have its time and its callers.
      *
@@ -513,7 +517,7 @@ public final class Request implements AutoCloseable {
             }
             service.ends().tell(() -> history.described(describe), within);
         } catch (Throwable none) {
-            Ends.warn("the end of a request isn't told", none);
+            service.ends().warn("the end of a request isn't told", none);
         }
     }
 
@@ -771,7 +775,7 @@ public final class Request implements AutoCloseable {
     private Request further() {
         synchronized (lock()) {
             if (!goesOn) {
-                throw new RequestFullException(name);
+                throw new RequestFullException(new Full(name));
             }
             if (next == null) {
                 next = new Request(service, name + ", further", null, 32, describe, within).goesOn();

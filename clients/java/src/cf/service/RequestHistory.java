@@ -1,5 +1,7 @@
 package cf.service;
 
+import cf.internal.Tale;
+import cf.internal.Telling;
 import java.io.ByteArrayOutputStream;
 import java.io.IOException;
 import java.io.InputStream;
@@ -7,8 +9,6 @@ import java.io.InterruptedIOException;
 import java.nio.charset.StandardCharsets;
 import java.nio.file.Files;
 import java.nio.file.Path;
-import java.util.Arrays;
-import java.util.stream.IntStream;
 
 /**
  * What happened to a request, in memory or in a store: told in words, as an account that {@code cf_look check} judges, and as a script for
@@ -16,23 +16,21 @@ import java.util.stream.IntStream;
  * language. Each text takes time by the number of words.
  */
 public abstract class RequestHistory {
-    final String name;
-    final long[] words;
+    /** @hidden */
+    protected RequestHistory() {}
 
-    RequestHistory(String name, long[] words) {
-        this.name = name;
-        this.words = words;
-    }
+    /** @hidden What tells it. */
+    protected abstract Telling telling();
 
     /** The words of all events in their order. */
     public long[] words() {
-        return words.clone();
+        return telling().words.clone();
     }
 
     /** A line for each event, and one for each stage that it settled. Names and texts can't add a line: see {@link Describe}. */
     @Override
     public String toString() {
-        return as(Tale.Kind.LINES);
+        return telling().as(Tale.Kind.LINES);
     }
 
     /**
@@ -40,7 +38,7 @@ public abstract class RequestHistory {
      * stands a semicolon; one of a name or text is told as JSON's escape of it.
      */
     public String line() {
-        return as(Tale.Kind.LINE);
+        return telling().as(Tale.Kind.LINE);
     }
 
     /**
@@ -48,7 +46,7 @@ public abstract class RequestHistory {
      * What isn't judged are names, times in nanoseconds from the first event on, values and exceptions as texts.
      */
     public String account() {
-        return withoutEnd(as(Tale.Kind.ACCOUNT));
+        return withoutEnd(telling().as(Tale.Kind.ACCOUNT));
     }
 
     /**
@@ -56,7 +54,7 @@ public abstract class RequestHistory {
      * else of version 2. Functions give what they gave.
      */
     public String script() {
-        return withoutEnd(as(Tale.Kind.SCRIPT));
+        return withoutEnd(telling().as(Tale.Kind.SCRIPT));
     }
 
     /**
@@ -91,31 +89,6 @@ public abstract class RequestHistory {
             all.write(part, 0, n);
         }
         return all.toString("UTF-8");
-    }
-
-    /** What the library tells. */
-    final String as(Tale.Kind kind) {
-        Tale tale = tale(kind);
-        if (kind != Tale.Kind.SCRIPT && kind != Tale.Kind.REPORT) {
-            tale.say(Tale.Said.NAME, name);
-            says(tale);
-        }
-        return tale.text(kind);
-    }
-
-    /** The words as they are told. */
-    abstract Tale tale(Tale.Kind kind);
-
-    /** Says the names of stages and callers, values and exceptions. */
-    abstract void says(Tale tale);
-
-    /** What a caller is called. */
-    abstract String who(int who);
-
-    /** What the callers are called, up to the last one that did something. */
-    final String[] callers(long[] words) {
-        int count = Arrays.stream(words).mapToInt(Words::who).max().orElse(-1) + 1;
-        return IntStream.range(0, count).mapToObj(this::who).toArray(String[]::new);
     }
 
     private static String withoutEnd(String line) {

@@ -1,7 +1,8 @@
 package cf.service;
 
-import cf.service.watch.Watch;
-import cf.service.watch.Watched;
+import cf.internal.Ends;
+import cf.internal.Watch;
+import cf.internal.Watched;
 import java.util.Objects;
 import java.util.concurrent.CompletableFuture;
 import java.util.concurrent.Executor;
@@ -70,7 +71,7 @@ public final class Service {
      * the request was opened. What it throws is logged as a warning of {@code cf.service}.
      */
     public Service onEnd(Consumer<? super History> hook) {
-        return new Service(executor, describe, contexts, new Ends<>(Objects.requireNonNull(hook)), requests, goesOn, watch);
+        return new Service(executor, describe, contexts, new Ends<>(Objects.requireNonNull(hook), "cf.service"), requests, goesOn, watch);
     }
 
     /** One with the same executor, of whose requests each {@link Request#goesOn goes on}. */

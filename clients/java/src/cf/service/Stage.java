@@ -1,5 +1,7 @@
 package cf.service;
 
+import cf.internal.Form;
+import cf.internal.Text;
 import cf.service.Faults.Fault;
 import java.util.List;
 import java.util.Objects;

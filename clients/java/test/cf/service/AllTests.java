@@ -1,7 +1,12 @@
 package cf.service;
 
-import cf.service.testing.OrdersTest;
-import cf.service.testing.StoredOrdersTest;
+import cf.internal.Native;
+import cf.store.EtcdTest;
+import cf.store.StoreFaultsTest;
+import cf.store.StoredFunctionsTest;
+import cf.store.StoresTest;
+import cf.testing.OrdersTest;
+import cf.testing.StoredOrdersTest;
 import java.util.Arrays;
 import java.util.LinkedHashSet;
 import java.util.Set;
@@ -196,6 +201,7 @@ public final class AllTests {
         test("who is gone", StoresTest::gone);
         test("which errors of PostgreSQL say that it is away", StoreFaultsTest::away);
         test("the module of JDBC", StoresTest::module);
+        test("what the module exports", StoresTest::exported);
         if (StoresTest.hasDriver()) {
             over(StoresTest.InFile::new, "puts of several threads to SQLite", StoresTest::together);
             test("jobs that no thread took", StoresTest::noThread);

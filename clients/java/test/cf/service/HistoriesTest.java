@@ -1,16 +1,17 @@
 package cf.service;
 
-import static cf.service.Checks.INLINE;
-import static cf.service.Checks.is;
-import static cf.service.Checks.SERVICE;
-import static cf.service.Checks.thrown;
-
+import cf.internal.Words;
 import java.io.IOException;
 import java.nio.file.Files;
 import java.nio.file.Paths;
 import java.util.ArrayList;
 import java.util.Arrays;
 import java.util.List;
+import static cf.service.Checks.INLINE;
+import static cf.service.Checks.is;
+import static cf.service.Checks.SERVICE;
+import static cf.service.Checks.thrown;
+
 
 /** What a history and a stage say in text: lines, reports, pages, and names and values that would forge a line. */
 final class HistoriesTest {

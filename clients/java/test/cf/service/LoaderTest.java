@@ -1,8 +1,6 @@
 package cf.service;
 
-import static cf.service.Checks.is;
-import static cf.service.Checks.thrown;
-
+import cf.internal.Native;
 import java.io.InputStream;
 import java.lang.ref.WeakReference;
 import java.lang.reflect.InvocationTargetException;
@@ -14,6 +12,9 @@ import java.nio.file.StandardCopyOption;
 import java.util.ArrayList;
 import java.util.List;
 import java.util.concurrent.TimeUnit;
+import static cf.service.Checks.is;
+import static cf.service.Checks.thrown;
+
 
 /** Class loaders, as containers of web applications and plugins have them: each has classes and a library of its own, and can go. */
 final class LoaderTest {
