@@ -111,8 +111,8 @@ CALL(jintArray, saw)(JNIEnv *env, jclass self, jlong view, jlong word, jlong tok
   cf_reply reply = {0};
   size_t n = 0, place = 0;
   const uint32_t code = cf_row_saw(&it->row, &entry, &reply, it->news, room, &n);
-  jint numbers[TOLD] = {code == CF_OK ? (jint)reply.answer : -(jint)code, (jint)reply.number, (jint)reply.args.kind, (jint)reply.args.first.kind,
-                        reply.args.first.number, (jint)reply.args.second.kind, reply.args.second.number};
+  jint numbers[TOLD] = {code == CF_OK ? (jint)reply.answer : -(jint)code, (jint)reply.number, (jint)reply.args.kind,
+      (jint)reply.args.first.kind, reply.args.first.number, (jint)reply.args.second.kind, reply.args.second.number};
   outcome_out(numbers + 7, reply.args.outcome);
   (*env)->SetIntArrayRegion(env, told, 0, TOLD - 1, numbers);
   if (code != CF_OK || (*env)->ExceptionCheck(env)) return NULL;

@@ -11,7 +11,21 @@ import threading
 import histories
 import model
 from desk_checks import Line, call_of_step, check_pass, check_stages, states_of
-from translation import Difference, Functions, answer_of, cf, changing, compare, event_of, now_of, outcome_of, plain, reply_of, result_of, told_or_refused
+from translation import (
+    Difference,
+    Functions,
+    answer_of,
+    cf,
+    changing,
+    compare,
+    event_of,
+    now_of,
+    outcome_of,
+    plain,
+    reply_of,
+    result_of,
+    told_or_refused,
+)
 
 WAYS = ("free", "rounds", "turns")
 
@@ -124,7 +138,7 @@ class Run:
 
     def __init__(self, seed, script, noted, functions):
         self.noted, self.functions = noted, functions
-        self.steps = [script["calls"][k::len(noted)] for k in range(len(noted))]
+        self.steps = [script["calls"][k :: len(noted)] for k in range(len(noted))]
         self.rngs = [random.Random(f"{seed} caller {k}") for k in range(len(noted))]
         self.rng = random.Random(f"{seed} meetings")
         self.order, self.fault = [], None
@@ -166,7 +180,7 @@ class Run:
     def rounds(self, k, size):
         for first in range(0, self.most * size, size):
             with self.noted[k]:
-                for step in self.steps[k][first:first + size]:
+                for step in self.steps[k][first : first + size]:
                     self.step(k, step)
             self.barrier.wait()
 
@@ -192,8 +206,13 @@ class Run:
 def wrong_openings(plan, sizes):
     """Openings that are refused, each for what it names, and for the first of two."""
     stages = sizes.stages
-    rows = [("CALLERS", (0, 0, 1)), ("CALLERS", (65, 1, 1)), ("LOG", (1, 0, 0)), ("CALLS", (64, 1, 0, 4_097 - stages, 0)),
-            ("ROOM", (1, 1, 1, 4_097 - stages, 0))] + [("FUNCTIONS", (1, 1, 1, 1, len(sizes.named) - 1))] * bool(sizes.named)
+    rows = [
+        ("CALLERS", (0, 0, 1)),
+        ("CALLERS", (65, 1, 1)),
+        ("LOG", (1, 0, 0)),
+        ("CALLS", (64, 1, 0, 4_097 - stages, 0)),
+        ("ROOM", (1, 1, 1, 4_097 - stages, 0)),
+    ] + [("FUNCTIONS", (1, 1, 1, 1, len(sizes.named) - 1))] * bool(sizes.named)
     for why, counts in rows:
         compare(f"a desk of {counts}", told_or_refused(lambda: plan.open_desk(*counts)), ("refused", why))
 
@@ -285,14 +304,19 @@ def check_turns(order):
 
 def account(script, sizes, words, lines, outcomes):
     """The desk as a history of docs/FORMATS.md."""
+
     def record(line):
         if line.kind == "did":
             return ["did", line.place, str(histories.word_of(line.call)), line.said]
         return [line.call[0], line.place, *line.call[2:], line.said]
-    return {"plan": {"cf": 2, "room": sizes.room, "stages": script["stages"], "limits": script["limits"]},
-            "functions": sizes.functions, "events": [str(word) for word in words],
-            "callers": [[record(line) for line in own if line.kind != "no"] for own in lines],
-            "outcomes": [model.settled_text(outcome) for outcome in outcomes]}
+
+    return {
+        "plan": {"cf": 2, "room": sizes.room, "stages": script["stages"], "limits": script["limits"]},
+        "functions": sizes.functions,
+        "events": [str(word) for word in words],
+        "callers": [[record(line) for line in own if line.kind != "no"] for own in lines],
+        "outcomes": [model.settled_text(outcome) for outcome in outcomes],
+    }
 
 
 def compare_graphs(plan, sizes, words, replies, closed):
@@ -378,6 +402,7 @@ def run(seed, plan, script, sizes, seen):
 
 # What no random run asks for.
 
+
 def raised_by(call):
     """The name of what a call raises, or nothing."""
     try:
@@ -422,17 +447,28 @@ def functions_that_raise():
 
 def numbers_out_of_range():
     with one_supply() as plan, cf.Graph(plan) as graph:
-        for what, call in [("a stage", lambda: graph.outcome(65_536)), ("a source", lambda: graph.attach(cf.Form.ALL_OF, -1)),
-                           ("a code", lambda: graph.fail(0, 2**32)), ("a function", lambda: graph.attach(cf.Form.SUPPLY, function=65_536)),
-                           ("a value", lambda: graph.complete(0, 2**31)), ("a link", lambda: graph.finish(0, cf.Link(65_536))),
-                           ("a moment", lambda: graph.tick(-1)), ("a caller", lambda: cf.word_of(cf.events.Claim(256, 0)))]:
+        for what, call in [
+            ("a stage", lambda: graph.outcome(65_536)),
+            ("a source", lambda: graph.attach(cf.Form.ALL_OF, -1)),
+            ("a code", lambda: graph.fail(0, 2**32)),
+            ("a function", lambda: graph.attach(cf.Form.SUPPLY, function=65_536)),
+            ("a value", lambda: graph.complete(0, 2**31)),
+            ("a link", lambda: graph.finish(0, cf.Link(65_536))),
+            ("a moment", lambda: graph.tick(-1)),
+            ("a caller", lambda: cf.word_of(cf.events.Claim(256, 0))),
+        ]:
             compare(f"{what} out of its range", raised_by(call), "OverflowError")
 
 
 def words_of_nothing():
     events = cf.events
     with one_supply() as plan, cf.Graph(plan) as graph:
-        for event in [events.Claim(64, 0), events.Claim(0, 4_096), events.Attach(0, cf.Form.SUPPLY, (), 4_096), events.Attach(0, cf.Form.APPLY, (0,))]:
+        for event in [
+            events.Claim(64, 0),
+            events.Claim(0, 4_096),
+            events.Attach(0, cf.Form.SUPPLY, (), 4_096),
+            events.Attach(0, cf.Form.APPLY, (0,)),
+        ]:
             compare(f"a word of {event}", told_or_refused(lambda: cf.word_of(event)), ("refused", "NO_WORD"))
         for word in [0, 2**64 - 1, 8 * 2**56 + 1, 9 * 2**56]:
             compare(f"an event of {word}", told_or_refused(lambda: cf.event_of(word)), ("refused", "NO_WORD"))

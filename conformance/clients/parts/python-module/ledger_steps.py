@@ -11,13 +11,12 @@ from cf._library import CAnswer, CArgs, CNews
 
 WHO = (0, 0, 0, 1, 1, 2, 63, 63, 64, 255)
 KINDS = ("pending", "ready", "claimed", "linked", "settled")
-VALUES = (None, 0, 7, -2**31, 2**31 - 1)
+VALUES = (None, 0, 7, -(2**31), 2**31 - 1)
 NOBODY, SPARE = 2**32 - 1, 999
 
 
 class CTask(c.Structure):
-    _fields_ = [("held", c.c_uint32), ("stage", c.c_uint16), ("function", c.c_uint16), ("args", CArgs), ("answer", CAnswer),
-                ("finished", c.c_uint32)]
+    _fields_ = [("held", c.c_uint32), ("stage", c.c_uint16), ("function", c.c_uint16), ("args", CArgs), ("answer", CAnswer), ("finished", c.c_uint32)]
 
 
 class CStep(c.Structure):
@@ -98,7 +97,7 @@ class Recorder:
         middle = self.states[-1]
         ready = next((i for i in range(first, len(middle.stages)) if middle.stages[i][0] == "ready"), None)
         args = None if ready is None else self.did(("claim", who, ready))[1][1]
-        told = [news_of(it) for it in news[:min(n.value, room)]]
+        told = [news_of(it) for it in news[: min(n.value, room)]]
         wanted = changed(before, middle) if held is not None else []
         compare("the step's code", code, "NOTHING" if ready is None else "OK")
         compare("the finish", ("won", "late")[task.finished], finished)
@@ -106,7 +105,7 @@ class Recorder:
         compare("the word of the finish", step.finish != 0, held is not None)
         compare("their place", step.place, place)
         compare("the news", (n.value, told), (len(wanted), [wanted_of(self.states[-1], i) for i in wanted][:room]))
-        compare("what is behind them", [it.stage for it in news[len(told):]], [SPARE] * (room - len(told)))
+        compare("what is behind them", [it.stage for it in news[len(told) :]], [SPARE] * (room - len(told)))
         compare("what is held", task.held, int(ready is not None))
         if ready is not None:
             function = before.plan.stages[ready].function
@@ -127,7 +126,7 @@ def again(rng, recorder, plan, room, no_words, seen, compare_all):
         code = LIBRARY.cf_ledger_apply_all(copy._at, row_of(spoilt), c.c_size_t(len(spoilt)), c.byref(done))
         compare("a row with a word that is none", (code_of(code), done.value, copy.words()), ("NO_WORD", place, words[:place]))
         for _ in range(2):
-            rest = words[len(copy.words()):]
+            rest = words[len(copy.words()) :]
             code = LIBRARY.cf_ledger_apply_all(copy._at, row_of(rest), c.c_size_t(len(rest)), c.byref(done))
             compare("a row", (code_of(code), done.value), ("OK", len(rest)))
             compare_all(copy, words, recorder.states)

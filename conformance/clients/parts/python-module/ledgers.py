@@ -28,7 +28,7 @@ def compare_all(ledger, words, states):
     """What a ledger tells once all is done."""
     state = states[-1]
     compare("the words", ledger.words(), words)
-    compare("the last words", ledger.words(len(words) // 2), words[len(words) // 2:])
+    compare("the last words", ledger.words(len(words) // 2), words[len(words) // 2 :])
     for place in range(len(words)):
         compare(f"news {place}", ledger.news(place), changed(states[place], states[place + 1]))
     compare("news behind the last", told_or_refused(lambda: ledger.news(len(words))), ("refused", "NOTHING"))

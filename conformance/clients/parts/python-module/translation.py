@@ -124,8 +124,12 @@ def event_of(event):
         return (kind, who, event.now)
     if kind == "attach":
         return (kind, who, NAME[event.form], event.of, event.function)
-    rest = {"complete": lambda: (event.value,), "fail": lambda: (event.code,), "finish": lambda: (answer_of(event.answer),),
-            "failAs": lambda: (next(name for name, failure in FAILURES.items() if failure is event.failure),)}
+    rest = {
+        "complete": lambda: (event.value,),
+        "fail": lambda: (event.code,),
+        "finish": lambda: (answer_of(event.answer),),
+        "failAs": lambda: (next(name for name, failure in FAILURES.items() if failure is event.failure),),
+    }
     return (kind, who, event.stage) + rest.get(kind, tuple)()
 
 

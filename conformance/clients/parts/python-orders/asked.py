@@ -25,13 +25,17 @@ class Told:
         self.program_orders = self.program_tried = self.whole = self.kept = self.kept_orders = self.kept_tried = 0
 
     def __str__(self):
-        return (f"{self.asked} questions of {self.orders} orders have the same ends in {self.tried}, {self.whole} of them whole; {self.counted} "
-                f"have the same numbers of orders; {self.programs} programs of {self.program_orders} orders have the same ends in {self.program_tried}; {self.kept} over a store of "
-                f"{self.kept_orders} orders have the same ends in {self.kept_tried}; {self.too_large} were "
-                f"too large; {len(self.wrong)} otherwise")
+        return (
+            f"{self.asked} questions of {self.orders} orders have the same ends in {self.tried}, {self.whole} of them whole; {self.counted} "
+            f"have the same numbers of orders; {self.programs} programs of {self.program_orders} orders have the same ends in "
+            f"{self.program_tried}; {self.kept} over a store of "
+            f"{self.kept_orders} orders have the same ends in {self.kept_tried}; {self.too_large} were "
+            f"too large; {len(self.wrong)} otherwise"
+        )
 
 
 # A question as a test.
+
 
 def cause_of(error):
     if isinstance(error, Thrown):
@@ -135,8 +139,7 @@ def compare(explore, said, name, most, told):
         return
     count = sum(wanted.values())
 
-    options = {"free_clock": True, "failures": 10**9, "smaller": False, "seconds": 60, "most": 5 * most,
-               "ends": lambda world: world.test.end()}
+    options = {"free_clock": True, "failures": 10**9, "smaller": False, "seconds": 60, "most": 5 * most, "ends": lambda world: world.test.end()}
     told.asked += 1
     told.orders += count
     enough = said["workers"] >= len(said["stages"]) + said.get("room", 0)  # so that no function waits for a worker

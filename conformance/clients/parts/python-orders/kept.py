@@ -16,10 +16,14 @@ class Program:
     def __init__(self, seed):
         r = random.Random(seed)
         self.workers = r.choice([1, 1, 1, 2])
-        self.acts = [(r.choice(["set", "add", "copy", "raise", "none"]), r.randrange(SHARED), r.choice(["", "", "pure", "touches"])) for _ in range(2)]
+        self.acts = [
+            (r.choice(["set", "add", "copy", "raise", "none"]), r.randrange(SHARED), r.choice(["", "", "pure", "touches"])) for _ in range(2)
+        ]
         self.stages = [self.stage(r, i) for i in range(r.choice([1, 1, 2]))]
-        self.calls = [(r.choice(["cancel", "abandon", "complete", "attach", "wait", "done", "open"]), r.randrange(len(self.stages)), r.randrange(SHARED))
-                      for _ in range(r.choice([0, 1, 1]))]
+        self.calls = [
+            (r.choice(["cancel", "abandon", "complete", "attach", "wait", "done", "open"]), r.randrange(len(self.stages)), r.randrange(SHARED))
+            for _ in range(r.choice([0, 1, 1]))
+        ]
         self.faults = {r.choice(FAULTS): 1} if r.random() < 0.8 else {}
         self.check = r.randrange(SHARED) if r.random() < 0.3 else None
         self.limit = r.random() < 0.15
@@ -109,8 +113,12 @@ class Kept:
         rows = self.store.rows.memory
         tokens = Counter(token for name in self.store.rows.names for _, token in rows.read(name))
         stands = all(rows.read(name)[place - 1][0] == word for _, name, place, word in self.store.answered)
-        return stands and max(tokens.values(), default=1) == 1 and len(set(self.store.granted)) == len(self.store.granted) \
+        return (
+            stands
+            and max(tokens.values(), default=1) == 1
+            and len(set(self.store.granted)) == len(self.store.granted)
             and max(Counter(it[1:] for it in self.store.granted).values(), default=1) == 1
+        )
 
     def end(self):
         return (*self.store.outcomes(), *map(str, self.shared), *map(str, self.log + self.marked + self.store.rows.effects))
@@ -137,5 +145,7 @@ def compare(seed, most, told):
     told.kept_tried += reduced.orders + reduced.cut
     is_alike = {it.why for it in plain.failed} == {it.why for it in reduced.failed} and (plain.failed or set(plain.ends) == set(reduced.ends))
     if not is_alike or not (reduced.failed or reduced.whole):
-        told.wrong.append(f"program {seed} over a store: {len(reduced.ends)} ends in {reduced.orders}, and {len(plain.ends)} in {plain.orders} are wanted; "
-                          f"missing {sorted(set(plain.ends) - set(reduced.ends))[:2]}, {[it.why for it in plain.failed + reduced.failed]}")
+        told.wrong.append(
+            f"program {seed} over a store: {len(reduced.ends)} ends in {reduced.orders}, and {len(plain.ends)} in {plain.orders} are wanted; "
+            f"missing {sorted(set(plain.ends) - set(reduced.ends))[:2]}, {[it.why for it in plain.failed + reduced.failed]}"
+        )

@@ -21,7 +21,12 @@ class Program:
 
     def stage(self, r, i):
         kind = r.choice(["supply", "promise", "adopt"] + (["then", "handle", "recover", "combine", "either", "all_of", "compose"] if i else []))
-        return kind, [r.randrange(i) for _ in range(2)] if i else [], [self.act(r, i) for _ in range(r.randrange(0, 3))], r.choice(["", "", "pure", "touches"])
+        return (
+            kind,
+            [r.randrange(i) for _ in range(2)] if i else [],
+            [self.act(r, i) for _ in range(r.randrange(0, 3))],
+            r.choice(["", "", "pure", "touches"]),
+        )
 
     def act(self, r, count):
         """Something that a function does."""
@@ -110,8 +115,10 @@ class Made:
                 self.shared[variable] = len(type(error).__name__)
 
     def end(self):
-        texts = [(stage.cancelled(), None if not stage.done() or stage.cancelled() else repr(stage.exception(0) or stage.result(0)))
-                 for stage in self.stages]
+        texts = [
+            (stage.cancelled(), None if not stage.done() or stage.cancelled() else repr(stage.exception(0) or stage.result(0)))
+            for stage in self.stages
+        ]
         return repr((texts, self.shared, self.log))
 
 
@@ -133,5 +140,7 @@ def compare(seed, most, told):
     told.program_tried += reduced.orders + reduced.cut
     both = [(set(report.ends), {failure.why for failure in report.failed}) for report in (plain, reduced)]
     if both[0] != both[1] or not reduced.whole:
-        told.wrong.append(f"program {seed}: {len(both[0][0])} ends and {both[0][1]}, and with orders left out {len(both[1][0])} and {both[1][1]}; "
-                          f"missed {list(both[0][0] - both[1][0])[:2]}")
+        told.wrong.append(
+            f"program {seed}: {len(both[0][0])} ends and {both[0][1]}, and with orders left out {len(both[1][0])} and {both[1][1]}; "
+            f"missed {list(both[0][0] - both[1][0])[:2]}"
+        )

@@ -164,7 +164,7 @@ public final class History extends RequestHistory {
 
     /** What a caller is called. */
     String who(int who) {
-        return who == Request.CLOCK ? "clock" : who == Request.RELAY ? "relay"
+        return who < Request.CLOCK ? "caller" : who == Request.CLOCK ? "clock" : who == Request.RELAY ? "relay"
                 : who == Request.OTHER_THREADS ? "some thread" : threads[who - Request.FIRST_THREAD];
     }
 

@@ -132,11 +132,8 @@ public final class Request implements AutoCloseable {
      * somebody's CompletionStage; and those that call Contexts: the constructors, `attach`, `started` and `oneCall`.
      */
 
-    /**
-     * Callers: the machine itself, which is the clock of histories; what settles relays of what is elsewhere; the threads in the order in which
-     * they came, and those for which there is no number.
-     */
-    static final int CLOCK = 0, RELAY = 1, FIRST_THREAD = 2, OTHER_THREADS = 63;
+    /** The callers of a history (docs/FORMATS.md, "Callers"): the machine itself is the clock. Nobody here is caller 0. */
+    static final int CLOCK = 1, RELAY = 2, FIRST_THREAD = 3, OTHER_THREADS = 63;
 
     /** Of how many stages a request that goes on gathers all at once. */
     private static final int MOST_GATHERED = 1024;
@@ -672,7 +669,7 @@ public final class Request implements AutoCloseable {
         short[] numbers = new short[of.length];
         Stage<?>[] made = new Stage<?>[count];
         for (int k = 0; k < of.length; k++) {
-            numbers[k] = (short) of[k].number;
+            numbers[k] = of[k].number;
         }
         for (int k = watch != null || Recorder.hasStages() ? 0 : count - 1; k < count; k++) {
             made[k] = new Stage<>(this, first + k, form, null, null);

@@ -91,6 +91,7 @@ public final class AllTests {
         test("one call", HistoriesTest::oneCall);
         test("histories", HistoriesTest::histories);
         test("histories of many threads", HistoriesTest::manyThreads);
+        test("numbers of callers", HistoriesTest::callers);
         test("pages", HistoriesTest::pages);
         test("what the library tells", TaleTest::told);
         test("texts of all kinds", TaleTest::texts);

@@ -1,5 +1,10 @@
 package cf.service;
 
+import static cf.service.Checks.foreign;
+import static cf.service.Checks.is;
+import static cf.service.Checks.SERVICE;
+import static cf.service.Checks.thrown;
+
 import cf.internal.Form;
 import java.util.ArrayList;
 import java.util.Arrays;
@@ -11,11 +16,6 @@ import java.util.concurrent.FutureTask;
 import java.util.concurrent.TimeUnit;
 import java.util.concurrent.atomic.AtomicInteger;
 import java.util.function.Function;
-import static cf.service.Checks.foreign;
-import static cf.service.Checks.is;
-import static cf.service.Checks.SERVICE;
-import static cf.service.Checks.thrown;
-
 
 /** Long chains of stages, which no stack is deep enough for, and stacks that end within a call. */
 final class ChainsTest {

@@ -96,6 +96,8 @@ public final class Checks {
     }
 
     static final class Broken extends Error {
+        private static final long serialVersionUID = 1;
+
         Broken() {
             super("broken");
         }

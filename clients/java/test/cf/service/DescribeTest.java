@@ -1,5 +1,9 @@
 package cf.service;
 
+import static cf.service.Checks.INLINE;
+import static cf.service.Checks.is;
+import static cf.service.Checks.thrown;
+
 import cf.internal.Text;
 import java.lang.ref.WeakReference;
 import java.nio.file.Files;
@@ -12,10 +16,6 @@ import java.util.concurrent.CompletableFuture;
 import java.util.concurrent.CompletionException;
 import java.util.concurrent.TimeUnit;
 import java.util.concurrent.atomic.AtomicInteger;
-import static cf.service.Checks.INLINE;
-import static cf.service.Checks.is;
-import static cf.service.Checks.thrown;
-
 
 /** How much is told of a value or an exception, as Describe says: types, nothing, by a function; values whose text can't be had. */
 final class DescribeTest {

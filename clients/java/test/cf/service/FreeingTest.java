@@ -1,5 +1,11 @@
 package cf.service;
 
+import static cf.service.Checks.foreign;
+import static cf.service.Checks.INLINE;
+import static cf.service.Checks.is;
+import static cf.service.Checks.resident;
+import static cf.service.Checks.SERVICE;
+
 import cf.internal.Freed;
 import com.sun.management.GarbageCollectionNotificationInfo;
 import java.lang.management.GarbageCollectorMXBean;
@@ -14,12 +20,6 @@ import java.util.concurrent.TimeUnit;
 import java.util.concurrent.atomic.AtomicInteger;
 import javax.management.NotificationEmitter;
 import javax.management.openmbean.CompositeData;
-import static cf.service.Checks.foreign;
-import static cf.service.Checks.INLINE;
-import static cf.service.Checks.is;
-import static cf.service.Checks.resident;
-import static cf.service.Checks.SERVICE;
-
 
 /** What is freed, and when: requests that nobody closes, values and functions of settled stages, what hung on a future that lives long. */
 final class FreeingTest {

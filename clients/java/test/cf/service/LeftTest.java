@@ -1,5 +1,7 @@
 package cf.service;
 
+import static cf.service.Checks.is;
+
 import cf.internal.Form;
 import cf.internal.Words;
 import java.util.ArrayList;
@@ -14,8 +16,6 @@ import java.util.concurrent.Executor;
 import java.util.concurrent.atomic.AtomicInteger;
 import java.util.function.BiFunction;
 import java.util.function.Function;
-import static cf.service.Checks.is;
-
 
 /**
  * Short random programs in one thread, with executors that keep what they are handed. Once all of that was called, nothing that could go on may be

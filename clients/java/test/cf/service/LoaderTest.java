@@ -1,5 +1,8 @@
 package cf.service;
 
+import static cf.service.Checks.is;
+import static cf.service.Checks.thrown;
+
 import cf.internal.Native;
 import java.io.InputStream;
 import java.lang.ref.WeakReference;
@@ -12,9 +15,6 @@ import java.nio.file.StandardCopyOption;
 import java.util.ArrayList;
 import java.util.List;
 import java.util.concurrent.TimeUnit;
-import static cf.service.Checks.is;
-import static cf.service.Checks.thrown;
-
 
 /** Class loaders, as containers of web applications and plugins have them: each has classes and a library of its own, and can go. */
 final class LoaderTest {

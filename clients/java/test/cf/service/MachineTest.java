@@ -1,5 +1,8 @@
 package cf.service;
 
+import static cf.service.Checks.is;
+import static cf.service.Checks.thrown;
+
 import cf.internal.Form;
 import cf.internal.Native;
 import cf.internal.Words;
@@ -10,9 +13,6 @@ import java.util.concurrent.ExecutorService;
 import java.util.concurrent.Executors;
 import java.util.concurrent.Future;
 import java.util.concurrent.TimeUnit;
-import static cf.service.Checks.is;
-import static cf.service.Checks.thrown;
-
 
 /** Machines and their cores: cores used again, attaches that fail, words, and numbers that would read past an array's end. */
 final class MachineTest {

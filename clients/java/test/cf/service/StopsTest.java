@@ -1,5 +1,7 @@
 package cf.service;
 
+import static cf.service.Checks.is;
+
 import cf.internal.Form;
 import cf.internal.Freed;
 import cf.internal.Words;
@@ -33,8 +35,6 @@ import java.util.List;
 import java.util.Map;
 import java.util.Set;
 import java.util.concurrent.TimeUnit;
-import static cf.service.Checks.is;
-
 
 /**
  * A thread is stopped before each bytecode by which a core is found, opened, given back and freed, as Thread.stop may stop it there: a debugger

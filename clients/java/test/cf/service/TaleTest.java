@@ -1,5 +1,8 @@
 package cf.service;
 
+import static cf.service.Checks.is;
+import static cf.service.Checks.thrown;
+
 import cf.internal.Form;
 import cf.internal.Native;
 import cf.internal.Tale;
@@ -15,9 +18,6 @@ import java.util.LinkedHashMap;
 import java.util.List;
 import java.util.Locale;
 import java.util.Map;
-import static cf.service.Checks.is;
-import static cf.service.Checks.thrown;
-
 
 /** What the library tells of words is what conformance/requests/told.json has, byte for byte; and what it refuses. */
 final class TaleTest {

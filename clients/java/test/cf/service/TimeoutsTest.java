@@ -1,5 +1,12 @@
 package cf.service;
 
+import static cf.service.Checks.await;
+import static cf.service.Checks.breaks;
+import static cf.service.Checks.is;
+import static cf.service.Checks.SERVICE;
+import static cf.service.Checks.thrown;
+import static cf.service.Checks.timeOut;
+
 import cf.internal.Words;
 import cf.testing.Orders;
 import java.util.ArrayList;
@@ -15,13 +22,6 @@ import java.util.concurrent.CountDownLatch;
 import java.util.concurrent.ExecutionException;
 import java.util.concurrent.TimeUnit;
 import java.util.concurrent.TimeoutException;
-import static cf.service.Checks.await;
-import static cf.service.Checks.breaks;
-import static cf.service.Checks.is;
-import static cf.service.Checks.SERVICE;
-import static cf.service.Checks.thrown;
-import static cf.service.Checks.timeOut;
-
 
 /** Limits of time: what a stage that timed out ends with, and its relays, what is told of that, and who comes late. */
 final class TimeoutsTest {

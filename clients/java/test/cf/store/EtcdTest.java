@@ -1,5 +1,8 @@
 package cf.store;
 
+import static cf.service.Checks.is;
+import static cf.service.Checks.thrown;
+
 import cf.internal.Host;
 import cf.service.Checks;
 import java.io.BufferedReader;
@@ -22,9 +25,6 @@ import java.util.List;
 import java.util.Map;
 import java.util.concurrent.TimeUnit;
 import java.util.concurrent.atomic.AtomicInteger;
-import static cf.service.Checks.is;
-import static cf.service.Checks.thrown;
-
 
 /** Requests in a member of etcd that each test starts; and processes in Python that work on them. */
 public final class EtcdTest {

@@ -1,5 +1,8 @@
 package cf.store;
 
+import static cf.service.Checks.is;
+import static cf.service.Checks.thrown;
+
 import cf.internal.Host;
 import cf.internal.Words;
 import cf.store.StoresTest.Database;
@@ -26,9 +29,6 @@ import java.util.concurrent.TimeoutException;
 import java.util.concurrent.atomic.AtomicBoolean;
 import java.util.concurrent.atomic.AtomicInteger;
 import java.util.function.Consumer;
-import static cf.service.Checks.is;
-import static cf.service.Checks.thrown;
-
 
 /** What if a store is slow, refuses something for a while, is silent, or breaks a call off; and if a process is taken for gone that is there? */
 public final class StoreFaultsTest {

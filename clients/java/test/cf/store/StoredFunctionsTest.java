@@ -1,5 +1,9 @@
 package cf.store;
 
+import static cf.service.Checks.fits;
+import static cf.service.Checks.is;
+import static cf.service.Checks.thrown;
+
 import cf.service.Describe;
 import cf.store.StoresTest.Database;
 import cf.store.StoresTest.InFile;
@@ -21,10 +25,6 @@ import java.util.concurrent.TimeUnit;
 import java.util.concurrent.TimeoutException;
 import java.util.concurrent.atomic.AtomicInteger;
 import java.util.function.Consumer;
-import static cf.service.Checks.fits;
-import static cf.service.Checks.is;
-import static cf.service.Checks.thrown;
-
 
 /** Functions of requests in stores that compose, are transactional, or take arguments by name; contexts, flows, and histories. */
 public final class StoredFunctionsTest {

@@ -1,5 +1,8 @@
 package cf.store;
 
+import static cf.service.Checks.is;
+import static cf.service.Checks.thrown;
+
 import cf.internal.Host;
 import cf.service.Request;
 import java.io.File;
@@ -40,9 +43,6 @@ import java.util.function.BiFunction;
 import java.util.jar.JarEntry;
 import java.util.jar.JarFile;
 import java.util.stream.Collectors;
-import static cf.service.Checks.is;
-import static cf.service.Checks.thrown;
-
 
 /** Requests in a file of SQLite's, for which a driver of JDBC's has to be on the class path; and JSON. */
 public final class StoresTest {

@@ -43,7 +43,11 @@ public final class StoredOrdersTest {
 
     @SafeVarargs
     private static <T> Set<T> set(T... of) {
-        return new HashSet<>(Arrays.asList(of));
+        Set<T> found = new HashSet<>();
+        for (T it : of) {
+            found.add(it);
+        }
+        return found;
     }
 
     private static Orders enough(Scenario scenario) {
