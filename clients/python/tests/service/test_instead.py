@@ -5,12 +5,11 @@
 """
 import concurrent.futures
 import contextlib
-import gc
 import threading
 import unittest
-import weakref
 
-from case import Case, fails, inc, Oops
+from case import Case, fails, inc, Oops, until
+from cf.service import Service
 
 
 class Instead(Case):
@@ -81,12 +80,16 @@ class Instead(Case):
         self.assertEqual(next(calls)(), 8)
 
     def test_what_is_open(self):
-        opened = weakref.WeakSet()
-        opened.add(self.request)
-        self.request.promise("approval")
-        opened.add(self.service.request("nobody has it"))
-        gc.collect()
-        self.assertEqual([it.history().line().endswith("; 1 open: 0 approval") for it in opened], [True])
+        opened = {}
+        with Service(on_end=lambda history: opened.pop(history.name, None)) as service:
+            for name in ("order 17", "order 18"):
+                opened[name] = service.request(name)
+                opened[name].promise("approval")
+                opened[name].end()
+            opened["order 17"].cancel()
+            self.assertTrue(until(lambda: len(opened) == 1))
+            self.assertTrue(opened["order 18"].history().line().endswith("; 1 open: 0 approval"))
+        self.assertEqual(opened, {})
 
     def test_a_function_that_looks_whether_it_is_wanted(self):
         begun, stop = threading.Event(), threading.Event()
