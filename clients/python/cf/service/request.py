@@ -282,7 +282,8 @@ class Request(RequestCore):
     def cancel(self) -> None:
         """Cancels all stages that aren't settled, from the first on, as `abandon` does: also those whose functions run,
         and those that the ones before them would have settled. What is attached later isn't cancelled. The history has
-        an event for each stage that was cancelled by itself.
+        an event for each stage that was cancelled by itself. A function that takes exceptions (`handle`, `recover`) may be
+        called before its own stage is cancelled.
 
             try:
                 return await answer
