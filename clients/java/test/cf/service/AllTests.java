@@ -290,6 +290,10 @@ public final class AllTests {
     }
 
     private static void test(String name, Checks.Test test) {
+        if (Boolean.getBoolean("test.list")) {
+            System.out.println("test: " + name);
+            return;
+        }
         if (chosen != null && !chosen.remove(name)) {
             return;
         }
