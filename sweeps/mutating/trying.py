@@ -14,7 +14,7 @@ from pathlib import Path
 from typing import Any, Callable, Dict, List, NamedTuple, Optional, Sequence, Set, Tuple
 
 from checking.tools import DEBIAN, junit
-from mutating import schemata
+from mutating import reaching, schemata
 from mutating.languages import JAVA, RULES_OF_JAVA, TOP, Language
 from mutating.mutant import Mutant
 from mutating.programs import Program, is_of_crate, nearness, program_of_rust, programs_of_java, programs_of_python
@@ -273,7 +273,7 @@ class Java(Client):
 
 class Rust(Client):
     """The crates are built once with all mutants, of which a variable of the environment chooses one. One that can't stand beside the others
-    is built by itself."""
+    is built by itself. The others are tried by the tests that reach them."""
 
     def __init__(self, language: Language, made: Path, say: Callable[[str], None], seats: int) -> None:
         super().__init__(language, made, say)
@@ -290,6 +290,8 @@ class Rust(Client):
                                 CF_PYTHON=str(TOP / "clients/python"))
         has_debians = bool(list(DEBIAN.glob("tokio-postgres-[0-9]*")))
         self.words = ["--offline", "--workspace", "--features", ",".join(FEATURES if has_debians else FEATURES[:1])]
+        self.seats, self.stores = seats, self.environment.pop("CF_STORES", "")
+        self.tests: List[reaching.Test] = []
         if has_debians:
             self.words = ["--config", "debian.toml", *self.words]
         else:
@@ -324,6 +326,9 @@ class Rust(Client):
             if not blamed.arms and not blamed.functions:
                 raise Missing("the crates can't be built with mutants:\n" + "\n".join(schemata.errors(messages)))
         self.link()
+        shutil.rmtree(self.made / "reached", ignore_errors=True)
+        self.tests = reaching.record(self.programs, self.stores, self.made / "reached", self.run_in, self.say, self.seats, LONGEST)
+        self.say(f"{len(self.tests)} tests take {sum(it.alone.seconds for it in self.tests):.0f} s over the code as it is")
         for it in [it for it in apart if self.is_built_apart(it)]:
             self.apart[it.number] = lambda it=it: self.build_apart(it)  # type: ignore[misc]
         return [it for it in mutants if it not in wrong and (it not in apart or it.number in self.apart)]
@@ -355,6 +360,33 @@ class Rust(Client):
     def command(self, program: Program, mutant: Optional[Mutant], seat: int) -> Tuple[List[str], Path, Dict[str, str]]:
         environment = dict(self.environment, CF_MUTANT=str(int(mutant.number, 16)) if mutant else "0")
         return list(program.words), self.folder / program.folder, environment
+
+    def run_in(self, words: Sequence[str], folder: str, variables: Dict[str, str], seconds: float) -> Tuple[bool, str]:
+        return run(words, self.folder / folder, dict(self.environment, **variables), seconds)
+
+    def fails(self, batch: reaching.Batch, mutant: Mutant) -> List[str]:
+        """The tests of a batch that fail over a mutant, and pass over the code as it is; the whole batch where none says that it has failed."""
+        chosen = {"CF_MUTANT": str(int(mutant.number, 16))}
+        began = time.monotonic()
+        is_well, said = batch.run(self.run_in, chosen, batch.limit)
+        if is_well:
+            return []
+        is_late = time.monotonic() - began >= batch.limit
+        found = batch._replace(tests=reaching.failed_in(said) or batch.tests)
+        if not found.run(self.run_in, {}, found.limit)[0]:
+            return []  # it is no mutant's fault
+        again = not is_late and found.run(self.run_in, chosen, found.limit)[0]
+        return [] if again else list(found.tests)
+
+    def tried(self, mutant: Mutant, seat: int) -> Result:
+        if mutant.number in self.apart:
+            return super().tried(mutant, seat)
+        began = time.monotonic()
+        for batch in reaching.batches(self.tests, mutant.number, self.nearest(mutant.file)):
+            failed = self.fails(batch, mutant)
+            if failed:
+                return Result(mutant, f"{batch.program.name} {failed[0]}", time.monotonic() - began)
+        return Result(mutant, "", time.monotonic() - began)
 
 
 CLIENTS: Dict[str, Callable[[Language, Path, Callable[[str], None], int], Client]] = {"python": Python, "c": CModule, "java": Java, "rust": Rust}
