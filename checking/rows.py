@@ -120,7 +120,11 @@ def rows_of_rust(tools: Tools, made: Path) -> List[Row]:
     testing = [python, offline, "run", "-q", "-p", "cf", "--features", "testing", "--example"]
     stored = [python, offline, "--debian", "run", "-q", "-p", "cf-store", "--features", "testing", "--example"]
     both = "sqlite,postgres"  # (built once)
+    lints = ["--workspace", "--all-features", "--all-targets", "--", "-D", "warnings"]
+    sources = sorted(str(path.relative_to(TOP)) for path in (TOP / "clients/rust").glob("cf*/**/*.rs"))
     return [
+        Row("the layout of Rust's sources", ["rustfmt"], [["rustfmt", "--check", "--edition", "2021", *sources]]),
+        Row("what clippy says of Rust's sources", ["cargo", "python3", "clippy", DEBIANS], [[python, offline, "--debian", "clippy", "-q", *lints]]),
         Row("Rust's tests", needs, [[python, offline, "test", "-q", "--lib", "--tests", "--examples"]]),
         Row("Rust's tests under tokio, rayon, serde and tracing", [*needs, DEBIANS],
             [[python, offline, "--debian", "test", "-q", "-p", "cf", "--features", "tokio,rayon,serde,tracing", "--lib", "--tests"]]),

@@ -509,7 +509,14 @@ extern "C" {
     pub fn cf_ledger_restart(ledger: *mut cf_handle) -> u32;
     pub fn cf_request_new(plan: *mut cf_handle, sizes: *const cf_request_sizes, lanes: *const u8, n: usize, request: *mut cf_handle) -> u32;
     pub fn cf_request_apply(request: *mut cf_handle, word: u64, lane: u8, applied: *mut cf_applied, told: *mut cf_told, room: usize) -> u32;
-    pub fn cf_request_gather(request: *mut cf_handle, step: *mut cf_request_gathering, sources: *const u16, n: usize, told: *mut cf_told, room: usize) -> u32;
+    pub fn cf_request_gather(
+        request: *mut cf_handle,
+        step: *mut cf_request_gathering,
+        sources: *const u16,
+        n: usize,
+        told: *mut cf_told,
+        room: usize,
+    ) -> u32;
     pub fn cf_request_compose(request: *mut cf_handle, step: *mut cf_request_composing, told: *mut cf_told, room: usize) -> u32;
     pub fn cf_request_link(request: *mut cf_handle, step: *mut cf_request_linking, task: *mut cf_task, told: *mut cf_told, room: usize) -> u32;
     pub fn cf_request_next(request: *mut cf_handle, step: *mut cf_request_step, task: *mut cf_task, told: *mut cf_told, room: usize) -> u32;
@@ -523,7 +530,14 @@ extern "C" {
     pub fn cf_request_cancel_all(request: *mut cf_handle, who: u8, told: *mut cf_told, room: usize, n: *mut usize) -> u32;
     pub fn cf_request_grow(request: *mut cf_handle) -> u32;
     pub fn cf_request_restart(request: *mut cf_handle) -> u32;
-    pub fn cf_request_do(request: *mut cf_handle, calls: *mut cf_request_call, n: usize, done: *mut cf_request_done, told: *mut cf_told, room: usize) -> u32;
+    pub fn cf_request_do(
+        request: *mut cf_handle,
+        calls: *mut cf_request_call,
+        n: usize,
+        done: *mut cf_request_done,
+        told: *mut cf_told,
+        room: usize,
+    ) -> u32;
     pub fn cf_row_new(plan: *mut cf_handle, opening: *const cf_row_opening, view: *mut cf_handle) -> u32;
     pub fn cf_row_plan(view: *mut cf_handle, words: *const u64, n: usize, token: *mut u64) -> u32;
     pub fn cf_row_met(view: *mut cf_handle, first: *const cf_entry, landed: *mut u8) -> u32;
