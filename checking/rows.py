@@ -66,8 +66,17 @@ def rows_of_python(tools: Tools, made: Path) -> List[Row]:
         """A program of the client's pages, run in the tree."""
         return Row(name, ["library", "python3"], [["env", "PYTHONPATH=clients/python", python, f"clients/python/examples/{file}"]], (page, file))
 
+    durable = f"{python} {TOP}/clients/python/examples/durable.py"  # (which leaves a file where it runs)
+    killed = f"cd {made} && rm -f orders.db* && ({durable} killed; {durable})"
     return [
-        example("Python's example", "example.py"),
+        Row(
+            "Python's order whose process is killed",
+            ["library", "python3"],
+            [["env", f"PYTHONPATH={TOP}/clients/python", "sh", "-c", killed]],
+            ("clients/python", "durable.py"),
+        ),
+        example("Python's example", "example.py", "clients/python/examples"),
+        example("Python's handler on an event loop", "async_handler.py"),
         example("Python's first program", "first.py"),
         example("Python's spans in a file", "traced.py", "docs/HISTORIES.md"),
         example("Python's order of three processes", "order.py", "docs/STORES.md"),
@@ -129,6 +138,7 @@ def rows_of_python(tools: Tools, made: Path) -> List[Row]:
             [[tools[tested], "conformance/clients/python-suites", "FutureTests", "ThreadPoolExecutorTest", "ToThreadTests"]],
         ),
         Row("Python's ledgers, steps and workers", ["library", "python3"], [[python, "-m", "unittest", "discover", "-s", "clients/python/tests"]]),
+        Row("the reference of Python's package", ["library", "python3"], [[python, "clients/python/reference", str(made / "reference")]]),
         Row(
             "the types of Python's module",
             ["mypy", "python3"],
