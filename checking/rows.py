@@ -66,17 +66,26 @@ def rows_of_python(tools: Tools, made: Path) -> List[Row]:
         """A program of the client's pages, run in the tree."""
         return Row(name, ["library", "python3"], [["env", "PYTHONPATH=clients/python", python, f"clients/python/examples/{file}"]], (page, file))
 
+    durable = f"{python} {TOP}/clients/python/examples/durable.py"  # (which leaves a file where it runs)
+    killed = f"cd {made} && rm -f orders.db* && ({durable} killed; {durable})"
     return [
-        example("Python's example", "example.py"),
+        Row(
+            "Python's order whose process is killed",
+            ["library", "python3"],
+            [["env", f"PYTHONPATH={TOP}/clients/python", "sh", "-c", killed]],
+            ("clients/python", "durable.py"),
+        ),
+        example("Python's example", "example.py", "clients/python/examples"),
+        example("Python's handler on an event loop", "async_handler.py"),
         example("Python's first program", "first.py"),
-        example("Python's spans in a file", "traced.py"),
-        example("Python's order of three processes", "order.py"),
-        example("Python's order whose bank is away", "retry.py"),
-        example("Python's orders in an event loop", "handler.py"),
+        example("Python's spans in a file", "traced.py", "docs/HISTORIES.md"),
+        example("Python's order of three processes", "order.py", "docs/STORES.md"),
+        example("Python's order whose bank is away", "retry.py", "docs/STORES.md"),
+        example("Python's orders in an event loop", "handler.py", "docs/STORES.md"),
         example("Python's order that charges twice", "twice.py", "docs/TESTING.md"),
-        example("Python's orders that charge once", "once.py", "docs/TESTING.md"),
+        example("Python's orders that charge once", "once.py", "clients/python/examples"),
         example("Python's order over a store that charges twice", "killed.py", "docs/TESTING.md"),
-        example("Python's orders over a store that charge once", "keyed.py", "docs/TESTING.md"),
+        example("Python's orders over a store that charge once", "keyed.py", "clients/python/examples"),
         Row(
             "services of Python's in every order",
             ["library", "python3"],
@@ -129,6 +138,7 @@ def rows_of_python(tools: Tools, made: Path) -> List[Row]:
             [[tools[tested], "conformance/clients/python-suites", "FutureTests", "ThreadPoolExecutorTest", "ToThreadTests"]],
         ),
         Row("Python's ledgers, steps and workers", ["library", "python3"], [[python, "-m", "unittest", "discover", "-s", "clients/python/tests"]]),
+        Row("the reference of Python's package", ["library", "python3"], [[python, "clients/python/reference", str(made / "reference")]]),
         Row(
             "the types of Python's module",
             ["mypy", "python3"],
@@ -169,6 +179,7 @@ def rows_of_rust(tools: Tools, made: Path) -> List[Row]:
     testing = [python, offline, "run", "-q", "-p", "cf", "--features", "testing", "--example"]
     stored = [python, offline, "--debian", "run", "-q", "-p", "cf-store", "--features", "testing", "--example"]
     both = "sqlite,postgres"  # (built once)
+    order, orders = made / "cargo/debug/examples/order", made / "rust-orders.db"
     return [
         Row("Rust's tests", needs, [[python, offline, "test", "-q", "--lib", "--tests", "--examples"]]),
         Row(
@@ -179,7 +190,10 @@ def rows_of_rust(tools: Tools, made: Path) -> List[Row]:
         Row(
             "Rust's requests in SQLite",
             [*needs, "cf_look", DEBIANS],
-            [["env", f"CF_LOOK={tools['cf_look']}", python, offline, "--debian", "test", "-q", "-p", "cf-store", "--features", both, "--tests"]],
+            [
+                ["env", f"CF_LOOK={tools['cf_look']}", python, offline, "--debian", "test", "-q", "-p", "cf-store", "--features", both, kind]
+                for kind in ["--tests", "--doc"]
+            ],
         ),
         Row(
             "Rust's requests in PostgreSQL",
@@ -207,34 +221,27 @@ def rows_of_rust(tools: Tools, made: Path) -> List[Row]:
             [[python, offline, "--debian", "test", "-q", "-p", "cf-store", "--features", "etcd", "--tests"]],
         ),
         Row(
-            "Rust's order in SQLite",
+            "Rust's order whose process is killed",
             [*needs, DEBIANS],
             [
-                [
-                    python,
-                    offline,
-                    "--debian",
-                    "run",
-                    "-q",
-                    "-p",
-                    "cf-store",
-                    "--features",
-                    "sqlite",
-                    "--example",
-                    "order",
-                    "--",
-                    str(made / "orders.db"),
-                ]
+                [python, offline, "--debian", "build", "-q", "-p", "cf-store", "--features", "sqlite", "--example", "order"],
+                ["sh", "-c", f"rm -f {orders}* && ! {order} {orders} die && {order} {orders}"],
             ],
-            ("clients/rust", "cf-store/examples/order.rs"),
+            ("clients/rust", "order.rs"),
+        ),
+        Row(
+            "Rust's orders under tokio",
+            [*needs, DEBIANS],
+            [[python, offline, "--debian", "run", "-q", "-p", "cf", "--features", "tokio", "--example", "handler"]],
+            ("clients/rust", "handler.rs"),
         ),
         Row(
             "services of Rust's in every order",
             needs,
             [[python, offline, "test", "-q", "-p", "cf", "--features", "testing", "--lib", "--test", "orders"]],
         ),
-        Row("Rust's order that charges twice", needs, [[*testing, "twice"]], ("docs/TESTING.md", "twice.rs")),
-        Row("Rust's orders that charge once", needs, [[*testing, "once"]], ("docs/TESTING.md", "once.rs")),
+        Row("Rust's order that charges twice", needs, [[*testing, "twice"]], ("clients/rust/cf/examples", "twice.rs")),
+        Row("Rust's orders that charge once", needs, [[*testing, "once"]], ("clients/rust/cf/examples", "once.rs")),
         Row(
             "services of Rust's over a store in every order",
             [*needs, "cf_look", DEBIANS],
@@ -243,15 +250,28 @@ def rows_of_rust(tools: Tools, made: Path) -> List[Row]:
                 for kind in ["--tests", "--doc"]
             ],
         ),
-        Row("Rust's order over a store that charges twice", [*needs, DEBIANS], [[*stored, "killed"]], ("docs/TESTING.md", "killed.rs")),
-        Row("Rust's orders over a store that charge once", [*needs, DEBIANS], [[*stored, "keyed"]], ("docs/TESTING.md", "keyed.rs")),
+        Row(
+            "Rust's order over a store that charges twice", [*needs, DEBIANS], [[*stored, "killed"]], ("clients/rust/cf-store/examples", "killed.rs")
+        ),
+        Row("Rust's orders over a store that charge once", [*needs, DEBIANS], [[*stored, "keyed"]], ("clients/rust/cf-store/examples", "keyed.rs")),
         Row(
             "random orders of Rust's requests beside explore",
             [*needs, "cf_look"],
             [[python, "conformance/clients/rust-orders", "short", "0", "100", tools["cf_look"]]],
         ),
         Row("the examples of Rust's pages", needs, [[python, offline, "test", "-q", "--doc", "--features", "cf/testing"]]),
-        Row("Rust's spans", needs, [[python, offline, "run", "-q", "-p", "cf", "--example", "traced"]], ("clients/rust", "traced.rs")),
+        Row(
+            "the reference of Rust's crates",
+            [*needs, DEBIANS],
+            [["env", "RUSTDOCFLAGS=-D warnings", python, offline, "--debian", "doc", "-q", "--no-deps", "--all-features"]],
+        ),
+        Row(
+            "Rust's order whose bank is away",
+            needs,
+            [[python, offline, "run", "-q", "-p", "cf", "--example", "retry"]],
+            ("clients/rust/GUIDE.md", "retry.rs"),
+        ),
+        Row("Rust's spans", needs, [[python, offline, "run", "-q", "-p", "cf", "--example", "traced"]], ("clients/rust/cf/examples", "traced.rs")),
         Row("Rust's first program", needs, [[python, offline, "run", "-q", "-p", "cf", "--example", "first"]], ("clients/rust", "first.rs")),
         Row(
             "random requests of Rust's crate",
@@ -262,7 +282,7 @@ def rows_of_rust(tools: Tools, made: Path) -> List[Row]:
             "Rust's example",
             needs,
             [[python, offline, "run", "-q", "-p", "cf-graph", "--example", "request"]],
-            ("clients/rust", "cf-graph/examples/request.rs"),
+            ("clients/rust/cf-graph/examples", "request.rs"),
         ),
     ]
 
@@ -292,7 +312,7 @@ def rows_of_java(tools: Tools, made: Path) -> List[Row]:
             ("clients/java", "curl"),
         ),
         Row("the listings of Java's guide", needs, [[*java, "Guide"]]),
-        Row("Java's spans", needs, [[*java, "Traced"]], ("clients/java/GUIDE.md", "Traced")),
+        Row("Java's spans", needs, [[*java, "Traced"]], ("clients/java/example", "Traced")),
         Row(
             "Java's order that waits for an approval",
             [*needs, SQLITE_JDBC],
@@ -317,10 +337,10 @@ def rows_of_java(tools: Tools, made: Path) -> List[Row]:
             [*needs, POSTGRES, POSTGRES_JDBC],
             [[tools[POSTGRES], "conformance/stores/over", *java, "cf.service.AllTests"]],
         ),
-        Row("Java's order that charges twice", needs, [[*java, "Twice"]], ("docs/TESTING.md", "Twice")),
-        Row("Java's orders that charge once", needs, [[*java, "Once"]], ("docs/TESTING.md", "Once")),
-        Row("Java's process that is killed in every order", needs, [[*java, "Killed"]], ("docs/TESTING.md", "Killed")),
-        Row("Java's charge with a key in every order", needs, [[*java, "Keyed"]], ("docs/TESTING.md", "Keyed")),
+        Row("Java's order that charges twice", needs, [[*java, "Twice"]], ("clients/java/example", "Twice")),
+        Row("Java's orders that charge once", needs, [[*java, "Once"]], ("clients/java/example", "Once")),
+        Row("Java's process that is killed in every order", needs, [[*java, "Killed"]], ("clients/java/example", "Killed")),
+        Row("Java's charge with a key in every order", needs, [[*java, "Keyed"]], ("clients/java/example", "Keyed")),
         Row(
             "Java's tests of JUnit in every order",
             [*needs, JUNIT],

@@ -2,7 +2,7 @@ package cf.testing;
 
 /**
  * What becomes of a call of a store: it is answered; or no answer comes, and it stands, never comes there, or is on its way. That is what an
- * engine may do (docs/SCALE.md), and no more.
+ * engine may do (docs/ENGINES.md), and no more.
  */
 enum Answer {
     ANSWERED("", true),
