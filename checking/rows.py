@@ -331,7 +331,7 @@ def rows_of_java(tools: Tools, made: Path) -> List[Row]:
                     "sh",
                     "-c",
                     f"rm -f {shop}* && {tools['python3']} -c \"{made_table}\" && {{ {worker} jdbc:sqlite:{shop} & }} && "
-                    f"{worker} jdbc:sqlite:{shop} 'order 17'; kill $!",
+                    f"timeout 60 {worker} jdbc:sqlite:{shop} 'order 17'; kill $!",
                 ]
             ],
             ("clients/java/GUIDE.md", "Worker"),
