@@ -60,7 +60,7 @@
 //!     });
 //! }
 //! ```
-#![deny(unsafe_op_in_unsafe_fn)]
+#![deny(missing_docs, unsafe_op_in_unsafe_fn)]
 #![warn(missing_debug_implementations, unreachable_pub, rust_2018_idioms, clippy::undocumented_unsafe_blocks)]
 mod clock;
 mod closed;
