@@ -5,7 +5,7 @@ import cf.service.Service;
 import cf.service.Stage;
 import java.util.Arrays;
 import java.util.List;
-import java.util.concurrent.CompletionException;
+import java.util.concurrent.ExecutionException;
 import java.util.concurrent.Executor;
 import java.util.concurrent.TimeUnit;
 import java.util.concurrent.TimeoutException;
@@ -64,20 +64,25 @@ public class Guide {
         }
     }
 
-    private static boolean fails(Stage<?> stage, Class<? extends Throwable> by) {
+    private static boolean gives(Stage<?> stage, Object value) throws Exception {
+        return stage.get(20, TimeUnit.SECONDS).equals(value);
+    }
+
+    private static boolean fails(Stage<?> stage, Class<? extends Throwable> by) throws Exception {
         try {
-            stage.join();
+            stage.get(20, TimeUnit.SECONDS);
             return false;
-        } catch (CompletionException error) {
+        } catch (ExecutionException error) {
             return by.isInstance(error.getCause());
         }
     }
 
-    public static void main(String[] args) {
+    public static void main(String[] args) throws Exception {
         Service service = new Service().describing(SAFE);
         try (Request request = service.request("guide")) {
             AtomicInteger asked = new AtomicInteger();
-            holds(tried(request, () -> 1 / (asked.get() < 2 ? asked.getAndIncrement() * 0 : 1) + "", 1, 1).join().equals("1"));
+            Supplier<String> ask = () -> "try " + 1 / Math.max(0, asked.incrementAndGet() - 2); // throws twice
+            holds(gives(tried(request, ask, 1, 1), "try 1") && asked.get() == 3);
             List<Stage<Integer>> open = Arrays.asList(request.promise(), request.promise());
             Stage<List<Integer>> values = values(request, open);
             Stage<Integer> first = firstValue(request, open);
@@ -85,12 +90,13 @@ public class Guide {
             open.get(1).completeExceptionally(new IllegalStateException("away"));
             holds(fails(all, IllegalStateException.class) && !first.isDone() && !values.isDone());
             open.get(0).complete(4);
-            holds(first.join() == 4 && fails(values, IllegalStateException.class));
-            Stage<Integer> both = request.completedFuture(7);
-            holds(values(request, Arrays.asList(both, open.get(0))).join().equals(Arrays.asList(7, 4)));
+            holds(gives(first, 4) && fails(values, IllegalStateException.class));
+            holds(gives(values(request, Arrays.asList(request.completedFuture(7), open.get(0))), Arrays.asList(7, 4)));
             holds(fails(firstValue(request, Arrays.asList(request.<Integer>promise())), TimeoutException.class));
-            holds(request.history().toString().contains("java.lang.Integer") && request.history().toString().contains("away"));
+            String told = request.history().toString();
+            holds(told.contains("0 supply ends: java.lang.ArithmeticException: / by zero") && told.contains("which gave java.lang.String of 5"));
         }
         holds(quote(service, 2) == 10300);
+        System.out.println("all that the guide shows holds");
     }
 }
