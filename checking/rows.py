@@ -180,7 +180,11 @@ def rows_of_rust(tools: Tools, made: Path) -> List[Row]:
     stored = [python, offline, "--debian", "run", "-q", "-p", "cf-store", "--features", "testing", "--example"]
     both = "sqlite,postgres"  # (built once)
     order, orders = made / "cargo/debug/examples/order", made / "rust-orders.db"
+    lints = ["--workspace", "--all-features", "--all-targets", "--", "-D", "warnings"]
+    sources = sorted(str(path.relative_to(TOP)) for path in (TOP / "clients/rust").glob("cf*/**/*.rs"))
     return [
+        Row("the layout of Rust's sources", ["rustfmt"], [["rustfmt", "--check", "--edition", "2021", *sources]]),
+        Row("what clippy says of Rust's sources", ["cargo", "python3", "clippy", DEBIANS], [[python, offline, "--debian", "clippy", "-q", *lints]]),
         Row("Rust's tests", needs, [[python, offline, "test", "-q", "--lib", "--tests", "--examples"]]),
         Row(
             "Rust's tests under tokio, rayon, serde and tracing",
@@ -423,10 +427,10 @@ def rows_of_mutants(tools: Tools, made: Path) -> List[Row]:
 
 
 def rows_of_lint() -> List[Row]:
-    python, c, java, rust = ["black", "flake8"], ["clang-format"], ["JDK of 17 or later", JUNIT], ["cargo", "rustfmt", "cargo-clippy"]
+    python, c, java = ["black", "flake8"], ["clang-format"], ["JDK of 17 or later", JUNIT]
     return [
         Row(f"{name} as its usual tools want it", ["git", "python3", *needs], [["sweeps/lint", name.lower()]])
-        for name, needs in [("Python", python), ("C", c), ("Java", java), ("Rust", rust)]
+        for name, needs in [("Python", python), ("C", c), ("Java", java)]
     ]
 
 

@@ -588,6 +588,52 @@ impl Stage {
     /// Has a registered function attach stages to this request, and waits for one of them without holding a thread. The function is one that was
     /// registered by [`Functions::composing`](crate::Functions::composing). It is called with the request, as the process has it that runs the
     /// function, and with the value, and gives a stage of the request. The stage that is given back ends as that one does. It takes two stages.
+    ///
+    /// To try again what failed, a composing function attaches itself once more, behind a pause:
+    ///
+    /// ```
+    /// # #[cfg(feature = "sqlite")]
+    /// # fn main() -> Result<(), Box<dyn std::error::Error>> {
+    /// # let folder = std::env::temp_dir().join(format!("cf-store-compose-{}", std::process::id()));
+    /// # std::fs::create_dir_all(&folder)?;
+    /// # let path = folder.join("orders.db");
+    /// use cf_store::{Functions, Request, SQLite, Service, Stage, StoreError};
+    /// use std::time::Duration;
+    ///
+    /// /// Stands for a bank that is away twice.
+    /// fn bank(tried: u32) -> Result<&'static str, String> {
+    ///     if tried < 2 { Err("the bank is away".into()) } else { Ok("paid") }
+    /// }
+    ///
+    /// fn charge(request: &Request, tried: u32) -> Result<Stage, StoreError> {
+    ///     match bank(tried) {
+    ///         Ok(paid) => {
+    ///             let answer = request.promise("answer")?;
+    ///             answer.complete(paid)?;
+    ///             Ok(answer)
+    ///         }
+    ///         Err(error) if tried == 4 => Err(StoreError::Refused(error)),
+    ///         Err(_) => {
+    ///             let pause = request.promise("pause")?;
+    ///             pause.complete_on_timeout(&(tried + 1), Duration::from_millis(10))?;
+    ///             pause.compose("charge")
+    ///         }
+    ///     }
+    /// }
+    ///
+    /// let service = Service::new(SQLite::open(path)?, Functions::new().composing("charge", 1, charge))?;
+    /// let request = service.request("order 17")?;
+    /// let order = request.promise("order")?;
+    /// let paid = order.compose("charge")?;
+    /// order.complete(&0)?;
+    /// assert_eq!(paid.wait::<String>()?, "paid");
+    /// # drop(service);
+    /// # std::fs::remove_dir_all(folder)?;
+    /// # Ok(())
+    /// # }
+    /// # #[cfg(not(feature = "sqlite"))]
+    /// # fn main() {}
+    /// ```
     pub fn compose(&self, function: &str) -> Result<Stage, StoreError> {
         self.request.compose(Form::Compose, self.number, self.request.said(function)?)
     }

@@ -272,26 +272,6 @@ public final class EtcdStore implements Store {
         return closes;
     }
 
-    @Override
-    public void reopen(String name, long number) {
-        byte[] row = row('w', name, number), open = key('o', name);
-        // Others may put and close it meanwhile: with a count that is too low nobody could close it again.
-        while (true) {
-            int many = keys(range(row, after(row), "keys_only", true)).kvs.size();
-            Map<?, ?> told = txn(list(isThere(name, number), absent(open), absent(place(row, many))), list(put(open, bytes(String.valueOf(many)))),
-                    list(map("request_range", range(open, null))));
-            if (succeeded(told)) {
-                return;
-            }
-            if (isDropped(name, number)) {
-                throw new StoreException.Gone(name);
-            }
-            if (!answered(told, 0).isEmpty()) {
-                return; // It is open.
-            }
-        }
-    }
-
     // Words.
 
     @Override

@@ -37,8 +37,8 @@ final class PostgresStore extends JdbcStore {
     /** The next mark, and what came since one. */
     private static final String NEWS = "select null, " + MARK + " union all "
             + "select name, 0 from cf_request where closed is null and made_by >= ?::text::xid8 union all "
-            + "select name, max(at) + 1 from cf_word w join cf_request on id = request "
-            + "where closed is null and w.made_by >= ?::text::xid8 group by name";
+            + "select name, case when closed is null then max(at) + 1 else -1 end from cf_word w join cf_request on id = request "
+            + "where w.made_by >= ?::text::xid8 group by name, closed";
     private static final String SETTINGS = "select name, current_setting(name) from "
             + "unnest(array['fsync', 'full_page_writes', 'transaction_read_only', 'synchronous_commit']) as name";
     private static final long BETWEEN_NOTICES = 10;
@@ -130,6 +130,22 @@ final class PostgresStore extends JdbcStore {
     @Override
     boolean put(PreparedConnection db, Put put) throws SQLException {
         return putAtOnce(db, put, Integer.MAX_VALUE);
+    }
+
+    @Override
+    boolean puts(Put put) {
+        return !put.opens ? super.puts(put) : using(inTransaction(db -> {
+            lockClosing(db, put.number);
+            boolean landed = put(db, put);
+            if (landed) {
+                db.change("update cf_request set closed = null, made_by = pg_current_xact_id() where id = ? and closed is not null", put.number);
+            }
+            return landed;
+        }));
+    }
+
+    private static void lockClosing(PreparedConnection db, long number) throws SQLException {
+        db.rows("select pg_advisory_xact_lock(?, ?)", row -> null, CLOSING, (int) (number % (1L << 31)));
     }
 
     @Override
@@ -231,31 +247,21 @@ final class PostgresStore extends JdbcStore {
         return !isOver;
     }
 
-    /** Does a statement under the lock of what is closed. */
-    private <T> List<T> closing(String name, long number, String statement, PreparedConnection.Reader<T> reader, Object... values) {
-        List<T> told = within(db -> {
-            db.rows("select pg_advisory_xact_lock(?, ?)", row -> null, CLOSING, (int) (number % (1L << 31)));
-            return db.rows(statement, reader, values);
-        });
-        if (told.isEmpty()) {
-            throw new StoreException.Gone(name);
-        }
-        return told;
-    }
-
     @Override
     public boolean end(String name, long number, int at) {
-        return closing(name, number, "with closed as (update cf_request set closed = " + clock() + " where id = ? and closed is null and "
+        String ends = "with closed as (update cf_request set closed = " + clock() + " where id = ? and closed is null and "
                 + "(select coalesce(max(at) + 1, 0) from cf_word where request = id) = ? returning id), "
                 + "timers as (delete from cf_timer where request in (select id from closed)), "
                 + "glances as (delete from cf_glance where request in (select id from closed)) "
-                + "select exists (select 1 from closed) from cf_request where id = ?", row -> row.getBoolean(1), number, at, number).get(0);
-    }
-
-    @Override
-    public void reopen(String name, long number) {
-        closing(name, number, "with opened as (update cf_request set closed = null, made_by = pg_current_xact_id() "
-                + "where id = ? and closed is not null returning id) select 1 from cf_request where id = ?", row -> 1, number, number);
+                + "select exists (select 1 from closed) from cf_request where id = ?";
+        List<Boolean> closes = within(db -> {
+            lockClosing(db, number);
+            return db.rows(ends, row -> row.getBoolean(1), number, at, number);
+        });
+        if (closes.isEmpty()) {
+            throw new StoreException.Gone(name);
+        }
+        return closes.get(0);
     }
 
     @Override

@@ -283,6 +283,11 @@ final class RowView {
 
     /** Puts words behind all that is seen, and does them; what they did, which is nothing where none was wanted. */
     List<Done> act(Decision decision) {
+        return act(decision, false);
+    }
+
+    /** The same; whether these words open the request again, where it is closed. */
+    List<Done> act(Decision decision, boolean opens) {
         while (true) {
             List<Wanted> wanted = decision.of(this);
             if (wanted.isEmpty()) {
@@ -293,7 +298,7 @@ final class RowView {
                 attached += Words.kind(it.word) == Words.ATTACH ? 1 : 0;
             }
             makeRoom(attached);
-            Store.Put put = planned(wanted);
+            Store.Put put = planned(wanted, opens);
             List<Store.Entry> stands;
             try {
                 stands = append(put);
@@ -342,7 +347,7 @@ final class RowView {
 
     /** Puts a word within a transaction, and lets that stand. Whether it does: where the place was taken, it doesn't. {@code Unknown} if it may. */
     boolean actWithin(Store.Transaction transaction, Wanted wanted) {
-        Store.Put put = planned(Collections.singletonList(wanted));
+        Store.Put put = planned(Collections.singletonList(wanted), false);
         try {
             if (!transaction.append(put)) {
                 row.giveUp();
@@ -368,7 +373,7 @@ final class RowView {
         }
     }
 
-    private Store.Put planned(List<Wanted> wanted) {
+    private Store.Put planned(List<Wanted> wanted, boolean opens) {
         int who = row.number();
         long[] words = new long[wanted.size()];
         Map<Integer, byte[]> payloads = new HashMap<>();
@@ -385,7 +390,7 @@ final class RowView {
         for (int k = 0; k < words.length; k++) {
             entries.add(new Store.Entry(words[k], first + k));
         }
-        return new Store.Put(opened.name, opened.number, seen, entries, payloads);
+        return new Store.Put(opened.name, opened.number, seen, entries, payloads, opens);
     }
 
     /** A word whose value or exception is named by this place. */

@@ -29,8 +29,8 @@ final class SqliteStore extends JdbcStore {
     /** Up to where words and requests are, and what came behind that. ({@code +} keeps SQLite from going through all words by the index of requests.) */
     private static final String NEWS = "select null, (select coalesce(max(n), 0) from cf_word), (select coalesce(max(id), 0) from cf_request) "
             + "union all select name, 0, null from cf_request where id > ? and closed is null "
-            + "union all select name, max(at) + 1, null from cf_word join cf_request on id = request where n > ? and closed is null "
-            + "group by +request";
+            + "union all select name, case when closed is null then max(at) + 1 else -1 end, null from cf_word join cf_request on id = request "
+            + "where n > ? group by +request";
     /** In bytes: a larger payload would make the words' own pages large. */
     private static final int SMALL = 512;
     /** In a commit: others wait for it. */
@@ -251,7 +251,7 @@ final class SqliteStore extends JdbcStore {
             return null;
         };
         try {
-            boolean isOneStatement = all.size() == 1 && large(all.get(0).put).isEmpty();
+            boolean isOneStatement = all.size() == 1 && large(all.get(0).put).isEmpty() && !all.get(0).put.opens;
             using(isOneStatement ? act : inTransaction(act));
             commits++;
         } catch (RuntimeException | Error fault) {
@@ -281,6 +281,27 @@ final class SqliteStore extends JdbcStore {
 
     @Override
     boolean put(PreparedConnection db, Put put) throws SQLException {
+        if (!put.opens) {
+            return words(db, put);
+        }
+        db.execute("savepoint cf_opens"); // (where the request can't be opened again, the words don't stand)
+        boolean landed = false;
+        try {
+            boolean stands = words(db, put);
+            if (stands) {
+                db.change("update cf_request set closed = null where id = ? and closed is not null", put.number);
+            }
+            landed = stands;
+        } finally {
+            if (!landed) {
+                db.execute("rollback to cf_opens");
+            }
+            db.execute("release cf_opens");
+        }
+        return landed;
+    }
+
+    private boolean words(PreparedConnection db, Put put) throws SQLException {
         boolean landed = putAtOnce(db, put, SMALL);
         for (int place : landed ? large(put) : Collections.<Integer>emptyList()) {
             db.change("insert into cf_large (request, place, payload) values (?, ?, ?)", put.number, place, put.payloads.get(place));
@@ -383,12 +404,6 @@ final class SqliteStore extends JdbcStore {
             isThere(name, number);
         }
         return closes;
-    }
-
-    @Override
-    public void reopen(String name, long number) {
-        change("update cf_request set closed = null where id = ? and closed is not null", number);
-        isThere(name, number);
     }
 
     @Override

@@ -28,17 +28,20 @@ public interface Store extends AutoCloseable {
     /** The payload of a place, which is counted from 1, or null. */
     byte[] payload(String name, long number, int place);
 
-    /** How many words those open requests have that may have changed since a mark, and the next mark; since null, all of them. */
+    /**
+     * How many words those open requests have that may have changed since a mark, and the next mark; since null, all of them. One that is closed, and
+     * to which words were put since the mark, may be told, too, with -1.
+     */
     News news(Object mark);
 
     /** Waits until something may have been put, for so many milliseconds at most. One thread at a time waits so. */
     void changed(long millis) throws InterruptedException;
 
-    /** Marks a request as closed, where it has just so many words, and forgets its timers. Whether this call has closed it. */
+    /**
+     * Marks a request as closed, where it has just so many words, and forgets its timers. Whether this call has closed it. A put that
+     * {@link Put#opens} takes it back.
+     */
     boolean end(String name, long number, int at);
-
-    /** Takes that back. */
-    void reopen(String name, long number);
 
     /** Says that a session is there. */
     void beat(long session);
@@ -180,13 +183,15 @@ public interface Store extends AutoCloseable {
         final int at;
         final List<Entry> entries;
         final Map<Integer, byte[]> payloads;
+        final boolean opens;
 
-        Put(String request, long number, int at, List<Entry> entries, Map<Integer, byte[]> payloads) {
+        Put(String request, long number, int at, List<Entry> entries, Map<Integer, byte[]> payloads, boolean opens) {
             this.request = request;
             this.number = number;
             this.at = at;
             this.entries = Collections.unmodifiableList(entries);
             this.payloads = Collections.unmodifiableMap(payloads);
+            this.opens = opens;
         }
 
         /** The request's name. */
@@ -213,9 +218,14 @@ public interface Store extends AutoCloseable {
         public Map<Integer, byte[]> payloads() {
             return payloads;
         }
+
+        /** Whether the request is opened again with them, in one step, where it is closed. */
+        public boolean opens() {
+            return opens;
+        }
     }
 
-    /** How many words requests have by name, and up to where that was told. */
+    /** How many words requests have by name, or -1 of one that is closed, and up to where that was told. */
     final class News {
         final Map<String, Integer> ends;
         final Object mark;

@@ -66,6 +66,8 @@ public final class StoreService implements AutoCloseable {
     private Object mark;
     private boolean isNamed;
     private final Map<String, StoredRequest> requests = new HashMap<>();
+    /** How often one of them was asked for, which their lock guards. */
+    private long keeps;
     /** Those that were closed, and that somebody here may have. */
     private final Map<String, WeakReference<StoredRequest>> left = new HashMap<>();
     /** Those with stages that are settled, and whose payloads couldn't be read. */
@@ -281,7 +283,7 @@ public final class StoreService implements AutoCloseable {
             synchronized (requests) {
                 before = requests.get(found.name);
                 known = before != null && before.number >= found.number ? before : made;
-                requests.put(found.name, known);
+                putBack(known);
             }
             if (before != null && before != known) { // It was dropped, and another of its name opened.
                 before.failAll(new StoreException.Gone(found.name));
@@ -296,11 +298,19 @@ public final class StoreService implements AutoCloseable {
         synchronized (requests) {
             StoredRequest known = requests.get(name);
             WeakReference<StoredRequest> gone = known == null ? left.remove(name) : null;
-            if (gone != null && gone.get() != null) {
-                known = gone.get();
-                requests.put(name, known);
+            known = gone == null ? known : gone.get();
+            if (gone != null && known != null) {
+                putBack(known);
             }
             return known;
+        }
+    }
+
+    /** One that is known here, or was until it was closed; or null. */
+    private StoredRequest knownOrLeft(String name) {
+        synchronized (requests) {
+            WeakReference<StoredRequest> gone = left.get(name);
+            return requests.getOrDefault(name, gone == null ? null : gone.get());
         }
     }
 
@@ -321,10 +331,15 @@ public final class StoreService implements AutoCloseable {
     void keep(StoredRequest request) {
         synchronized (requests) {
             if (requests.getOrDefault(request.name, request) == request) {
-                requests.put(request.name, request);
-                left.remove(request.name);
+                putBack(request);
             }
         }
+    }
+
+    private void putBack(StoredRequest request) {
+        requests.put(request.name, request);
+        left.remove(request.name);
+        request.kept = ++keeps;
     }
 
     /** Leaves a request alone that can't be gone on with. Others go on. */
@@ -344,19 +359,6 @@ public final class StoreService implements AutoCloseable {
         }
     }
 
-    /** Opens it again in the store, where it may be closed and stages were attached. */
-    void reopen(StoredRequest request) {
-        if (request.reopens) {
-            RowView.sure(host, () -> {
-                store.reopen(request.name, request.number);
-                return null;
-            });
-            request.reopens = false;
-            request.isClosed = false;
-            keep(request);
-        }
-    }
-
     /** Lets a thread read what others have put to a request, and look what is to do there. */
     void serve(StoredRequest request) {
         request.isStale = true;
@@ -365,7 +367,7 @@ public final class StoreService implements AutoCloseable {
 
     /** Lets a thread do what is to do in a request by what is known here, if anything is. */
     void serveKnown(StoredRequest request) {
-        if (request.reopens || request.with(this::isLeft)) {
+        if (request.with(this::isLeft)) {
             goOn(request);
         }
     }
@@ -476,14 +478,23 @@ public final class StoreService implements AutoCloseable {
     }
 
     private Object lookForNews(boolean looks, Object mark) {
-        List<StoredRequest> known = looks ? known() : Collections.emptyList(); // (before the store is asked: what is opened meanwhile isn't told)
+        long before;
+        synchronized (requests) {
+            before = keeps; // (what is opened meanwhile, or again, isn't in the store's answer)
+        }
         Store.News news = store.news(looks ? null : mark);
-        for (StoredRequest request : known) {
-            if (!news.ends.containsKey(request.name) && !request.isClosed) {
-                submit(Host.Job.LET_GO, request.name, request, () -> letGo(request));
+        if (looks) {
+            List<StoredRequest> closed = new ArrayList<>();
+            synchronized (requests) {
+                requests.values().stream().filter(it -> !news.ends.containsKey(it.name)).forEach(closed::add);
             }
+            closed.forEach(it -> leave(it, before));
         }
         news.ends.forEach((name, end) -> {
+            if (end < 0) {
+                leave(knownOrLeft(name), before);
+                return;
+            }
             StoredRequest request = taken(name);
             if (request != null && (end > request.seen || (looks || end == 0) && needs(request))) {
                 serve(request);
@@ -552,7 +563,7 @@ public final class StoreService implements AutoCloseable {
 
     /** Whether something is to do in a request without a new word. Where another thread has it, that one looks. */
     private boolean needs(StoredRequest request) {
-        return request.withIfFree(view -> request.reopens || isLeft(view) || view.openClaims().values().stream().anyMatch(this::isGone), false);
+        return request.withIfFree(view -> isLeft(view) || view.openClaims().values().stream().anyMatch(this::isGone), false);
     }
 
     /** Whether something is to do by what is known here, but for what sessions leave that are gone. */
@@ -607,17 +618,27 @@ public final class StoreService implements AutoCloseable {
         return new RowView.Wanted(kind == 'E' ? Words.failAs(0, timer.stage, Words.TIMED_OUT) : Words.complete(0, timer.stage, Words.NIL), what);
     }
 
-    /** Forgets a request that is closed, once all is told. */
-    private void letGo(StoredRequest request) {
-        request.catchUp();
-        reopen(request);
-        synchronized (requests) {
-            if (requests.get(request.name) == request) {
-                request.isClosed = true;
-                requests.remove(request.name);
-                left.values().removeIf(it -> it.get() == null);
-                left.put(request.name, new WeakReference<>(request));
+    /** Has a thread forget a request that is closed. */
+    private void leave(StoredRequest request, long before) {
+        if (request != null && request.isLeaving.compareAndSet(false, true)
+                && !submit(Host.Job.LET_GO, request.name, request, () -> letGo(request, before))) {
+            request.isLeaving.set(false);
+        }
+    }
+
+    /** Forgets a request that is closed, once all is told, unless it was asked for again since the store was asked. */
+    private void letGo(StoredRequest request, long before) {
+        try {
+            request.catchUp();
+            synchronized (requests) {
+                if (request.kept <= before && requests.get(request.name) == request) {
+                    requests.remove(request.name);
+                    left.values().removeIf(it -> it.get() == null);
+                    left.put(request.name, new WeakReference<>(request));
+                }
             }
+        } finally {
+            request.isLeaving.set(false);
         }
     }
 
@@ -665,7 +686,6 @@ public final class StoreService implements AutoCloseable {
             request.isStale = false;
             request.catchUp();
         }
-        reopen(request);
         abandon(request);
         relay(request);
         for (Task task = first(request); task != null;) {

@@ -40,8 +40,10 @@ public final class StoredRequest {
     final String name;
     final long number;
     final AtomicBoolean isQueued = new AtomicBoolean();
-    /** Whether it is closed in the store, as far as is known, and whether that has yet to be taken back. */
-    volatile boolean isClosed, reopens;
+    /** Whether a thread is to forget it, since it was closed in the store. */
+    final AtomicBoolean isLeaving = new AtomicBoolean();
+    /** When it was asked for last, by the service's count, which the lock of its requests guards. */
+    long kept;
     /** Whether others may have put what isn't read. */
     volatile boolean isStale;
     volatile int seen;
@@ -202,7 +204,6 @@ public final class StoredRequest {
         if (RowView.sure(service.host, () -> service.store.end(name, number, seen))) {
             service.tellEnd(this);
         }
-        isClosed = true;
     }
 
     @Override
@@ -282,16 +283,11 @@ public final class StoredRequest {
 
     /**
      * Puts words that attach stages, and gives the last of these, which is of this form; or gives the one that an earlier try of the function has
-     * attached which runs on this thread.
+     * attached which runs on this thread. A request that is closed in the store is opened again with that.
      */
     private StoredStage attached(Form form, int[] of, Map<String, Object> said, RowView.Decision decision) {
         Composing composing = composes.get(Thread.currentThread());
         int[] found = {-1};
-        boolean mayBeClosed = view.isPlanned() || isClosed;
-        if (mayBeClosed) { // (also where this call fails a thread of the service does it)
-            reopens = true;
-            service.keep(this);
-        }
         List<RowView.Done> done;
         try {
             done = act(view -> {
@@ -303,11 +299,14 @@ public final class StoredRequest {
                     throw new RequestFullException(new Full(name));
                 }
                 return decision.of(view);
-            });
-            service.reopen(this);
+            }, true);
+        } catch (StoreException.Unknown silent) {
+            service.keep(this); // (it may stand)
+            throw silent;
         } finally {
             service.serveKnown(this);
         }
+        service.keep(this); // (behind that: who thought it closed before doesn't forget it)
         int number = found[0] >= 0 ? found[0] : done.get(done.size() - 1).reply[Row.NUMBER];
         if (composing != null) {
             composing.taken.add(number);
@@ -447,12 +446,17 @@ public final class StoredRequest {
     }
 
     List<RowView.Done> act(RowView.Decision decision) {
+        return act(decision, false);
+    }
+
+    /** The same; whether these words open the request again, where it is closed. */
+    private List<RowView.Done> act(RowView.Decision decision, boolean opens) {
         if (transacts.contains(Thread.currentThread())) {
             throw new StoreException(this + ": its transactional function can't put to it: that takes the place of its finish");
         }
         writes.lock();
         try {
-            return acted(() -> view.act(decision));
+            return acted(() -> view.act(decision, opens));
         } finally {
             writes.unlock();
             show();

@@ -50,6 +50,9 @@ final class Memory implements Store {
         }
         row.addAll(put.entries());
         payloads.get(put.request()).putAll(put.payloads());
+        if (put.opens()) {
+            closed.remove(put.request());
+        }
         return null;
     }
 
@@ -87,12 +90,6 @@ final class Memory implements Store {
     @Override
     public boolean end(String name, long number, int at) {
         return row(name, number).size() == at && closed.add(name);
-    }
-
-    @Override
-    public void reopen(String name, long number) {
-        row(name, number);
-        closed.remove(name);
     }
 
     @Override

@@ -61,11 +61,6 @@ final class ProcessStore implements Store {
     }
 
     @Override
-    public void reopen(String name, long number) {
-        change("opens " + name + " again", () -> rows.reopen(name, number));
-    }
-
-    @Override
     public void setTimer(Timer timer) {
         change("sets the limit of " + rows.name(timer.request(), timer.stage()), () -> rows.setTimer(timer));
     }

@@ -159,11 +159,6 @@ final class Rows {
         return did;
     }
 
-    void reopen(String name, long number) {
-        touch.accept(row(name), How.CHANGES);
-        memory.reopen(name, number);
-    }
-
     void setTimer(Store.Timer timer) {
         touch.accept(row(timer.request()), How.CHANGES);
         timers.put(key(timer), new Due(++timersMade, timer));

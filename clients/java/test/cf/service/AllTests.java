@@ -190,6 +190,7 @@ public final class AllTests {
         test("puts that come late", StoredOrdersTest::late);
         test("moves between an answer and the next line", StoredOrdersTest::between);
         test("killed processes in every order", StoredOrdersTest::killed);
+        test("who attaches to a closed request in every order", StoredOrdersTest::attached);
         test("further tries in every order", StoredOrdersTest::triesAgain);
         test("processes taken for gone in every order", StoredOrdersTest::slow);
         test("clocks of processes", StoredOrdersTest::clocks);
@@ -235,6 +236,9 @@ public final class AllTests {
             over(EtcdTest.Server::new, "functions of requests in etcd", StoresTest::functions);
             over(EtcdTest.Server::new, "services that share a cluster", StoresTest::others);
             over(EtcdTest.Server::new, "closed requests in etcd", StoresTest::closed);
+            over(EtcdTest.Server::new, "words that open a request again in etcd", StoresTest::opens);
+            over(EtcdTest.Server::new, "who attaches to a closed request in etcd, and is killed", StoresTest::killedAtAttach);
+            over(EtcdTest.Server::new, "an attach that etcd is silent about", StoresTest::silentAtAttach);
             over(EtcdTest.Server::new, "timers in etcd", StoresTest::timers);
             over(EtcdTest.Server::new, "stages in etcd, settled once", StoresTest::settled);
             over(EtcdTest.Server::new, "functions that compose in etcd", StoredFunctionsTest::composing);
@@ -261,6 +265,11 @@ public final class AllTests {
         over(place, "functions of requests in " + engine, StoresTest::functions);
         over(place, "services that share a " + kind, StoresTest::others);
         over(place, "closed requests in " + engine, StoresTest::closed);
+        over(place, "words that open a request again in " + engine, StoresTest::opens);
+        over(place, "news of closed requests in " + engine, StoresTest::news);
+        over(place, "who attaches to a closed request in " + engine + ", and is killed", StoresTest::killedAtAttach);
+        over(place, "an attach that " + engine + " is silent about", StoresTest::silentAtAttach);
+        over(place, "who waits for the last word in " + engine, StoresTest::toldAtTheEnd);
         over(place, "timers in " + engine, StoresTest::timers);
         over(place, "stages in " + engine + ", settled once", StoresTest::settled);
         over(place, "a process that dies", StoresTest::dies);
@@ -297,6 +306,10 @@ public final class AllTests {
     }
 
     private static void test(String name, Checks.Test test) {
+        if (Boolean.getBoolean("test.list")) {
+            System.out.println("test: " + name);
+            return;
+        }
         if (chosen != null && !chosen.remove(name)) {
             return;
         }

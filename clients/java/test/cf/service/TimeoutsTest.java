@@ -100,7 +100,7 @@ final class TimeoutsTest {
         for (long each : history.words()) {
             word = Words.kind(each) == Words.FAIL_AS ? each : word;
         }
-        is(word, 8L << 56);
+        is(word, 8L << 56 | 1L << 48);
         is(Words.name(word), "failAs");
         // Each has its own; who comes too late is told so.
         Request otherTimed = SERVICE.request();

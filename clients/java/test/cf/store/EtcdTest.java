@@ -173,7 +173,7 @@ public final class EtcdTest {
             entries.add(new Store.Entry(numbers[k], numbers[k + 1]));
         }
         Map<Integer, byte[]> payloads = payload < 0 ? Collections.emptyMap() : Collections.singletonMap(at + 1, new byte[payload]);
-        return new Store.Put(opened.name, opened.number, at, entries, payloads);
+        return new Store.Put(opened.name, opened.number, at, entries, payloads, false);
     }
 
     private static String told(List<Store.Entry> entries) {
@@ -210,7 +210,6 @@ public final class EtcdTest {
             thrown(StoreException.Gone.class, () -> store.read("minus", gone.number, 0));
             thrown(StoreException.Gone.class, () -> store.payload("minus", gone.number, 1));
             thrown(StoreException.Gone.class, () -> store.end("minus", gone.number, 1));
-            thrown(StoreException.Gone.class, () -> store.reopen("minus", gone.number));
             thrown(StoreException.Gone.class, () -> store.setTimer(new Store.Timer("minus", gone.number, 0, 1, new byte[1])));
             StoreException refused = thrown(StoreException.class, () -> store.append(put(minus, 1, 2_000_000, 1, 1)));
             is(refused instanceof StoreException.Unknown, false);
@@ -221,8 +220,8 @@ public final class EtcdTest {
             is(store.end("minus", minus.number, 0), false);
             is(store.end("minus", minus.number, 1), true);
             is(store.end("minus", minus.number, 1), false);
-            store.reopen("minus", minus.number);
-            is(store.news(null).ends.get("minus"), 1);
+            is(store.append(put(minus, 1, -1, 2, 2)), null); // (which opens it again)
+            is(store.news(null).ends.get("minus"), 2);
             store.beat(77);
             store.beat(77);
             is(other.beats(), Collections.singletonMap(77L, 2L));

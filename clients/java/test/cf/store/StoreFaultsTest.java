@@ -405,7 +405,7 @@ public final class StoreFaultsTest {
         for (int k = 0; k < payloads.length; k++) {
             given.put(at + 1 + k, payloads[k]);
         }
-        return new Store.Put(to.name, to.number, at, entries, given);
+        return new Store.Put(to.name, to.number, at, entries, given, false);
     }
 
     /** Each call of a store is broken off at each change that it makes: then nothing of it stands, nothing is held, and it can be made again. */
@@ -417,7 +417,7 @@ public final class StoreFaultsTest {
             List<Runnable> calls = Arrays.asList(() -> store.open("another", "{}"), () -> store.append(put(to, 0, 1, small)),
                     () -> store.append(put(to, 1, 1, large)), () -> store.append(put(to, 2, 2, small)), () -> store.append(put(to, 4, 3, large, large, small)),
                     () -> store.setTimer(new Store.Timer("broken off", to.number, 0, 1e12, small)), () -> store.beat(1),
-                    () -> store.nameSession(1, "one"), () -> store.end("broken off", to.number, 7), () -> store.reopen("broken off", to.number),
+                    () -> store.nameSession(1, "one"), () -> store.end("broken off", to.number, 7),
                     () -> store.setTimer(new Store.Timer("broken off", to.number, 0, 1e12, small)),
                     () -> store.dropTimer(new Store.Timer("broken off", to.number, 0, 0, small)), () -> store.dropBeat(1), () -> transacts(store, to));
             List<Integer> changes = new ArrayList<>();

@@ -4,6 +4,7 @@ import static cf.service.Checks.is;
 import static cf.service.Checks.thrown;
 
 import cf.internal.Host;
+import cf.internal.Words;
 import cf.service.Request;
 import java.io.File;
 import java.io.IOException;
@@ -38,6 +39,7 @@ import java.util.concurrent.ConcurrentHashMap;
 import java.util.concurrent.ExecutionException;
 import java.util.concurrent.TimeUnit;
 import java.util.concurrent.TimeoutException;
+import java.util.concurrent.atomic.AtomicBoolean;
 import java.util.concurrent.atomic.AtomicInteger;
 import java.util.function.BiFunction;
 import java.util.jar.JarEntry;
@@ -214,11 +216,11 @@ public final class StoresTest {
                 if (at % 8 == 0) {
                     payloads.put(at + 4, large);
                 }
-                is(store.append(new Store.Put("puts", number, at, one, Collections.emptyMap())), null);
-                is(store.append(new Store.Put("puts", number, at, one, payloads)).size(), 1); // (its place is taken)
-                is(store.append(new Store.Put("puts", number, at + 1, three, payloads)), null);
-                is(store.append(new Store.Put("puts", number, at + 1, three, payloads)).size(), 3);
-                is(store.append(new Store.Put("puts", number, at + 3, three, payloads)).size(), 1); // (two of the group's places are free)
+                is(store.append(new Store.Put("puts", number, at, one, Collections.emptyMap(), false)), null);
+                is(store.append(new Store.Put("puts", number, at, one, payloads, false)).size(), 1); // (its place is taken)
+                is(store.append(new Store.Put("puts", number, at + 1, three, payloads, false)), null);
+                is(store.append(new Store.Put("puts", number, at + 1, three, payloads, false)).size(), 3);
+                is(store.append(new Store.Put("puts", number, at + 3, three, payloads, false)).size(), 1); // (two of the group's places are free)
                 is(Arrays.equals(store.payload("puts", number, at + 2), small), true);
                 is(Arrays.equals(store.payload("puts", number, at + 4), at % 8 == 0 ? large : null), true);
                 List<Store.Entry> read = store.read("puts", number, at);
@@ -227,7 +229,7 @@ public final class StoresTest {
                 is(read.get(3).payload, null);
             }
             for (List<Store.Entry> entries : Arrays.asList(one, three)) {
-                thrown(StoreException.Gone.class, () -> store.append(new Store.Put("puts", number + 1, 0, entries, Collections.emptyMap())));
+                thrown(StoreException.Gone.class, () -> store.append(new Store.Put("puts", number + 1, 0, entries, Collections.emptyMap(), false)));
             }
             is(store.read("puts", number, 0).size(), 40);
         }
@@ -242,9 +244,9 @@ public final class StoresTest {
                 Store.Opened opened = store.open("together " + k, plan);
                 List<Store.Entry> entries = Collections.nCopies(1 + k % 2, new Store.Entry(1, k));
                 Map<Integer, byte[]> large = k == 8 ? Collections.singletonMap(1, new byte[5000]) : Collections.emptyMap();
-                puts.add(new Store.Put(opened.name, opened.number + (k == 0 ? 100 : 0), 0, entries, large));
+                puts.add(new Store.Put(opened.name, opened.number + (k == 0 ? 100 : 0), 0, entries, large, false));
             }
-            store.append(new Store.Put("together 1", puts.get(1).number, 0, Collections.singletonList(new Store.Entry(1, 77)), Collections.emptyMap()));
+            store.append(new Store.Put("together 1", puts.get(1).number, 0, Collections.singletonList(new Store.Entry(1, 77)), Collections.emptyMap(), false));
             Object[] told = new Object[puts.size()];
             List<Thread> threads = new ArrayList<>();
             int before = store.commits;
@@ -364,6 +366,156 @@ public final class StoresTest {
             is(store.news(null).ends.containsKey("closed"), true);
             is(end(inc), 2L);
             is(service.resume().size(), 1);
+        }
+    }
+
+    /** It does so in one step with its put, and where its place is taken, or the request is gone, it does nothing. */
+    public static void opens(Place place) {
+        try (Store store = place.open()) {
+            Store.Opened opened = store.open("opens", "{}");
+            is(store.append(putOf(opened, 0, false, null, 1)), null);
+            is(store.end("opens", opened.number, 1), true);
+            is(store.append(putOf(opened, 0, true, null, 2)).get(0).word, 1L);
+            is(store.news(null).ends, Collections.emptyMap());
+            is(store.append(putOf(opened, 1, true, null, 2)), null);
+            is(store.news(null).ends, Collections.singletonMap("opens", 2));
+            is(store.end("opens", opened.number, 2), true);
+            is(store.append(putOf(opened, 1, true, new byte[5000], 3, 4)).get(0).word, 2L);
+            is(store.news(null).ends, Collections.emptyMap());
+            is(store.append(putOf(opened, 2, true, new byte[5000], 3, 4)), null);
+            is(store.news(null).ends, Collections.singletonMap("opens", 4));
+            is(store.payload("opens", opened.number, 3).length, 5000);
+            Store.Opened other = new Store.Opened("opens", "{}", opened.number + 1);
+            thrown(StoreException.Gone.class, () -> store.append(putOf(other, 4, true, null, 5)));
+        }
+    }
+
+    /** A put of words, the first of which may have a payload. */
+    private static Store.Put putOf(Store.Opened to, int at, boolean opens, byte[] payload, long... words) {
+        List<Store.Entry> entries = new ArrayList<>();
+        for (long word : words) {
+            entries.add(new Store.Entry(word, word + 10));
+        }
+        return new Store.Put(to.name, to.number, at, entries, payload == null ? Collections.emptyMap() : Collections.singletonMap(at + 1, payload), opens);
+    }
+
+    /** What was put or opened since a mark is told; of requests that were closed, only that of one which was closed behind its last word. */
+    public static void news(Database place) {
+        try (Store store = place.open()) {
+            List<Store.Opened> opened = new ArrayList<>();
+            for (int k = 0; k < 3; k++) {
+                opened.add(store.open("news " + k, "{}"));
+            }
+            store.append(putOf(opened.get(0), 0, false, null, 1));
+            store.append(putOf(opened.get(1), 0, false, null, 1));
+            is(store.end("news 0", opened.get(0).number, 1), true);
+            Store.News all = store.news(null);
+            is(all.ends, new HashMap<>(Map.of("news 1", 1, "news 2", 0)));
+            store.append(putOf(opened.get(1), 1, false, null, 2));
+            store.append(putOf(opened.get(2), 0, false, null, 3));
+            is(store.end("news 2", opened.get(2).number, 1), true);
+            store.open("news 3", "{}");
+            Store.News later = store.news(all.mark);
+            is(later.ends, new HashMap<>(Map.of("news 1", 2, "news 2", -1, "news 3", 0)));
+            store.append(putOf(opened.get(2), 1, true, null, 4));
+            is(store.news(later.mark).ends.get("news 2"), 2);
+        }
+    }
+
+    /** With the word that attaches the request is open, also one that was closed elsewhere: others go on with it. */
+    public static void killedAtAttach(Place place) throws Exception {
+        AtomicBoolean dies = new AtomicBoolean();
+        Store store = place.open();
+        Store dying = seen(store, (call, args) -> {
+            if (!dies.get() || !call.equals("append")) {
+                return null;
+            }
+            is(store.append((Store.Put) args[0]), null);
+            throw new IllegalStateException("killed");
+        });
+        StoredFlow flow = new StoredFlow("order");
+        flow.promise("given");
+        try (StoreService service = new StoreService(dying, new Functions(), 4, 1000, TimeUnit.SECONDS, false); Store other = place.open()) {
+            StoredRequest over = service.start(flow, "over", 1), plain = service.request("plain");
+            for (int k = 0; other.news(null).ends.containsKey("over"); k++) {
+                is(k < 2000, true);
+                Thread.sleep(10);
+            }
+            is(other.end("plain", plain.number, 0), true);
+            dies.set(true);
+            for (StoredRequest each : Arrays.asList(over, plain)) {
+                is(other.news(null).ends.containsKey(each.name), false);
+                thrown(IllegalStateException.class, () -> each.promise("late"));
+                is(other.news(null).ends.containsKey(each.name), true);
+            }
+            dies.set(false);
+        }
+    }
+
+    /** It stands, and is worked on. */
+    public static void silentAtAttach(Place place) throws Exception {
+        AtomicBoolean isSilent = new AtomicBoolean();
+        Store store = place.open();
+        Store silent = seen(store, (call, args) -> {
+            if (!call.equals("append") || !isSilent.getAndSet(false)) {
+                return null;
+            }
+            is(store.append((Store.Put) args[0]), null);
+            throw new StoreException.Unknown("silent", null);
+        });
+        StoredFlow flow = new StoredFlow("order");
+        flow.promise("given");
+        Functions functions = new Functions().with("inc", 1, number -> (Long) number + 1);
+        Host hasty = new Host() {
+            @Override
+            public long nanoTime() {
+                return isSilent.get() ? super.nanoTime() : super.nanoTime() + RowView.PATIENCE;
+            }
+        };
+        try (StoreService service = new StoreService(silent, functions, 2, 500, TimeUnit.MILLISECONDS, false, null, null, hasty);
+                Store other = place.open()) {
+            StoredRequest request = service.start(flow, "silent", 1);
+            for (int k = 0; other.news(null).ends.containsKey("silent"); k++) {
+                is(k < 2000, true);
+                Thread.sleep(10);
+            }
+            isSilent.set(true);
+            thrown(StoreException.Unknown.class, () -> request.supply("inc", 1));
+            for (int k = 0; request.stage(1) == null; k++) {
+                is(k < 2000, true);
+                Thread.sleep(10);
+            }
+            is(end(request.stage(1)), 2L);
+        }
+    }
+
+    /** Also where the request is closed right behind the last word, and nobody has looked meanwhile at all that are open. */
+    public static void toldAtTheEnd(Database place) throws Exception {
+        AtomicBoolean looks = new AtomicBoolean(true);
+        AtomicInteger looked = new AtomicInteger();
+        Store store = place.open();
+        Store slow = seen(store, (call, args) -> {
+            if (call.equals("news")) {
+                looked.incrementAndGet();
+                return looks.get() ? null : new Store.News(Collections.emptyMap(), args[0]);
+            }
+            return null;
+        });
+        StoredFlow flow = new StoredFlow("order");
+        flow.promise("given").then("inc");
+        Functions functions = new Functions().elsewhere("inc", 1);
+        try (StoreService service = new StoreService(slow, functions, 0, 1000, TimeUnit.SECONDS, false); Store other = place.open()) {
+            StoredStage last = service.start(flow, "told").stage(1);
+            while (looked.get() < 2) { // (from then on it asks by a mark)
+                Thread.sleep(1);
+            }
+            looks.set(false);
+            RowView view = new RowView(other, other.find("told"), 5, new Host());
+            view.catchUp();
+            view.act(it -> Arrays.asList(new RowView.Wanted(Words.complete(0, 0, Words.NIL), null), new RowView.Wanted(Words.cancel(0, 1), null)));
+            is(other.end("told", view.opened.number, 2), true);
+            looks.set(true);
+            thrown(CancellationException.class, () -> last.get(10, TimeUnit.SECONDS));
         }
     }
 

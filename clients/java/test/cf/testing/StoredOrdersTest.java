@@ -237,6 +237,23 @@ public final class StoredOrdersTest {
                 "[] order: slow ends: A", "[] order: slow is open", "[begun] order: slow ends: A", "[begun, ended] order: slow ends: A"));
     }
 
+    /** Who attaches to a closed request and is killed leaves none that is closed: another process calls the function. */
+    public static void attached() {
+        is(ends(world -> {
+            Functions functions = new Functions().with("load", 1, () -> 7);
+            WorldStore store = world.store().killed(1);
+            StoreProcess shop = store.process("shop", functions).workers(0);
+            StoredRequest request = shop.request("order");
+            request.promise("order").complete(1);
+            request.end();
+            shop.calls("attaches", () -> request.supply("load"));
+            store.worker("one", functions);
+            store.worker("two", functions);
+            return new Object[] {store};
+        }, made -> String.join("; ", ((WorldStore) made[0]).outcomes()).replaceAll("ends: Abandoned.*", "ends: Abandoned")), set(
+                "order: order ends: 1", "order: order ends: 1; order: load ends: 7", "order: order ends: 1; order: load ends: Abandoned"));
+    }
+
     /** Of two sources a further try has the one that the first try had: the first that was settled, or that was named if both were settled before. */
     public static void triesAgain() {
         is(calledAgain(false), set("[7, 7]", "[7]"));

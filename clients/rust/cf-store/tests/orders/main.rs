@@ -641,7 +641,10 @@ fn a_further_try_is_called_with_the_same() {
         let report = orders(move |world| {
             let (store, called) = (world.store(Bounds::new().killed(1)), Shared::<Vec<u32>>::default());
             let calls = called.clone();
-            let functions = Functions::new().with("load", 1, move |number: u32| Done::Ok(calls.get().push(number)));
+            let functions = Functions::new().with("load", 1, move |number: u32| {
+                calls.get().push(number);
+                Done::Ok(())
+            });
             let request = store.process_with("shop", &functions, ProcessOptions::new().workers(0)).request("order").unwrap();
             let [one, two] = ["one", "two"].map(|name| request.promise(name).unwrap());
             let before = is_before.then(|| one.either(&two, "load").unwrap());
