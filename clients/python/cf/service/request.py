@@ -280,17 +280,16 @@ class Request(RequestCore):
                        self._facts())._described(getattr(self, "_describe", self._works.describe))
 
     def cancel(self) -> None:
-        """Cancels all stages that aren't settled, from the first on, as `abandon` does: also those whose functions run,
-        and those that the ones before them would have settled. What is attached later isn't cancelled. The history has
-        an event for each stage that was cancelled by itself. A function that takes exceptions (`handle`, `recover`) may be
-        called before its own stage is cancelled.
+        """Cancels all stages that aren't settled, as `abandon` does: also those whose functions run. It begins with the last
+        one, so no function that takes exceptions (`handle`, `recover`) is called for it. What is attached later isn't
+        cancelled. The history has an event for each stage.
 
             try:
                 return await answer
             finally:  # also if the client hangs up
                 request.cancel()"""
         first: Optional[BaseException] = None
-        for stage in map(self._stage, range(self._stages)):
+        for stage in map(self._stage, reversed(range(self._stages))):
             try:
                 if not stage.done():
                     stage.abandon()
