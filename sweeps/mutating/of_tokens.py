@@ -237,7 +237,8 @@ class Finder:
         closing = tokens.other[opening]
         if function.returns == "" and (tokens.next_of(";", opening + 1, closing) or closing) >= closing - 1:
             return  # one statement, which is dropped
-        news = [f" return {it};" for it in defaults(function.returns)] if function.returns else [" return;"]
+        said = tokens.said(opening + 1, closing - 1)  # (where that is all that it does anyway, nothing changes)
+        news = [f" return {it};" for it in defaults(function.returns) if it != said] if function.returns else [" return;"]
         for new in news if closing > opening + 1 else []:
             self.places.append(Place("early", tokens[opening].end, tokens[opening].end, new))
 
