@@ -69,8 +69,8 @@ def record(programs: Sequence[Program], stores: str, folder: Path, run: RunIt, s
 def batches(tests: Sequence[Test], number: str, programs: Sequence[Program]) -> List[Batch]:
     """What is run over a mutant: the quick tests that reach it, those of one program together and by the order of the programs; then each slow one."""
     reaching = [it.alone for it in tests if it.reaches(number)]
-    together = [[it for it in reaching if (it.program, it.stores) == way and it.seconds < QUICK]
-                for program in programs for way in dict.fromkeys((it.program, it.stores) for it in reaching if it.program == program)]
+    together = [[it for it in reaching if it.program == program and it.stores == stores and it.seconds < QUICK]
+                for program in programs for stores in sorted({it.stores for it in reaching})]
     quick = [its[0]._replace(tests=[it.tests[0] for it in its], seconds=sum(it.seconds for it in its)) for its in together if its]
     return quick + sorted((it for it in reaching if it.seconds >= QUICK), key=lambda it: it.seconds)
 
