@@ -487,6 +487,17 @@ fn who_waits_is_told_of_the_last_word_of_a_request_that_was_closed() {
 }
 
 #[test]
+fn what_others_have_put_is_read_when_asked_for() {
+    let (memory, clock) = (Arc::new(Memory::default()), Clock::new());
+    let (stage, _process) = begun(&memory, &clock, silent());
+    let other = Process::new(&memory, &clock, 2, 0, Functions::new(), silent());
+    other.service.open("r").unwrap().promise("late").unwrap();
+    assert!(stage.request.stage(1).is_none());
+    stage.request.refresh().unwrap();
+    assert!(stage.request.stage(1).is_some());
+}
+
+#[test]
 fn a_request_that_goes_on_as_it_is_let_go() {
     let (memory, clock) = (Arc::new(Memory::default()), Clock::new());
     let (stage, process) = begun(&memory, &clock, silent());
@@ -521,7 +532,7 @@ fn an_attach_that_the_store_is_silent_about() {
     is_silent.store(true, SeqCst);
     assert_eq!(stage.request.promise("late").map(|_| ()), Err(StoreError::Unknown("silent".into())));
     drop(stage);
-    assert!(process.service.shared.kept_as("r").is_some(), "it may stand, so the service goes on with it");
+    assert_eq!(process.service.shared.goes_on_with().len(), 1, "it may stand, so the service works on it");
     is_silent.store(false, SeqCst);
     process.turn();
     let late = process.service.open("r").unwrap().stage(1).unwrap();
