@@ -228,6 +228,8 @@ class Finder:
             and word not in ("return", "break", "continue")
         if word in NOT_DROPPED or is_declared or word in BLOCKS or first == last:
             return
+        if tokens.said(first, last - 1).startswith("drop(") and last == first + 4 and last + 1 == tokens.other[function.opening]:
+            return  # (it is dropped there anyway)
         calls = [tokens.word(k - 1) for k in range(first + 1, last) if tokens.word(k) == "(" and tokens[k - 1].kind == "name"]
         self.replace(statement_rule(calls[-1] if calls else "", is_last), first, last, ";")
 
