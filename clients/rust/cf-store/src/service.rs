@@ -29,7 +29,30 @@ const BETWEEN_REFUSALS: Duration = Duration::from_millis(500);
 /// Before a transaction is begun again that came to nothing.
 const BETWEEN_TRANSACTIONS: Duration = Duration::from_millis(50);
 
-/// How a service works.
+/// How a service works: what [`Service::with`] takes.
+///
+/// ```
+/// # #[cfg(feature = "sqlite")]
+/// # fn main() -> Result<(), Box<dyn std::error::Error>> {
+/// # let folder = std::env::temp_dir().join(format!("cf-store-options-{}", std::process::id()));
+/// # std::fs::create_dir_all(&folder)?;
+/// # let path = folder.join("orders.db");
+/// use cf_store::{Functions, Options, SQLite, Service};
+/// use std::time::Duration;
+///
+/// let mut options = Options::default(); // it may get more fields, so it can't be written as an expression
+/// options.threads = 8;
+/// options.lease = Duration::from_secs(5);
+/// options.takes_all = true;
+/// options.warns = |text| eprintln!("orders: {text}");
+/// let service = Service::with(SQLite::open(path)?, Functions::new(), options)?;
+/// # drop(service);
+/// # std::fs::remove_dir_all(folder)?;
+/// # Ok(())
+/// # }
+/// # #[cfg(not(feature = "sqlite"))]
+/// # fn main() {}
+/// ```
 #[derive(Clone, Debug)]
 #[non_exhaustive]
 pub struct Options {
@@ -207,7 +230,8 @@ impl Service {
         thread::Builder::new().name(name.into()).spawn(move || run(&shared)).map_err(|error| StoreError::Refused(error.to_string()))
     }
 
-    /// Opens a request without stages, or gives the one of this name as it stands in the store.
+    /// Opens a request without stages, or gives the one of this name as it stands in the store. A program that is run twice attaches its stages twice:
+    /// look for them by [`Request::named`], or [`start`](Service::start) a flow.
     pub fn request(&self, name: &str) -> Result<Request, StoreError> {
         let plan = Flow::default().text(&self.shared.functions)?;
         let found = self.shared.sure(|| self.shared.store.open(name, &plan))?;
@@ -219,6 +243,31 @@ impl Service {
     ///
     /// [`StoreError::Refused`] where more values are given than there are promises, or the flow is no plan; [`StoreError::NotRegistered`] where a
     /// function isn't registered; [`StoreError::Broken`] where the request was begun with another plan.
+    ///
+    /// ```
+    /// # #[cfg(feature = "sqlite")]
+    /// # fn main() -> Result<(), Box<dyn std::error::Error>> {
+    /// # let folder = std::env::temp_dir().join(format!("cf-store-start-{}", std::process::id()));
+    /// # std::fs::create_dir_all(&folder)?;
+    /// # let path = folder.join("orders.db");
+    /// use cf_store::{Flow, Functions, SQLite, Service};
+    /// use serde_json::json;
+    ///
+    /// let mut flow = Flow::new("order");
+    /// let order = flow.promise("order");
+    /// let paid = flow.then(order, "charge");
+    /// let service = Service::new(SQLite::open(path)?, Functions::new().with("charge", 1, |cents: u32| Ok::<_, String>(cents + 1)))?;
+    /// for _twice in 0..2 {
+    ///     let request = service.start(&flow, "order 17", &[json!(4900)])?;
+    ///     assert_eq!(request.step(paid).unwrap().wait::<u32>()?, 4901); // charged once
+    /// }
+    /// # drop(service);
+    /// # std::fs::remove_dir_all(folder)?;
+    /// # Ok(())
+    /// # }
+    /// # #[cfg(not(feature = "sqlite"))]
+    /// # fn main() {}
+    /// ```
     pub fn start(&self, flow: &Flow, name: &str, given: &[Json]) -> Result<Request, StoreError> {
         let (promises, plan) = (flow.promises(), flow.text(&self.shared.functions)?);
         if given.len() > promises.len() {

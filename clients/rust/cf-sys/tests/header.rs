@@ -41,7 +41,9 @@ fn part_of_c(said: &str) -> (String, String) {
     (said[begin..].to_owned(), of_c(&said[..begin]))
 }
 
+/// A row of parameters or fields, without the comments above these.
 fn parts_of_rust(said: &str) -> Vec<(String, String)> {
+    let said = said.lines().filter(|line| !line.trim_start().starts_with("///")).collect::<String>();
     let parts = said.split(',').map(str::trim).filter(|part| !part.is_empty());
     parts.map(|part| part.trim_start_matches("pub ").split_once(": ").unwrap()).map(|(name, kind)| (name.to_owned(), kind.to_owned())).collect()
 }
