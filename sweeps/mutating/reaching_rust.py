@@ -71,7 +71,7 @@ def record(programs: Sequence[Program], stores: str, folder: Path, run: RunIt, s
 
 
 def batches(tests: Sequence[Test], number: str, programs: Sequence[Program]) -> List[Batch]:
-    """What is run over a mutant: the quick tests that reach it, those of one program together and by the order of the programs; then each slow one."""
+    """What is run over a mutant: the quick tests that reach it, those of a program together, by the order of the programs; then each slow one."""
     reaching = [it.alone for it in tests if it.reaches(number)]
     together = [
         [it for it in reaching if it.program == program and it.stores == stores and it.seconds < QUICK]
