@@ -8,6 +8,9 @@ import cf.internal.Words;
 import cf.store.StoresTest.Database;
 import cf.store.StoresTest.InFile;
 import cf.store.StoresTest.InPostgres;
+import java.nio.file.Files;
+import java.nio.file.Path;
+import java.nio.file.Paths;
 import java.sql.Connection;
 import java.sql.PreparedStatement;
 import java.sql.ResultSet;
@@ -464,6 +467,22 @@ public final class StoreFaultsTest {
             }
             is(transaction.append(put(to, 9, 1, new byte[5000])), true);
             transaction.commit();
+        }
+    }
+
+    /** A transaction that can't begin says that the store is away, and leaves its turn to write to others. */
+    public static void cantBegin(InFile file) throws Exception {
+        String line = file.path + "-line";
+        Path path = Paths.get(file.path), aside = Paths.get(file.path + " aside");
+        try (JdbcStore store = file.open()) {
+            Files.move(path, aside);
+            Files.createDirectory(path);
+            thrown(StoreException.Unknown.class, store::transaction);
+            is(new ProcessBuilder("flock", "-n", line, "true").start().waitFor(), 0);
+            Files.delete(path);
+            Files.move(aside, path);
+            store.transaction().close();
+            store.beat(1);
         }
     }
 
