@@ -1,6 +1,7 @@
 """Builds mutants of a client and tries them: its test programs run over each, the nearest first, until one fails."""
 import json
 import os
+import re
 import shutil
 import signal
 import subprocess
@@ -14,7 +15,7 @@ from pathlib import Path
 from typing import Any, Callable, Dict, List, NamedTuple, Optional, Sequence, Set, Tuple
 
 from checking.tools import DEBIAN, junit
-from mutating import schemata
+from mutating import reached, schemata
 from mutating.languages import JAVA, RULES_OF_JAVA, TOP, Language
 from mutating.mutant import Mutant
 from mutating.programs import Program, is_of_crate, nearness, program_of_rust, programs_of_java, programs_of_python
@@ -22,10 +23,13 @@ from mutating.programs import Program, is_of_crate, nearness, program_of_rust, p
 BUILDING = 1200  # seconds
 FIRST = 60  # seconds for a test program over a mutant, as long as nobody knows what it takes
 LONGEST = 600  # seconds for a test program over the code as it is
+LONG = 1  # seconds of a test in Python that is long
 SQLITE_JDBC = "/usr/share/java/sqlite-jdbc.jar"  # of Debian's libxerial-sqlite-jdbc-java, for tests of stores
 FEATURES = ["cf/testing", "cf/tokio", "cf/rayon", "cf/serde", "cf/tracing", "cf-store/sqlite", "cf-store/postgres", "cf-store/etcd", "cf-store/testing"]
 STARTS = threading.RLock()
 RUNNING: Set[int] = set()  # processes, each of which leads a group
+RUNNER = "sitecustomize.py"  # which each process of a copy finds where it is to write down what it reaches
+SOURCE = "native/_cf.c"
 MADE = ["target", "__pycache__", "*.so", "out"]  # what isn't copied
 
 
@@ -35,11 +39,12 @@ class Missing(Exception):
 
 class Result(NamedTuple):
     mutant: Mutant
-    noticed_by: str  # a test program, or nothing
+    noticed_by: str  # a test, or a program of tests, or nothing
     seconds: float
+    asked: str = ""  # by whom it isn't noticed
 
     def __str__(self) -> str:
-        return f"{self.mutant}: {'noticed by ' + self.noticed_by if self.noticed_by else 'NOT NOTICED'}, {self.seconds:.0f} s"
+        return f"{self.mutant}: {'noticed by ' + self.noticed_by if self.noticed_by else 'NOT NOTICED' + self.asked}, {self.seconds:.1f} s"
 
 
 def end(group: int) -> None:
@@ -164,15 +169,104 @@ class Client:
 
 
 class Python(Client):
-    """Each seat has a copy, in which a mutant stands while it is tried."""
+    """Each seat has a copy, in which a mutant stands while it is tried. It is known of each test which lines it reaches, so only those are run that
+    reach a mutant's: the cheap ones first, and those of one folder in one process."""
 
     def __init__(self, language: Language, made: Path, say: Callable[[str], None], seats: int) -> None:
         super().__init__(language, made, say)
         if not os.environ.get("CF_LIBRARY"):
             raise Missing("no CF_LIBRARY")
-        self.folders = [self.copy(str(seat)) for seat in range(seats)]
+        self.folders = [self.copy(str(seat)).resolve() for seat in range(seats)]
+        for folder in self.folders:
+            shutil.copy2(reached.RUNNING, folder / RUNNER)
+            run([sys.executable, "-m", "compileall", "-q", "cf", "tests"], folder, dict(os.environ), BUILDING)
         self.environment.update(CF_NO_MODULE="1", CF_REQUESTS="2000")
-        self.programs = programs_of_python(language.folder, False)
+        self.etcd = threading.Lock()  # which one process uses at a time
+        self.stores: Dict[str, str] = {}  # of each kind of server the address of one
+        self.get_ready()
+        sources = [path for it in ["cf", "tests", "native"] for path in (language.folder / it).rglob("*.[pc]*") if path.suffix in (".py", ".c")]
+        words = " ".join([sys.executable, sys.version, *self.stores])
+        self.tests = reached.kept(language.name, words, [reached.RUNNING, *sources], lambda: self.write_down(seats))
+
+    def get_ready(self) -> None:
+        self.programs = programs_of_python(self.language.folder, False)
+        self.stores = {it.partition(":")[0]: it for it in os.environ.get("CF_STORES", "").split()}
+
+    def write_down(self, seats: int) -> List[reached.Test]:
+        self.say("writing down what each test reaches, which is kept for the next time")
+        files = [it.source for it in self.programs]
+        over = [(it, store) for store in self.stores for it in files if it.startswith("tests/store/")]
+        return reached.written([*((it, "") for it in files), *over], self.write_down_file, seats)
+
+    def write_down_file(self, file: str, over: str, into: Path) -> None:
+        more = {"CF_REACHED": str(into / "0"), "PYTHONPATH": str(self.folders[0]), **self.written_down(into)}
+        is_well, said = self.run_tests(["record", file, str(into)], over, re.sub(r"\W", "_", file), self.folders[0], more, BUILDING)
+        if not is_well:
+            self.say(f"left out a part of {file}: it fails over the code as it is\n{said[-2000:]}")
+
+    def run_tests(self, words: Sequence[str], over: str, name: str, folder: Path, more: Dict[str, str], seconds: float) -> Tuple[bool, str]:
+        """Runs tests over no server, a database of this name in PostgreSQL, or an etcd."""
+        address = self.stores.get(over, "")
+        store = f"{address.rpartition('/')[0]}/m{name}" if over == "postgresql" else address
+        with self.etcd if over == "etcd" else threading.Lock():
+            return run([sys.executable, RUNNER, *words], folder, {**self.environment, **more, "CF_STORES": store}, seconds)
+
+    def written_down(self, into: Path) -> Dict[str, str]:
+        """What is written down, as a piece of the environment."""
+        return {"CF_REACHED_OF": f"{self.folders[0]}/cf/"}
+
+    def reached_by(self, mutant: Mutant) -> Set[int]:
+        """What has to be reached where a mutant matters."""
+        return reached.lines_of(mutant, self.text(mutant.file))
+
+    def batches(self, mutant: Mutant) -> List[List[reached.Test]]:
+        """The tests that reach a mutant, and then those that may and weren't written down whole, in the order in which they are run."""
+        near = {it.source: nearness(it, mutant.file) for it in self.programs}
+        marks = self.reached_by(mutant)
+        found: Dict[Tuple[str, int, str], List[reached.Test]] = {}
+        for it in self.tests:
+            grade = (it.seconds >= LONG / 10) + (it.seconds >= LONG) if marks & it.reached.get(mutant.file, set()) else 3
+            if grade < 3 or (not it.is_whole and mutant.file in it.reached):
+                found.setdefault((it.over, grade, str(Path(it.file).parent)), []).append(it)
+        for batch in found.values():
+            batch.sort(key=lambda it: (near[it.file] > 1, it.seconds))
+        return [found[key] for key in sorted(found, key=lambda key: (*key[:2], min(near[it.file] for it in found[key])))]
+
+    def failing(self, batch: Sequence[reached.Test], seat: int) -> Optional[reached.Test]:
+        """The first of some tests that fails."""
+        words = [word for it in batch for word in (it.name, f"{20 + 4 * it.seconds:.0f}")]
+        is_well, said = self.run_tests(["run", *words], batch[0].over, str(seat), self.folders[seat], {}, 60 + sum(4 * it.seconds for it in batch))
+        begun = re.findall("^test: (.*)$", said, re.M)[-1:]
+        return None if is_well else next((it for it in batch if begun == [it.name]), batch[-1])
+
+    def is_noticed(self, batch: Sequence[reached.Test], mutant: Mutant, seat: int) -> bool:
+        """Whether the last of some tests, which has failed over a mutant, passes behind the others over the code as it is, which is asked once. A
+        long one has to fail twice, since a busy machine may have made it fail."""
+        last = batch[-1]
+        if str(last) not in self.whole:
+            self.take_back(mutant, seat)
+            self.whole[str(last)] = self.failing(batch, seat) != last
+            self.put(mutant, seat)
+            if not self.whole[str(last)]:
+                self.say(f"left out {last}: it fails over the code as it is")
+        return self.whole[str(last)] and (last.seconds < LONG or self.failing([last], seat) is not None)
+
+    def tried(self, mutant: Mutant, seat: int) -> Result:
+        began, many = time.monotonic(), 0
+        self.put(mutant, seat)
+        try:
+            for batch in self.batches(mutant):
+                left = [it for it in batch if self.whole.get(str(it), True)]
+                many += len(left)
+                while left:
+                    failing = self.failing(left, seat)
+                    behind = left.index(failing) + 1 if failing else len(left)
+                    if failing and self.is_noticed(left[:behind], mutant, seat):
+                        return Result(mutant, str(failing), time.monotonic() - began)
+                    left = left[behind:]
+            return Result(mutant, "", time.monotonic() - began, f" by the {many} tests that reach it" if many else ", no test reaches it")
+        finally:
+            self.take_back(mutant, seat)
 
     def build(self, mutants: Sequence[Mutant]) -> List[Mutant]:
         return [it for it in mutants if self.is_python(it.put_into(self.text(it.file)))]
@@ -185,9 +279,6 @@ class Python(Client):
             return False
         return True
 
-    def command(self, program: Program, mutant: Optional[Mutant], seat: int) -> Tuple[List[str], Path, Dict[str, str]]:
-        return [sys.executable, *program.words], self.folders[seat], self.environment
-
     def put(self, mutant: Mutant, seat: int) -> None:
         (self.folders[seat] / mutant.file).write_text(mutant.put_into(self.text(mutant.file)), encoding="utf-8")
 
@@ -198,18 +289,30 @@ class Python(Client):
 class CModule(Python):
     """The C module of Python: each mutant is compiled, and its module stands in a seat's copy while it is tried."""
 
-    def __init__(self, language: Language, made: Path, say: Callable[[str], None], seats: int) -> None:
-        super().__init__(language, made, say, seats)
+    def get_ready(self) -> None:
         if not os.environ.get("CF_LIBRARY_DIR"):
             raise Missing("no CF_LIBRARY_DIR")
         self.environment["CF_NO_MODULE"] = ""
-        self.programs = programs_of_python(language.folder, True)
+        self.programs = programs_of_python(self.language.folder, True)
         self.module = "_cf" + sysconfig.get_config_var("EXT_SUFFIX")
-        (made / "modules").mkdir()
-        if not self.compiled("whole", language.folder / "native/_cf.c"):
+        (self.made / "modules").mkdir()
+        source, self.many = reached.marked(self.text(SOURCE))
+        (self.made / "marked.c").write_text(source, encoding="utf-8")
+        if not self.compiled("whole", self.language.folder / SOURCE) or not self.compiled("marked", self.made / "marked.c"):
             raise Missing("a C compiler with Python's headers")
         for folder in self.folders:
-            shutil.copy2(made / "modules/whole", folder / "cf" / self.module)
+            shutil.copy2(self.made / "modules/marked", folder / "cf" / self.module)
+
+    def write_down(self, seats: int) -> List[reached.Test]:
+        tests = super().write_down(seats)
+        return [it._replace(is_whole=True) for it in tests]  # (a process writes down its marks to its end)
+
+    def written_down(self, into: Path) -> Dict[str, str]:
+        (into / "marks").write_bytes(bytes(self.many))
+        return {"CF_MARKS": str(into / "marks"), "CF_REACHED_OF": "nothing"}
+
+    def reached_by(self, mutant: Mutant) -> Set[int]:
+        return reached.block_of(mutant, self.text(mutant.file))
 
     def compiled(self, name: str, source: Path) -> bool:
         folder = os.environ["CF_LIBRARY_DIR"]
