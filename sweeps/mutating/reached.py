@@ -4,9 +4,8 @@ import hashlib
 import json
 import os
 import tempfile
-from concurrent.futures import ThreadPoolExecutor
 from pathlib import Path
-from typing import Callable, Dict, Iterable, List, NamedTuple, Sequence, Set, Tuple
+from typing import Callable, Dict, Iterable, List, NamedTuple, Set, Tuple
 
 from mutating.mutant import Mutant
 from mutating.of_tokens import functions
@@ -14,6 +13,7 @@ from mutating.tokens import Tokens
 
 RUNNING = Path(__file__).resolve().parent / "running.py"
 KEPT = Path(os.environ.get("XDG_CACHE_HOME") or Path.home() / ".cache") / "cf-mutants"
+STORES = {"postgresql": "cf/store/postgres.py", "etcd": "cf/store/etcd.py"}
 
 
 class Test(NamedTuple):
@@ -32,45 +32,42 @@ class Test(NamedTuple):
 
 
 def tests_in(folder: Path, over: str) -> List[Test]:
-    """What was written down of a file of tests."""
+    """What was written down of a file of tests. Over a server only those count that call the store's functions for it."""
     found = []
     lines = [line.split(" ", 2) for line in (folder / "tests").read_text(encoding="utf-8").splitlines()] if (folder / "tests").exists() else []
     texts = [(folder / k).read_text(encoding="utf-8").splitlines() if (folder / k).exists() else [] for k in ["0", *(it[0] for it in lines)]]
-    common = {line.lstrip("M") for text in texts for line in text if line.startswith("M")} | set(texts[0])
+    common = {line.lstrip("M") for text in texts for line in text if line.startswith("M") or text is texts[0]}
     for (_, seconds, name), text in zip(lines, texts[1:]):
         reached: Dict[str, Set[int]] = {}
-        for line in sorted(common | {it.lstrip("M") for it in text} - {"*"}):
+        for line in (common | {it.lstrip("M") for it in text}) - {"*"}:
             mark, file = line.split(" ", 1)
             reached.setdefault(file, set()).add(int(mark))
-        found.append(Test(name, over, float(seconds), "*" not in text and "*" not in common, reached))
+        if not over or any(it[0] != "M" and it.endswith(STORES[over]) for it in text):
+            found.append(Test(name, over, float(seconds), "*" not in text and "*" not in common, reached))
     return found
 
 
-def written(files: Sequence[Tuple[str, str]], write: Callable[[str, str, Path], None], many: int) -> List[Test]:
-    """Has all files of tests written down, some at a time: of each its name, and the kind of server that it is run over."""
-    with tempfile.TemporaryDirectory() as made:
-        def one(k: int) -> List[Test]:
-            (Path(made) / str(k)).mkdir()
-            write(*files[k], Path(made) / str(k))
-            return tests_in(Path(made) / str(k), files[k][1])
-        with ThreadPoolExecutor(many) as pool:
-            return [test for tests in pool.map(one, range(len(files))) for test in tests]
-
-
-def kept(name: str, words: str, sources: Iterable[Path], make: Callable[[], List[Test]]) -> List[Test]:
-    """The record of these sources, which is made where it isn't there. Only the last one of a name is kept."""
+def sum_of(words: str, paths: Iterable[Path]) -> str:
     told = hashlib.sha256(words.encode())
-    for path in sorted(sources):
+    for path in sorted(paths):
         told.update(f"{path.name}\0".encode() + hashlib.sha256(path.read_bytes()).digest())
-    path = KEPT / f"{name}-{told.hexdigest()[:16]}.json"
+    return told.hexdigest()[:16]
+
+
+def kept(name: str, total: str, over: str, write: Callable[[Path], None]) -> List[Test]:
+    """The record of a file of tests with this sum of all that it was made of, which is made where it isn't there."""
+    path = KEPT / f"{name}-{total}.json"
     if not path.exists():
-        tests = make()
+        with tempfile.TemporaryDirectory() as made:
+            write(Path(made))
+            facts = [[it.name, it.over, it.seconds, it.is_whole, {file: sorted(marks) for file, marks in it.reached.items()}]
+                     for it in tests_in(Path(made), over)]
         KEPT.mkdir(parents=True, exist_ok=True)
-        for old in KEPT.glob(f"{name}-*.json"):
+        for old in KEPT.glob(f"{name}-{'?' * len(total)}.json"):
             old.unlink()
-        facts = [[it.name, it.over, it.seconds, it.is_whole, {file: sorted(lines) for file, lines in it.reached.items()}] for it in tests]
-        Path(f"{path}.{os.getpid()}").write_text(json.dumps(facts), encoding="utf-8")
-        Path(f"{path}.{os.getpid()}").replace(path)
+        beside = Path(f"{path}.{os.getpid()}")
+        beside.write_text(json.dumps(facts), encoding="utf-8")
+        beside.replace(path)
     return [Test(name, over, seconds, is_whole, {file: set(marks) for file, marks in reached.items()})
             for name, over, seconds, is_whole, reached in json.loads(path.read_text(encoding="utf-8"))]
 

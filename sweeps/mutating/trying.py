@@ -184,25 +184,28 @@ class Python(Client):
         self.etcd = threading.Lock()  # which one process uses at a time
         self.stores: Dict[str, str] = {}  # of each kind of server the address of one
         self.get_ready()
-        sources = [path for it in ["cf", "tests", "native"] for path in (language.folder / it).rglob("*.[pc]*") if path.suffix in (".py", ".c")]
-        words = " ".join([sys.executable, sys.version, *self.stores])
-        self.tests = reached.kept(language.name, words, [reached.RUNNING, *sources], lambda: self.write_down(seats))
+        sources = [*(language.folder / "cf").rglob("*.py"), language.folder / SOURCE]
+        beside = [path for path in (language.folder / "tests").rglob("*.py") if not path.name.startswith("test_")]
+        total = reached.sum_of(str(sys.version_info[:2]), [reached.RUNNING, *sources, *beside])
+        asked = [(it, over) for over in ["", *self.stores] for it in self.programs if not over or re.search(r"\bSTORES\b|\.each\(", it.text)]
+        with ThreadPoolExecutor(seats) as pool:
+            self.tests = [test for tests in pool.map(lambda it: self.recorded(it[0], it[1], total), asked) for test in tests]
 
     def get_ready(self) -> None:
         self.programs = programs_of_python(self.language.folder, False)
         self.stores = {it.partition(":")[0]: it for it in os.environ.get("CF_STORES", "").split()}
 
-    def write_down(self, seats: int) -> List[reached.Test]:
-        self.say("writing down what each test reaches, which is kept for the next time")
-        files = [it.source for it in self.programs]
-        over = [(it, store) for store in self.stores for it in files if it.startswith("tests/store/")]
-        return reached.written([*((it, "") for it in files), *over], self.write_down_file, seats)
-
-    def write_down_file(self, file: str, over: str, into: Path) -> None:
-        more = {"CF_REACHED": str(into / "0"), "PYTHONPATH": str(self.folders[0]), **self.written_down(into)}
-        is_well, said = self.run_tests(["record", file, str(into)], over, re.sub(r"\W", "_", file), self.folders[0], more, BUILDING)
-        if not is_well:
-            self.say(f"left out a part of {file}: it fails over the code as it is\n{said[-2000:]}")
+    def recorded(self, program: Program, over: str, total: str) -> List[reached.Test]:
+        """What the tests of a file reach."""
+        def write(into: Path) -> None:
+            self.say(f"writing down what {name} reaches, which is kept for the next time")
+            more = {"CF_REACHED": str(into / "0"), "PYTHONPATH": str(self.folders[0]), **self.written_down(into)}
+            is_well, said = self.run_tests(["record", program.source, str(into)], over, re.sub(r"\W", "_", name), self.folders[0], more, BUILDING)
+            if not is_well:
+                self.say(f"left out a part of {name}: it fails over the code as it is\n{said[-2000:]}")
+        name = f"{program.source} over {over}" if over else program.source
+        total = reached.sum_of(total, [self.language.folder / program.source])
+        return reached.kept(re.sub(r"\W", "_", f"{self.language.name}-{name}"), total, over, write)
 
     def run_tests(self, words: Sequence[str], over: str, name: str, folder: Path, more: Dict[str, str], seconds: float) -> Tuple[bool, str]:
         """Runs tests over no server, a database of this name in PostgreSQL, or an etcd."""
@@ -303,9 +306,8 @@ class CModule(Python):
         for folder in self.folders:
             shutil.copy2(self.made / "modules/marked", folder / "cf" / self.module)
 
-    def write_down(self, seats: int) -> List[reached.Test]:
-        tests = super().write_down(seats)
-        return [it._replace(is_whole=True) for it in tests]  # (a process writes down its marks to its end)
+    def recorded(self, program: Program, over: str, total: str) -> List[reached.Test]:
+        return [it._replace(is_whole=True) for it in super().recorded(program, over, total)]  # (a process writes down its marks to its end)
 
     def written_down(self, into: Path) -> Dict[str, str]:
         (into / "marks").write_bytes(bytes(self.many))
