@@ -44,6 +44,21 @@ class DurableStages(Case):
             self.assertEqual(durable.first_of(durable.promise(), number).result(20), 17)
             self.assertIsInstance(durable.supply(f.odd).exception(20), TypeError)
 
+    def test_stages_of_many(self):
+        """A tree of stages says what one stage of all would, of however many."""
+        for service, name in self.each():
+            durable = service.request(name)
+            for many in range(2, 6):
+                for last in range(many):
+                    stages = [durable.promise() for _ in range(many)]
+                    together, first = durable.all_of(*stages), durable.first_of(*stages)
+                    stages[last].complete(last)
+                    self.assertEqual(first.result(20), last)
+                    for stage in stages[:last] + stages[last + 1:]:
+                        self.assertFalse(together.done())
+                        stage.complete(None)
+                    self.assertIsNone(together.result(20))
+
     def test_settling(self):
         for service, name in self.each():
             durable = service.request(name)
