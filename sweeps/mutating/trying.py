@@ -237,22 +237,25 @@ class Python(Client):
 
     def failing(self, batch: Sequence[reached.Test], seat: int) -> Optional[reached.Test]:
         """The first of some tests that fails."""
-        words = [word for it in batch for word in (it.name, f"{20 + 4 * it.seconds:.0f}")]
-        is_well, said = self.run_tests(["run", *words], batch[0].over, str(seat), self.folders[seat], {}, 60 + sum(4 * it.seconds for it in batch))
+        limits = [20 + 4 * it.seconds for it in batch]
+        words = [word for it, limit in zip(batch, limits) for word in (it.name, f"{limit:.0f}")]
+        is_well, said = self.run_tests(["run", *words], batch[0].over, str(seat), self.folders[seat], {}, FIRST + sum(limits))
         begun = re.findall("^test: (.*)$", said, re.M)[-1:]
         return None if is_well else next((it for it in batch if begun == [it.name]), batch[-1])
 
     def is_noticed(self, batch: Sequence[reached.Test], mutant: Mutant, seat: int) -> bool:
-        """Whether the last of some tests, which has failed over a mutant, passes behind the others over the code as it is, which is asked once. A
-        long one has to fail twice, since a busy machine may have made it fail."""
+        """Whether the last of some tests, which has failed over a mutant, fails again, since a busy machine may have made it fail, and passes behind
+        the others over the code as it is, which is asked once."""
         last = batch[-1]
+        if not self.failing([last], seat):
+            return False
         if str(last) not in self.whole:
             self.take_back(mutant, seat)
             self.whole[str(last)] = self.failing(batch, seat) != last
             self.put(mutant, seat)
             if not self.whole[str(last)]:
                 self.say(f"left out {last}: it fails over the code as it is")
-        return self.whole[str(last)] and (last.seconds < LONG or self.failing([last], seat) is not None)
+        return self.whole[str(last)]
 
     def tried(self, mutant: Mutant, seat: int) -> Result:
         began, many = time.monotonic(), 0
