@@ -31,7 +31,7 @@ def nearness(program: Program, file: str) -> int:
 
 # Python
 
-OF_MODULE = ["service", "testing", "tests"]  # folders of tests that are run over the C module
+OF_MODULE = ["service", "tests"]  # folders of tests that are run over the C module
 
 
 def programs_of_python(folder: Path, is_c: bool) -> List[Program]:

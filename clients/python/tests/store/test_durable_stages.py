@@ -445,6 +445,10 @@ class DurableStages(Case):
                     self.assertIn("is a step of another flow", str(told.exception))
             with self.assertRaises(KeyError):
                 service.request(name + "?")[order]
+            self.assertEqual(durable["approval"].number, 1)
+            for which in ("fraud score", -1, 2):
+                with self.subTest(which=which), self.assertRaises(KeyError):
+                    durable[which]
 
     def test_a_full_request(self):
         service = DurableService(Memory(), 0, functions=f.functions)

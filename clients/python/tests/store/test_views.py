@@ -44,6 +44,16 @@ class OneNumber(Host):
         return 7
 
 
+class Hosts(unittest.TestCase):
+    def test_a_rest_ends_as_the_service_stops(self):
+        stops, began = threading.Event(), time.monotonic()
+        Host().rest(stops, 0.05)
+        self.assertGreaterEqual(time.monotonic() - began, 0.05)
+        stops.set()
+        Host().rest(stops, 100)
+        self.assertLess(time.monotonic() - began, 20)
+
+
 class Views(Case):
     def view(self, store, session=None):
         return RowView(store,
