@@ -38,6 +38,19 @@ class Workers(unittest.TestCase):
         self.assertEqual([(number, type(error)) for number, error in workers.errors], [(0, SystemExit), (2, KeyError)])
         self.assertEqual([str(desk.callers[0].read(stage).fault) for stage in stages[:3]], ["thrown 3", "thrown 7", "thrown 3"])
 
+    def test_a_worker_rests_while_nothing_is_ready(self):
+        plan = cf.Plan()
+        plan.stage(cf.Form.SOURCE)
+        looks, real = [], cf.Caller.work
+        with unittest.mock.patch.object(cf.Caller, "work", lambda caller, functions: looks.append(caller) or real(caller, functions)):
+            with cf.Workers(plan.open_desk(callers=2, log=4, calls=4).callers[1:], [], pause=100):
+                end = time.monotonic() + 20
+                while not looks and time.monotonic() < end:
+                    time.sleep(0.002)
+                time.sleep(0.02)
+                self.assertEqual(len(looks), 1)
+        self.assertEqual(len(looks), 2)  # and once more as they end
+
     def test_workers_of_which_one_does_not_start(self):
         plan = cf.Plan()
         plan.stage(cf.Form.SOURCE)

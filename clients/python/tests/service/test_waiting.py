@@ -11,7 +11,9 @@ import time
 import unittest
 
 from case import Case, CoreCase, Oops, until
+from cf.service import Service
 from cf.service._core import IS_MODULE
+from cf.service.watch import Watch
 from cf.testing import orders
 
 
@@ -49,6 +51,24 @@ class Waiting(Case):
                 waiter.join(20)
             self.assertEqual(len(woken), 4)
             self.assertIn(set(), woken)
+
+    def test_a_watch_is_told_who_waits(self):
+        class Reads(Watch):
+            def __init__(self):
+                self.stages = []
+
+            def now(self, request):
+                return 0
+
+            def read(self, stage):
+                self.stages.append(stage)
+
+        watch = Reads()
+        with Service(1, watch=watch) as service:
+            promise = service.request("r").promise()
+            watch.stages.clear()
+            with promise._condition:  # as concurrent.futures.wait does
+                self.assertEqual(watch.stages, [promise])
 
     def test_all_are_waited_for_in_every_order(self):
         """Two stages are completed by two callers, before, while and after somebody begins to wait for both."""

@@ -44,6 +44,21 @@ class DurableStages(Case):
             self.assertEqual(durable.first_of(durable.promise(), number).result(20), 17)
             self.assertIsInstance(durable.supply(f.odd).exception(20), TypeError)
 
+    def test_stages_of_many(self):
+        """A tree of stages says what one stage of all would, of however many."""
+        for service, name in self.each():
+            durable = service.request(name)
+            for many in range(2, 6):
+                for last in range(many):
+                    stages = [durable.promise() for _ in range(many)]
+                    together, first = durable.all_of(*stages), durable.first_of(*stages)
+                    stages[last].complete(last)
+                    self.assertEqual(first.result(20), last)
+                    for stage in stages[:last] + stages[last + 1 :]:
+                        self.assertFalse(together.done())
+                        stage.complete(None)
+                    self.assertIsNone(together.result(20))
+
     def test_settling(self):
         for service, name in self.each():
             durable = service.request(name)
@@ -419,6 +434,19 @@ class DurableStages(Case):
         for told in asyncio.run(kinds([durable.promise() for _ in range(4)])):
             self.assertEqual([type(it) for it in told], [asyncio.CancelledError, asyncio.CancelledError, TimeoutError, PermissionError])
 
+    def test_a_callback_that_raises_is_logged_and_the_others_are_called(self):
+        def raises(_):
+            raise KeyError("x")
+
+        stage, called = self.service().request("r").promise("answer"), []
+        for callback in (raises, called.append):
+            stage.add_done_callback(callback)
+        with self.assertLogs("concurrent.futures", "ERROR") as logs:
+            stage.complete(1)
+            self.until(lambda: called)
+        self.assertEqual((called, len(logs.output)), ([stage], 1))
+        self.assertIn("exception calling callback for", logs.output[0])
+
     def test_a_step_of_another_flow(self):
         """It names no stage of the request, whatever stands at its place; the same flow built again does."""
 
@@ -444,6 +472,10 @@ class DurableStages(Case):
                     self.assertIn("is a step of another flow", str(told.exception))
             with self.assertRaises(KeyError):
                 service.request(name + "?")[order]
+            self.assertEqual(durable["approval"].number, 1)
+            for which in ("fraud score", -1, 2):
+                with self.subTest(which=which), self.assertRaises(KeyError):
+                    durable[which]
 
     def test_a_full_request(self):
         service = DurableService(Memory(), 0, functions=f.functions)

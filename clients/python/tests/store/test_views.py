@@ -44,6 +44,16 @@ class OneNumber(Host):
         return 7
 
 
+class Hosts(unittest.TestCase):
+    def test_a_rest_ends_as_the_service_stops(self):
+        stops, began = threading.Event(), time.monotonic()
+        Host().rest(stops, 0.05)
+        self.assertGreaterEqual(time.monotonic() - began, 0.05)
+        stops.set()
+        Host().rest(stops, 100)
+        self.assertLess(time.monotonic() - began, 20)
+
+
 class Views(Case):
     def view(self, store, session=None):
         return RowView(
@@ -56,6 +66,19 @@ class Views(Case):
         view.catch_up()
         done, _ = view.act(lambda view: [(CLAIM << 56 | view.who << 48, None)] if 0 in view.ready else None)
         return done is not None and not done[0].reply[0]
+
+    def test_what_is_said_of_many_stages_is_read_in_one_call(self):
+        store, asked = Memory(), []
+        service = DurableService(store, 0)
+        self.services.append(service)
+        request = service.request("r")
+        names = [request.promise(f"stage {k}").name for k in range(3)]
+        view, real = RowView(store, store.find("r"), new_session()), store.payloads
+        view.catch_up()
+        store.payloads = lambda *given: asked.append(given) or real(*given)
+        for _ in range(2):
+            view.look_up(range(3))
+            self.assertEqual(([view.said(k)["name"] for k in range(3)], len(asked)), (names, 1))
 
     def test_a_lost_reply(self):
         """What was put is known by its token, and isn't put twice."""

@@ -25,10 +25,11 @@ from urllib.parse import urlencode
 from case import Case, CLIENT
 import shared_functions as f
 from cf.service import Flow
-from cf.store import connect, DurableService, Functions, Memory, new_session, Put, RowView, StoreError, Unknown
+from cf.store import Broken, connect, DurableService, Functions, Memory, new_session, Put, RowView, StoreError, Unknown
 from cf.store.plans import text_of
 from cf.store.rows import Changes
 from cf.store.web import server
+from cf.store.web.reading import Readings
 from cf.store.web.server import Server
 from cf.store.web.wording import TEXTS
 
@@ -887,8 +888,9 @@ class Away(WebCase):
         self.until(lambda: "r" in self.rows())
         number = self.one("r")["number"]
         for fault, status in ((Unknown("away <b>"), 503), (StoreError("no <b>"), 409)):
-            store.fault = fault
+            began, store.fault = time.time(), fault
             self.until(lambda: self.data(view="requests")["away"] == str(fault))
+            self.assertTrue(began <= self.data(view="requests")["awaySince"] <= time.time())
             self.assertIn("r", self.rows())  # what was known is shown
             self.assertIn("cf_store_up 0\n", self.ask("GET", "/metrics")[2].decode())
             with unittest.mock.patch.object(self, "one", lambda name: {"number": number}):
@@ -902,6 +904,30 @@ class Away(WebCase):
             self.until(lambda: self.data(view="requests")["away"] == "")
             self.assertIn("cf_store_up 1\n", self.ask("GET", "/metrics")[2].decode())
         self.assertRegex(self.ask("GET", "/metrics")[2].decode(), r"cf_unknown_answers_total [1-9]")
+
+    def test_rows_that_are_read_together_of_a_store_that_is_away(self):
+        """A row that is broken is left out; what the store raises is raised, and is asked again."""
+        store = Memory()
+        number = store.open("r", text_of(None, f.functions)).number
+        readings = Readings(store)
+        for fault in (Unknown("away"), Broken("r", 1, "it doesn't fit"), None):
+            with self.subTest(fault=fault), unittest.mock.patch.object(RowView, "catch_up", side_effect=fault):
+                if isinstance(fault, Unknown):
+                    self.assertRaises(Unknown, readings.reading_all, {"r": number}, True)
+                else:
+                    self.assertEqual(list(readings.reading_all({"r": number}, True)), [] if fault else ["r"])
+
+    def test_a_request_that_is_dropped_before_its_row_is_read(self):
+        store = Memory()
+        board = self.page_over(store).board
+        with unittest.mock.patch.object(type(board), "_read_some", lambda _: None):
+            self.until(lambda: self.data(view="requests")["known"])
+            store.open("r", text_of(None, f.functions))
+            self.until(lambda: "r" in self.rows())
+            self.assertIn("r", board._behind)
+            store.drop("r")
+            self.until(lambda: "r" not in self.rows())
+            self.assertNotIn("r", board._behind)
 
     def test_whatever_a_store_raises(self):
         class Odd(Memory):
