@@ -32,6 +32,12 @@ def below(name: str, crates: Dict[str, List[str]]) -> List[str]:
     return list(dict.fromkeys(order))
 
 
+def edits_of_gate(name: str) -> int:
+    """How many of a crate's wrong bodies ./check tries: those that its file of edits marks."""
+    path = TOP / "crates" / name / "edits"
+    return len(re.findall(r"^== \w+ gate$", path.read_text(encoding="utf-8"), re.M)) if path.is_file() else 0
+
+
 def rattle() -> str:
     """The prover, which rt calls."""
     return str(KIT / "bin/rattle")

@@ -3,7 +3,7 @@ import re
 from pathlib import Path
 from typing import List, NamedTuple, Optional, Sequence, Tuple
 
-from checking.crates import TOP
+from checking.crates import TOP, edits_of_gate, own
 from checking.tools import DEBIANS, JUNIT, POSTGRES, POSTGRES_JDBC, SQLITE_JDBC, Tools
 
 HEADER = "crates/cf_c/include"
@@ -17,7 +17,7 @@ class Row(NamedTuple):
     name: str
     needs: Sequence[str]
     commands: Sequence[Sequence[str]]  # the last one's output is compared
-    prints: Optional[Tuple[str, str]] = None  # the page, or the folder of a README.md, and the name there
+    prints: Optional[Tuple[str, str]] = None  # a page and the name there; or a folder, with a README.md or NAME.out, and the name
     is_shown: bool = False  # whether what it prints is shown, too, where it passes
 
 
@@ -26,11 +26,15 @@ def blocks(folder: str) -> dict:
     return dict(BLOCK.findall((TOP / (folder if folder.endswith(".md") else folder + "/README.md")).read_text()))
 
 
+def wanted(folder: str, name: str) -> Optional[str]:
+    """What a program has to print: by a file of its own, or else by a page."""
+    path = TOP / folder / (Path(name).stem + ".out")
+    return path.read_text(encoding="utf-8") if path.is_file() else blocks(folder).get(name)
+
+
 def rows_of_c(tools: Tools, made: Path) -> List[Row]:
-    """A program that has a block and no file fails, and so does a file without a block."""
     rows = []
-    names = {path.name for path in (TOP / "clients/c").glob("*.c")} | {name for name in blocks("clients/c") if name.endswith(".c")}
-    for name in sorted(names):
+    for name in sorted(path.name for path in (TOP / "clients/c").glob("*.c")):
         plain, checked = str(made / name[:-2]), str(made / (name[:-2] + ".asan"))
         rest = ["-std=c11", "-O1", SEEN, "-pthread", *WARNED, "-I" + HEADER, "clients/c/" + name, str(made / "libcf.a"), "-o"]
         build, prints = [tools["clang"], *rest, plain], ("clients/c", name)
@@ -61,40 +65,88 @@ def rows_of_python(tools: Tools, made: Path) -> List[Row]:
     def example(name: str, file: str, page: str = "clients/python") -> Row:
         """A program of the client's pages, run in the tree."""
         return Row(name, ["library", "python3"], [["env", "PYTHONPATH=clients/python", python, f"clients/python/examples/{file}"]], (page, file))
+
+    durable = f"{python} {TOP}/clients/python/examples/durable.py"  # (which leaves a file where it runs)
+    killed = f"cd {made} && rm -f orders.db* && ({durable} killed; {durable})"
     return [
-        example("Python's example", "example.py"), example("Python's first program", "first.py"),
-        example("Python's spans in a file", "traced.py"), example("Python's order of three processes", "order.py"),
-        example("Python's order whose bank is away", "retry.py"), example("Python's orders in an event loop", "handler.py"),
+        Row(
+            "Python's order whose process is killed",
+            ["library", "python3"],
+            [["env", f"PYTHONPATH={TOP}/clients/python", "sh", "-c", killed]],
+            ("clients/python", "durable.py"),
+        ),
+        example("Python's example", "example.py", "clients/python/examples"),
+        example("Python's handler on an event loop", "async_handler.py"),
+        example("Python's first program", "first.py"),
+        example("Python's spans in a file", "traced.py", "docs/HISTORIES.md"),
+        example("Python's order of three processes", "order.py", "docs/STORES.md"),
+        example("Python's order whose bank is away", "retry.py", "docs/STORES.md"),
+        example("Python's orders in an event loop", "handler.py", "docs/STORES.md"),
         example("Python's order that charges twice", "twice.py", "docs/TESTING.md"),
-        example("Python's orders that charge once", "once.py", "docs/TESTING.md"),
+        example("Python's orders that charge once", "once.py", "clients/python/examples"),
         example("Python's order over a store that charges twice", "killed.py", "docs/TESTING.md"),
-        example("Python's orders over a store that charge once", "keyed.py", "docs/TESTING.md"),
-        Row("services of Python's in every order", ["library", "python3"],
-            [["env", "CF_NO_MODULE=1", python, "-m", "unittest", "discover", "-s", "clients/python/tests/testing"]]),
-        Row("random orders of Python's service beside explore", ["library", "python3", "cf_look"],
-            [["env", "CF_NO_MODULE=1", python, "conformance/clients/python-orders", "short", "0", "100", tools["cf_look"]]]),
-        Row("Python's service by ctypes", ["library", "python3"],
-            [["env", "CF_NO_MODULE=1", "CF_REQUESTS=2000", python, "-m", "unittest", "discover", "-s", "clients/python/tests/service"]]),
-        Row("what waits in Python's service, in every order", ["library", "python3"],
-            [["env", "CF_NO_MODULE=1", python, "clients/python/tests/waits/test_waits.py"]]),
-        Row("Python's service over the C module, installed", ["library", builds],
-            [[tools[builds], "clients/python/tests/installed.py", str(installed)]]),
-        Row("random requests of Python's service by ctypes", ["library", "python3", "cf", "cf_look"],
-            [["env", "CF_NO_MODULE=1", python, "conformance/clients/python-service", "0", "100", *programs]]),
-        Row("random requests of Python's service over the C module", ["library", builds, "cf", "cf_look"],
-            [[*by_module, "conformance/clients/python-service", "0", "1000", *programs]]),
+        example("Python's orders over a store that charge once", "keyed.py", "clients/python/examples"),
+        Row(
+            "services of Python's in every order",
+            ["library", "python3"],
+            [["env", "CF_NO_MODULE=1", python, "-m", "unittest", "discover", "-s", "clients/python/tests/testing"]],
+        ),
+        Row(
+            "random orders of Python's service beside explore",
+            ["library", "python3", "cf_look"],
+            [["env", "CF_NO_MODULE=1", python, "conformance/clients/python-orders", "short", "0", "100", tools["cf_look"]]],
+        ),
+        Row(
+            "Python's service by ctypes",
+            ["library", "python3"],
+            [["env", "CF_NO_MODULE=1", "CF_REQUESTS=2000", python, "-m", "unittest", "discover", "-s", "clients/python/tests/service"]],
+        ),
+        Row(
+            "what waits in Python's service, in every order",
+            ["library", "python3"],
+            [["env", "CF_NO_MODULE=1", python, "clients/python/tests/waits/test_waits.py"]],
+        ),
+        Row(
+            "Python's service over the C module, installed",
+            ["library", builds],
+            [[tools[builds], "clients/python/tests/installed.py", str(installed)]],
+        ),
+        Row(
+            "random requests of Python's service by ctypes",
+            ["library", "python3", "cf", "cf_look"],
+            [["env", "CF_NO_MODULE=1", python, "conformance/clients/python-service", "0", "100", *programs]],
+        ),
+        Row(
+            "random requests of Python's service over the C module",
+            ["library", builds, "cf", "cf_look"],
+            [[*by_module, "conformance/clients/python-service", "0", "1000", *programs]],
+        ),
         Row("Python's requests in SQLite", ["library", "python3"], [[python, "-m", "unittest", "discover", "-s", "clients/python/tests/store"]]),
-        Row("Python's requests in PostgreSQL", ["library", "python3", POSTGRES],
-            [["env", "PYTHONPATH=clients/python/tests/store", tools[POSTGRES], "conformance/stores/over", "python3", "-m", "unittest", *OVER_STORES]]),
-        Row("requests in SQLite whose processes are killed", ["library", "python3", "cf_look"],
-            [[python, "conformance/stores/engines", "short", str(made / "engines"), tools["cf_look"]]]),
-        Row("some of CPython's tests over Python's service", ["library", tested],
-            [[tools[tested], "conformance/clients/python-suites", "FutureTests", "ThreadPoolExecutorTest", "ToThreadTests"]]),
-        Row("Python's ledgers, steps and workers", ["library", "python3"],
-            [[python, "-m", "unittest", "discover", "-s", "clients/python/tests"]]),
-        Row("the types of Python's module", ["mypy", "python3"], [
-            [python, "clients/python/tests/typed.py"],
-            [tools["mypy"], "--strict", "--cache-dir", str(made / "mypy"), "clients/python/cf", "clients/python/tests/typed.py"]]),
+        Row(
+            "Python's requests in PostgreSQL",
+            ["library", "python3", POSTGRES],
+            [["env", "PYTHONPATH=clients/python/tests/store", tools[POSTGRES], "conformance/stores/over", "python3", "-m", "unittest", *OVER_STORES]],
+        ),
+        Row(
+            "requests in SQLite whose processes are killed",
+            ["library", "python3", "cf_look"],
+            [[python, "conformance/stores/engines", "short", str(made / "engines"), tools["cf_look"]]],
+        ),
+        Row(
+            "some of CPython's tests over Python's service",
+            ["library", tested],
+            [[tools[tested], "conformance/clients/python-suites", "FutureTests", "ThreadPoolExecutorTest", "ToThreadTests"]],
+        ),
+        Row("Python's ledgers, steps and workers", ["library", "python3"], [[python, "-m", "unittest", "discover", "-s", "clients/python/tests"]]),
+        Row("the reference of Python's package", ["library", "python3"], [[python, "clients/python/reference", str(made / "reference")]]),
+        Row(
+            "the types of Python's module",
+            ["mypy", "python3"],
+            [
+                [python, "clients/python/tests/typed.py"],
+                [tools["mypy"], "--strict", "--cache-dir", str(made / "mypy"), "clients/python/cf", "clients/python/tests/typed.py"],
+            ],
+        ),
     ]
 
 
@@ -105,9 +157,16 @@ def rows_of_requests(tools: Tools, made: Path) -> List[Row]:
     typed = [tools["mypy"], "--strict", "--allow-untyped-calls", "--follow-imports=silent", "--cache-dir", str(made / "mypy-requests")]
     return [
         Row("random hosts of the machine of a request", ["library", "python3"], [[tools["python3"], folder + "/hosts", "0", "500"]]),
-        Row("histories that the library tells", ["library", "python3", "cf_look"], [[tools["python3"], folder + "/told", "0", "300", tools["cf_look"]]]),
-        Row("the types of the plain machine and its hosts", ["mypy", "python3"],
-            [["env", "MYPYPATH=clients/python", *typed, "conformance/common/machine.py", *parts, folder + "/hosts"]]),
+        Row(
+            "histories that the library tells",
+            ["library", "python3", "cf_look"],
+            [[tools["python3"], folder + "/told", "0", "300", tools["cf_look"]]],
+        ),
+        Row(
+            "the types of the plain machine and its hosts",
+            ["mypy", "python3"],
+            [["env", "MYPYPATH=clients/python", *typed, "conformance/common/machine.py", *parts, folder + "/hosts"]],
+        ),
         Row("the types of what compares histories", ["mypy", "python3"], [["env", "MYPYPATH=clients/python", *typed, folder + "/told"]]),
         Row("random sessions of a row, by their views", ["library", "python3"], [[tools["python3"], "conformance/stores/views", "0", "200"]]),
         Row("the types of what compares views", ["mypy", "python3"], [["env", "MYPYPATH=clients/python", *typed, "conformance/stores/views"]]),
@@ -120,35 +179,115 @@ def rows_of_rust(tools: Tools, made: Path) -> List[Row]:
     testing = [python, offline, "run", "-q", "-p", "cf", "--features", "testing", "--example"]
     stored = [python, offline, "--debian", "run", "-q", "-p", "cf-store", "--features", "testing", "--example"]
     both = "sqlite,postgres"  # (built once)
+    order, orders = made / "cargo/debug/examples/order", made / "rust-orders.db"
+    lints = ["--workspace", "--all-features", "--all-targets", "--", "-D", "warnings"]
+    sources = sorted(str(path.relative_to(TOP)) for path in (TOP / "clients/rust").glob("cf*/**/*.rs"))
     return [
+        Row("the layout of Rust's sources", ["rustfmt"], [["rustfmt", "--check", "--edition", "2021", *sources]]),
+        Row("what clippy says of Rust's sources", ["cargo", "python3", "clippy", DEBIANS], [[python, offline, "--debian", "clippy", "-q", *lints]]),
         Row("Rust's tests", needs, [[python, offline, "test", "-q", "--lib", "--tests", "--examples"]]),
-        Row("Rust's tests under tokio, rayon, serde and tracing", [*needs, DEBIANS],
-            [[python, offline, "--debian", "test", "-q", "-p", "cf", "--features", "tokio,rayon,serde,tracing", "--lib", "--tests"]]),
-        Row("Rust's requests in SQLite", [*needs, "cf_look", DEBIANS],
-            [["env", f"CF_LOOK={tools['cf_look']}", python, offline, "--debian", "test", "-q", "-p", "cf-store", "--features", both, "--tests"]]),
-        Row("Rust's requests in PostgreSQL", [*needs, DEBIANS, POSTGRES],
-            [[tools[POSTGRES], "conformance/stores/over", "python3", offline, "--debian", "test", "-q", "-p", "cf-store", "--features", both, "--tests"]]),
-        Row("Rust's requests in etcd", [*needs, DEBIANS],
-            [[python, offline, "--debian", "test", "-q", "-p", "cf-store", "--features", "etcd", "--tests"]]),
-        Row("Rust's order in SQLite", [*needs, DEBIANS],
-            [[python, offline, "--debian", "run", "-q", "-p", "cf-store", "--features", "sqlite", "--example", "order", "--", str(made / "orders.db")]],
-            ("clients/rust", "cf-store/examples/order.rs")),
-        Row("services of Rust's in every order", needs, [[python, offline, "test", "-q", "-p", "cf", "--features", "testing", "--lib", "--test", "orders"]]),
-        Row("Rust's order that charges twice", needs, [[*testing, "twice"]], ("docs/TESTING.md", "twice.rs")),
-        Row("Rust's orders that charge once", needs, [[*testing, "once"]], ("docs/TESTING.md", "once.rs")),
-        Row("services of Rust's over a store in every order", [*needs, "cf_look", DEBIANS],
-            [["env", f"CF_LOOK={tools['cf_look']}", python, offline, "--debian", "test", "-q", "-p", "cf-store", "--features", "testing", kind]
-             for kind in ["--tests", "--doc"]]),
-        Row("Rust's order over a store that charges twice", [*needs, DEBIANS], [[*stored, "killed"]], ("docs/TESTING.md", "killed.rs")),
-        Row("Rust's orders over a store that charge once", [*needs, DEBIANS], [[*stored, "keyed"]], ("docs/TESTING.md", "keyed.rs")),
-        Row("random orders of Rust's requests beside explore", [*needs, "cf_look"],
-            [[python, "conformance/clients/rust-orders", "short", "0", "100", tools["cf_look"]]]),
+        Row(
+            "Rust's tests under tokio, rayon, serde and tracing",
+            [*needs, DEBIANS],
+            [[python, offline, "--debian", "test", "-q", "-p", "cf", "--features", "tokio,rayon,serde,tracing", "--lib", "--tests"]],
+        ),
+        Row(
+            "Rust's requests in SQLite",
+            [*needs, "cf_look", DEBIANS],
+            [
+                ["env", f"CF_LOOK={tools['cf_look']}", python, offline, "--debian", "test", "-q", "-p", "cf-store", "--features", both, kind]
+                for kind in ["--tests", "--doc"]
+            ],
+        ),
+        Row(
+            "Rust's requests in PostgreSQL",
+            [*needs, DEBIANS, POSTGRES],
+            [
+                [
+                    tools[POSTGRES],
+                    "conformance/stores/over",
+                    "python3",
+                    offline,
+                    "--debian",
+                    "test",
+                    "-q",
+                    "-p",
+                    "cf-store",
+                    "--features",
+                    both,
+                    "--tests",
+                ]
+            ],
+        ),
+        Row(
+            "Rust's requests in etcd",
+            [*needs, DEBIANS],
+            [[python, offline, "--debian", "test", "-q", "-p", "cf-store", "--features", "etcd", "--tests"]],
+        ),
+        Row(
+            "Rust's order whose process is killed",
+            [*needs, DEBIANS],
+            [
+                [python, offline, "--debian", "build", "-q", "-p", "cf-store", "--features", "sqlite", "--example", "order"],
+                ["sh", "-c", f"rm -f {orders}* && ! {order} {orders} die && {order} {orders}"],
+            ],
+            ("clients/rust", "order.rs"),
+        ),
+        Row(
+            "Rust's orders under tokio",
+            [*needs, DEBIANS],
+            [[python, offline, "--debian", "run", "-q", "-p", "cf", "--features", "tokio", "--example", "handler"]],
+            ("clients/rust", "handler.rs"),
+        ),
+        Row(
+            "services of Rust's in every order",
+            needs,
+            [[python, offline, "test", "-q", "-p", "cf", "--features", "testing", "--lib", "--test", "orders"]],
+        ),
+        Row("Rust's order that charges twice", needs, [[*testing, "twice"]], ("clients/rust/cf/examples", "twice.rs")),
+        Row("Rust's orders that charge once", needs, [[*testing, "once"]], ("clients/rust/cf/examples", "once.rs")),
+        Row(
+            "services of Rust's over a store in every order",
+            [*needs, "cf_look", DEBIANS],
+            [
+                ["env", f"CF_LOOK={tools['cf_look']}", python, offline, "--debian", "test", "-q", "-p", "cf-store", "--features", "testing", kind]
+                for kind in ["--tests", "--doc"]
+            ],
+        ),
+        Row(
+            "Rust's order over a store that charges twice", [*needs, DEBIANS], [[*stored, "killed"]], ("clients/rust/cf-store/examples", "killed.rs")
+        ),
+        Row("Rust's orders over a store that charge once", [*needs, DEBIANS], [[*stored, "keyed"]], ("clients/rust/cf-store/examples", "keyed.rs")),
+        Row(
+            "random orders of Rust's requests beside explore",
+            [*needs, "cf_look"],
+            [[python, "conformance/clients/rust-orders", "short", "0", "100", tools["cf_look"]]],
+        ),
         Row("the examples of Rust's pages", needs, [[python, offline, "test", "-q", "--doc", "--features", "cf/testing"]]),
-        Row("Rust's spans", needs, [[python, offline, "run", "-q", "-p", "cf", "--example", "traced"]], ("clients/rust", "traced.rs")),
+        Row(
+            "the reference of Rust's crates",
+            [*needs, DEBIANS],
+            [["env", "RUSTDOCFLAGS=-D warnings", python, offline, "--debian", "doc", "-q", "--no-deps", "--all-features"]],
+        ),
+        Row(
+            "Rust's order whose bank is away",
+            needs,
+            [[python, offline, "run", "-q", "-p", "cf", "--example", "retry"]],
+            ("clients/rust/GUIDE.md", "retry.rs"),
+        ),
+        Row("Rust's spans", needs, [[python, offline, "run", "-q", "-p", "cf", "--example", "traced"]], ("clients/rust/cf/examples", "traced.rs")),
         Row("Rust's first program", needs, [[python, offline, "run", "-q", "-p", "cf", "--example", "first"]], ("clients/rust", "first.rs")),
-        Row("random requests of Rust's crate", [*needs, "cf", "cf_look"],
-            [[python, "conformance/clients/rust-requests", "0", "100", tools["cf"], tools["cf_look"]]]),
-        Row("Rust's example", needs, [[python, offline, "run", "-q", "-p", "cf-graph", "--example", "request"]], ("clients/rust", "cf-graph/examples/request.rs")),
+        Row(
+            "random requests of Rust's crate",
+            [*needs, "cf", "cf_look"],
+            [[python, "conformance/clients/rust-requests", "0", "100", tools["cf"], tools["cf_look"]]],
+        ),
+        Row(
+            "Rust's example",
+            needs,
+            [[python, offline, "run", "-q", "-p", "cf-graph", "--example", "request"]],
+            ("clients/rust/cf-graph/examples", "request.rs"),
+        ),
     ]
 
 
@@ -158,44 +297,119 @@ def rows_of_java(tools: Tools, made: Path) -> List[Row]:
     needs = ["library", "C compiler", "JDK of 17 or later"]
     sources = sorted(str(path) for part in ["test", "example", "opentelemetry"] for path in (TOP / "clients/java" / part).rglob("*.java"))
     junit, every_order = tools.found.get(JUNIT) or "", str(made / "java/junit")
-    built = [["env", "JAVAC=" + javac, "CF_JUNIT=" + junit, "clients/java/build", "--quick", str(made / "java")],
-             [javac, "-nowarn", "-encoding", "UTF-8", "-cp", jar, "-d", tests, *sources]]
+    built = [
+        ["env", "JAVAC=" + javac, "CF_JUNIT=" + junit, "clients/java/build", "--quick", str(made / "java")],
+        [javac, "-nowarn", "-encoding", "UTF-8", "-cp", jar, "-d", tests, *sources],
+    ]
     drivers = [tools.found[it] for it in [SQLITE_JDBC, POSTGRES_JDBC] if tools.found[it]]  # (Java's tests leave out what they have none for)
     java = [str(Path(javac).parent / "java"), "-Xmx64m", "-XX:+UseSerialGC", "-XX:TieredStopAtLevel=1", "-cp", ":".join([jar, tests, *drivers])]
     orders, order = made / "java-orders.db", " ".join(java + ["Order"])
+    shop, worker = made / "java-shop.db", " ".join(java + ["Worker"])
+    made_table = f"import sqlite3; sqlite3.connect('{shop}').execute('create table payment (cents integer)')"
     return [
         Row("Java's service", needs, [*built, [*java, "-Dcf.look=" + tools["cf_look"], "cf.service.AllTests"]]),
         Row("Java's first program", needs, [[*java, "First"]], ("clients/java", "First")),
-        Row("Java's spans", needs, [[*java, "Traced"]], ("clients/java", "Traced")),
-        Row("Java's order that waits for an approval", [*needs, SQLITE_JDBC],
-            [["sh", "-c", f"rm -f {orders}* && {order} {orders} && {order} {orders} Ada && {order} {orders}"]], ("clients/java", "Order")),
-        Row("Java's requests in PostgreSQL", [*needs, POSTGRES, POSTGRES_JDBC], [[tools[POSTGRES], "conformance/stores/over", *java, "cf.service.AllTests"]]),
-        Row("Java's order that charges twice", needs, [[*java, "Twice"]], ("docs/TESTING.md", "Twice")),
-        Row("Java's orders that charge once", needs, [[*java, "Once"]], ("docs/TESTING.md", "Once")),
-        Row("Java's process that is killed in every order", needs, [[*java, "Killed"]], ("docs/TESTING.md", "Killed")),
-        Row("Java's charge with a key in every order", needs, [[*java, "Keyed"]], ("docs/TESTING.md", "Keyed")),
-        Row("Java's tests of JUnit in every order", [*needs, JUNIT], [
-            [javac, "-Xlint:all", "-Werror", "-encoding", "UTF-8", "-cp", f"{jar}:{made}/java/cf-service-junit.jar:{junit}", "-d", every_order,
-             "clients/java/junit/test/cf/service/junit/EveryOrderTest.java"],
-            [*java[:-1], f"{jar}:{made}/java/cf-service-junit.jar:{every_order}:{junit}", "cf.service.junit.EveryOrderTest"]]),
-        Row("random orders of Java's service beside explore", [*needs, "python3", "cf_look"],
-            [[tools["python3"], "conformance/clients/java-orders", "short", jar, "0", "100", tools["cf_look"]]]),
-        Row("random requests of Java's service", [*needs, "python3", "cf", "cf_look"],
-            [[tools["python3"], "conformance/clients/java-service", jar, "0", "1000", tools["cf"], tools["cf_look"]]]),
+        Row(
+            "Java's handler",
+            [*needs, "python3"],
+            [[tools["python3"], "checking/served.py", "/quote?10", "/quote?5000", "--", *java, "Handler", "0"]],
+            ("clients/java", "curl"),
+        ),
+        Row("the listings of Java's guide", needs, [[*java, "Guide"]]),
+        Row("Java's spans", needs, [[*java, "Traced"]], ("clients/java/example", "Traced")),
+        Row(
+            "Java's order that waits for an approval",
+            [*needs, SQLITE_JDBC],
+            [["sh", "-c", f"rm -f {orders}* && {order} {orders} && {order} {orders} Ada && {order} {orders}"]],
+            ("clients/java", "Order"),
+        ),
+        Row(
+            "Java's worker that runs alone",
+            [*needs, "python3", SQLITE_JDBC],
+            [
+                [
+                    "sh",
+                    "-c",
+                    f"rm -f {shop}* && {tools['python3']} -c \"{made_table}\" && {{ {worker} jdbc:sqlite:{shop} & }} && "
+                    f"timeout 60 {worker} jdbc:sqlite:{shop} 'order 17'; kill $!",
+                ]
+            ],
+            ("clients/java/GUIDE.md", "Worker"),
+        ),
+        Row(
+            "Java's requests in PostgreSQL",
+            [*needs, POSTGRES, POSTGRES_JDBC],
+            [[tools[POSTGRES], "conformance/stores/over", *java, "cf.service.AllTests"]],
+        ),
+        Row("Java's order that charges twice", needs, [[*java, "Twice"]], ("clients/java/example", "Twice")),
+        Row("Java's orders that charge once", needs, [[*java, "Once"]], ("clients/java/example", "Once")),
+        Row("Java's process that is killed in every order", needs, [[*java, "Killed"]], ("clients/java/example", "Killed")),
+        Row("Java's charge with a key in every order", needs, [[*java, "Keyed"]], ("clients/java/example", "Keyed")),
+        Row(
+            "Java's tests of JUnit in every order",
+            [*needs, JUNIT],
+            [
+                [
+                    javac,
+                    "-Xlint:all",
+                    "-Werror",
+                    "-encoding",
+                    "UTF-8",
+                    "-cp",
+                    f"{jar}:{made}/java/cf-service-junit.jar:{junit}",
+                    "-d",
+                    every_order,
+                    "clients/java/junit/test/cf/testing/junit/EveryOrderTest.java",
+                ],
+                [*java[:-1], f"{jar}:{made}/java/cf-service-junit.jar:{every_order}:{junit}", "cf.testing.junit.EveryOrderTest"],
+            ],
+        ),
+        Row(
+            "random orders of Java's service beside explore",
+            [*needs, "python3", "cf_look"],
+            [[tools["python3"], "conformance/clients/java-orders", "short", jar, "0", "100", tools["cf_look"]]],
+        ),
+        Row(
+            "random requests of Java's service",
+            [*needs, "python3", "cf", "cf_look"],
+            [[tools["python3"], "conformance/clients/java-service", jar, "0", "1000", tools["cf"], tools["cf_look"]]],
+        ),
     ]
 
 
 def rows_of_languages(tools: Tools, made: Path) -> List[Row]:
     """Requests that processes in three languages share. The jar is built once more, since rows of Java's may run at the same time."""
-    python, javac, jar, classes = tools["python3"], tools["JDK of 17 or later"], str(made / "languages/cf-service.jar"), str(made / "languages/classes")
+    python, javac, jar, classes = (
+        tools["python3"],
+        tools["JDK of 17 or later"],
+        str(made / "languages/cf-service.jar"),
+        str(made / "languages/classes"),
+    )
     java = f"{Path(javac).parent / 'java'} -Xmx64m -XX:+UseSerialGC -XX:TieredStopAtLevel=1 -cp {jar}:{classes}:{tools[SQLITE_JDBC]} Faults"
     workers = [f"CF_RUST_FAULTS={made / 'cargo/debug/examples/faults'}", *([f"CF_JAVA_FAULTS={java}"] if tools.found[SQLITE_JDBC] else [])]
-    return [Row("requests in SQLite that three languages share", ["library", "C compiler", "cargo", DEBIANS, "JDK of 17 or later", "python3", "cf_look"], [
-        [python, "clients/rust/offline", "--debian", "build", "-q", "-p", "cf-store", "--features", "sqlite", "--example", "faults"],
-        ["env", "JAVAC=" + javac, "clients/java/build", "--quick", str(made / "languages")],
-        [javac, "-Xlint:all", "-Werror", "-encoding", "UTF-8", "-cp", jar, "-d", classes,
-         *(f"clients/java/example/{name}.java" for name in ["Faults", "Address"])],
-        ["env", *workers, python, "conformance/stores/engines", "languages", str(made / "languages/run"), tools["cf_look"]]])]
+    return [
+        Row(
+            "requests in SQLite that three languages share",
+            ["library", "C compiler", "cargo", DEBIANS, "JDK of 17 or later", "python3", "cf_look"],
+            [
+                [python, "clients/rust/offline", "--debian", "build", "-q", "-p", "cf-store", "--features", "sqlite", "--example", "faults"],
+                ["env", "JAVAC=" + javac, "clients/java/build", "--quick", str(made / "languages")],
+                [
+                    javac,
+                    "-Xlint:all",
+                    "-Werror",
+                    "-encoding",
+                    "UTF-8",
+                    "-cp",
+                    jar,
+                    "-d",
+                    classes,
+                    *(f"clients/java/example/{name}.java" for name in ["Faults", "Address"]),
+                ],
+                ["env", *workers, python, "conformance/stores/engines", "languages", str(made / "languages/run"), tools["cf_look"]],
+            ],
+        )
+    ]
 
 
 def rows_of_mutants(tools: Tools, made: Path) -> List[Row]:
@@ -204,30 +418,44 @@ def rows_of_mutants(tools: Tools, made: Path) -> List[Row]:
     return [
         Row("the mutants of the examples", ["python3", "JDK of 17 or later"], [["sweeps/mutants", "--examples"]]),
         Row("the exceptions of mutants, read", ["python3", "JDK of 17 or later"], [["sweeps/mutants", "--read"]]),
-        Row("the types of what makes mutants", ["mypy", "python3"], 
-            [["env", "MYPYPATH=sweeps:.", *typed, *its] for its in [["sweeps/mutants", "sweeps/mutating"], ["sweeps/spoilt"]]]),
+        Row(
+            "the types of what makes mutants",
+            ["mypy", "python3"],
+            [["env", "MYPYPATH=sweeps:.", *typed, *its] for its in [["sweeps/mutants", "sweeps/mutating"], ["sweeps/edits/clients"]]],
+        ),
+    ]
+
+
+def rows_of_lint() -> List[Row]:
+    python, c, java = ["black", "flake8"], ["clang-format"], ["JDK of 17 or later", JUNIT]
+    return [
+        Row(f"{name} as its usual tools want it", ["git", "python3", *needs], [["sweeps/lint", name.lower()]])
+        for name, needs in [("Python", python), ("C", c), ("Java", java)]
     ]
 
 
 def edited() -> List[str]:
     """The crates whose wrong bodies are tried together."""
-    return sorted(path.name for path in (TOP / "sweeps/must-fail").iterdir())
+    return [name for name in sorted(own()) if edits_of_gate(name)]
 
 
 def rows_of_edits() -> List[Row]:
-    return [Row(f"wrong bodies of {name}", ["rt", f"proofs below {name}"], [["sweeps/edits", "--gate", name]]) for name in edited()]
+    return [Row(f"wrong bodies of {name}", ["rt", f"proofs below {name}"], [["sweeps/edits/crates", "--gate", name]]) for name in edited()]
 
 
 def rows(tools: Tools, made: Path, is_gate: bool) -> List[Row]:
     header, clang, browser = HEADER + "/cf.h", tools["clang"], "Chromium with its driver, selenium for Python"
     compiling = [clang, "-std=c11", "-O1", *WARNED, "-I" + HEADER]
-    ample, asked, meets, overlapping = ([*compiling, name + ".c", str(made / "libcf.a"), "-pthread", "-o", str(made / Path(name).name)]
-                                        for name in ["sweeps/ample", "sweeps/bytes", "sweeps/meets", "conformance/desks/overlaps"])
+    ample, asked, meets, overlapping = (
+        [*compiling, name + ".c", str(made / "libcf.a"), "-pthread", "-o", str(made / Path(name).name)]
+        for name in ["sweeps/ample", "sweeps/bytes", "sweeps/meets", "conformance/desks/overlaps"]
+    )
     return [
         *(rows_of_edits() if is_gate else []),
-        Row("the edits of the crates, read", ["python3"], [["sweeps/edits", "--read"]]),
-        Row("the edits that spoil the clients, read", ["python3"], [["sweeps/spoilt", "--read"]]),
+        Row("the edits of the crates, read", ["python3"], [["sweeps/edits/crates", "--read"]]),
+        Row("the edits that spoil the clients, read", ["python3"], [["sweeps/edits/clients", "--read"]]),
         *rows_of_mutants(tools, made),
+        *rows_of_lint(),
         Row("what a program can check of the pages", ["python3"], [["sweeps/pages"]]),
         Row("where want of memory is told, and that nothing is kept from being freed", ["python3"], [["sweeps/memory"]]),
         Row("what of sweeps and conformance waits for a run", ["python3", "git"], [["sweeps/runs"]], is_shown=True),
@@ -241,20 +469,30 @@ def rows(tools: Tools, made: Path, is_gate: bool) -> List[Row]:
         Row("the memory that calls ask for", ["library", "clang"], [asked, [str(made / "bytes")]]),
         Row("callers that meet while others leave", ["library", "clang"], [meets, [str(made / "meets")]]),
         Row("what calls from C cost, in instructions", ["library", "C compiler", "valgrind", "python3"], [["bench/library/counts", "--check"]]),
-        Row("what stages cost in the product, in instructions", ["cf_bench", "valgrind", "python3"],
-            [["env", "-u", "CF_LIBRARY_DIR", "bench/library/counts", "--check", tools["cf_bench"]]]),
+        Row(
+            "what stages cost in the product, in instructions",
+            ["cf_bench", "valgrind", "python3"],
+            [["env", "-u", "CF_LIBRARY_DIR", "bench/library/counts", "--check", tools["cf_bench"]]],
+        ),
         freed(tools, made, "cf_look", "explore", "examples/explore/complete-or-cancel.json"),
         freed(tools, made, "cf", "race", "examples/race-fan-out.json"),
         Row("calls of threads that overlap, in real time", ["library", "clang"], [overlapping, [str(made / "overlaps"), "20000"]]),
         Row("rows of scripts and their reports", ["cf", "cf_look"], [["tests/rows", tools["cf"], tools["cf_look"]]]),
         Row("calls that stand in their callers' code", ["cf_bench", "binutils"], [["sweeps/inline", tools["cf_bench"]]]),
-        Row("races whose threads are refused", ["cf", "C compiler"], [["env", "CC=" + tools["C compiler"], "sweeps/refused", "--threads", tools["cf"]]]),
+        Row(
+            "races whose threads are refused",
+            ["cf", "C compiler"],
+            [["env", "CC=" + tools["C compiler"], "sweeps/refused", "--threads", tools["cf"]]],
+        ),
         Row("runs whose memory is refused", ["cf", "C compiler"], [["env", "CC=" + tools["C compiler"], "sweeps/refused", "--memory", tools["cf"]]]),
         Row("words, streams and pipes of cf", ["cf"], [["sweeps/words", tools["cf"]]]),
         Row("inputs of all sizes in ample memory", ["cf", "cf_look"], [["sweeps/sizes", "short", tools["cf"], tools["cf_look"]]]),
         Row("pages in a browser", ["cf_look", browser], [[tools[browser], "conformance/programs/pages", "short", tools["cf_look"]]]),
-        Row("the page of a store in a browser", ["library", "cf_look", browser],
-            [[tools[browser], "conformance/stores/page", "short", tools["cf_look"]]]),
+        Row(
+            "the page of a store in a browser",
+            ["library", "cf_look", browser],
+            [[tools[browser], "conformance/stores/page", "short", tools["cf_look"]]],
+        ),
         *rows_of_python(tools, made),
         *rows_of_requests(tools, made),
         *rows_of_rust(tools, made),

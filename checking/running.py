@@ -6,7 +6,7 @@ from pathlib import Path
 from typing import Callable, Dict, List, Optional, Sequence, Set, Tuple
 
 from checking.crates import TOP, below, own
-from checking.rows import Row, blocks
+from checking.rows import Row, wanted
 from checking.tools import Tools
 
 SECONDS = 600  # for a command of a row
@@ -36,10 +36,10 @@ def wrong(row: Row, environment: dict) -> str:
     if fault or row.prints is None:
         return fault
     folder, name = row.prints
-    wanted = blocks(folder).get(name)
-    if wanted is None:
-        return f"{folder} has no block of what `{name}` prints"
-    return "\n".join(difflib.unified_diff(wanted.splitlines(), output.splitlines(), folder, "printed", lineterm=""))
+    text = wanted(folder, name)
+    if text is None:
+        return f"{folder} doesn't say what `{name}` prints"
+    return "\n".join(difflib.unified_diff(text.splitlines(), output.splitlines(), folder, "printed", lineterm=""))
 
 
 class Counts:

@@ -9,14 +9,17 @@ from typing import List, Optional
 from checking.crates import TOP
 
 PROGRAMS = ["cf", "cf_look", "cf_bench"]  # that rows call
+PATHS = ["rt", "python3", "cargo", "valgrind", "pkg-config", "cmake", "mypy", "black", "flake8", "clang-format"]
 DEBIAN = Path("/usr/share/cargo/registry")
 CRATES = ["base64", "futures", "getrandom", "rayon", "rusqlite", "rustix", "serde", "serde_json", "tokio", "tokio-postgres", "tracing"]
 DEBIANS = f"Debian's crates of {', '.join(CRATES)}"
 POSTGRES = "Debian's postgresql-15 and python3-psycopg2"
 JARS = Path("/usr/share/java")
 JUNIT = "JUnit 5, as Debian's junit5 has it"
-SQLITE_JDBC, POSTGRES_JDBC = (f"the driver for Java of {engine}, as Debian's {package} has it" for engine, package in
-                              [("SQLite", "libxerial-sqlite-jdbc-java"), ("PostgreSQL", "libpostgresql-jdbc-java")])
+SQLITE_JDBC, POSTGRES_JDBC = (
+    f"the driver for Java of {engine}, as Debian's {package} has it"
+    for engine, package in [("SQLite", "libxerial-sqlite-jdbc-java"), ("PostgreSQL", "libpostgresql-jdbc-java")]
+)
 NOTHING = "int main(void) { return 0; }\n"
 
 
@@ -32,7 +35,9 @@ class Tools:
 
     def __init__(self, made: Path) -> None:
         self.made = made
-        self.found = {name: shutil.which(name) for name in ["rt", "python3", "cargo", "valgrind", "pkg-config", "cmake", "mypy"]}
+        self.found = {name: shutil.which(name) for name in PATHS}
+        self.found["rustfmt"] = self.answering(["rustfmt", "--version"])
+        self.found["clippy"] = self.answering(["cargo", "clippy", "--version"])
         self.found["git"] = shutil.which("git") if (TOP / ".git").exists() else None
         compilers = [self.of_kit(), "clang"]
         self.found["clang"] = self.first(compilers, "#include <stdbool.h>\n" + NOTHING, "-fsyntax-only")
@@ -68,6 +73,12 @@ class Tools:
             if subprocess.run(command, stdout=subprocess.DEVNULL, stderr=subprocess.DEVNULL).returncode == 0:
                 return compiler
         return None
+
+    @staticmethod
+    def answering(command: List[str]) -> Optional[str]:
+        """The program of a command that ends with status 0. What rustup has for a part of Rust that isn't installed doesn't."""
+        is_there = shutil.which(command[0]) and subprocess.run(command, stdout=subprocess.DEVNULL, stderr=subprocess.DEVNULL).returncode == 0
+        return command[0] if is_there else None
 
     @staticmethod
     def importing(pythons: List[str], modules: str) -> Optional[str]:

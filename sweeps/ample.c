@@ -13,8 +13,8 @@
 #include <string.h>
 
 static const uint32_t SIZES[] = {0, 1, 2, 3, 4, 5, 7, 8, 9, 15, 16, 17, 31, 32, 33, 63, 64, 65, 127, 128, 129, 255, 256, 257, 511, 512, 513,
-    1000, 1001, 1023, 1024, 1025, 2047, 2048, 2049, 4094, 4095, 4096, 4097, 8191, 8192, 8193, 16383, 16384, 16385, 20000, 20001, 32767, 32768, 32769,
-    65534, 65535};
+    1000, 1001, 1023, 1024, 1025, 2047, 2048, 2049, 4094, 4095, 4096, 4097, 8191, 8192, 8193, 16383, 16384, 16385, 20000, 20001, 32767,
+    32768, 32769, 65534, 65535};
 enum { COUNT = sizeof SIZES / sizeof *SIZES, STAGES = 4096, EDGES = 16384, LIMITS = 4096, CALLERS = 64, STEPS = 20000, TEXT = 1048576 };
 enum { WORDS = 131073 }; /* of a ledger, which has no bound */
 
@@ -134,7 +134,11 @@ static void close_all(cf_handle *callers, uint32_t n) {
 
 static void desk(cf_handle *plan, uint32_t n, uint32_t log, uint32_t calls, uint32_t room) {
   cf_handle callers[CALLERS + 1] = {{0}};
-  uint32_t wanted = n == 0 || n > CALLERS ? CF_CALLERS : log == 0 ? CF_LOG : calls == 0 ? CF_CALLS : 1 + room > STAGES || 2 * room > EDGES ? CF_ROOM : CF_OK;
+  uint32_t wanted = n == 0 || n > CALLERS                   ? CF_CALLERS
+                    : log == 0                              ? CF_LOG
+                    : calls == 0                            ? CF_CALLS
+                    : 1 + room > STAGES || 2 * room > EDGES ? CF_ROOM
+                                                            : CF_OK;
   uint32_t code = room == 0 ? cf_desk_open(plan, callers, n, (uint16_t)log, (uint16_t)calls)
                             : cf_desk_open_growing(plan, callers, n, (uint16_t)log, (uint16_t)calls, (uint16_t)room, 8);
   if (wants(code, wanted, "desk_open", log, calls) == CF_OK) {

@@ -16,40 +16,36 @@
 #include <unistd.h>
 
 struct device {
-    size_t most;
-    char how[16];
-    uint64_t first, last;
+  size_t most;
+  char how[16];
+  uint64_t first, last;
 };
 
 static struct device devices[2];
 static uint64_t *counts;
 
 __attribute__((constructor)) static void open_devices(void) {
-    const char *names[2] = {"DEVICE_0", "DEVICE_1"};
-    for (int k = 0; k < 2; k++) {
-        const char *said = getenv(names[k]);
-        struct device *it = &devices[k];
-        if (said && sscanf(said, "%zu %15s %lu %lu", &it->most, it->how, &it->first, &it->last) != 4)
-            _exit(125);
-    }
-    counts = mmap(NULL, 2 * sizeof *counts, PROT_READ | PROT_WRITE, MAP_SHARED, 9, 0);
-    if (counts == MAP_FAILED)
-        _exit(125);
+  const char *names[2] = {"DEVICE_0", "DEVICE_1"};
+  for (int k = 0; k < 2; k++) {
+    const char *said = getenv(names[k]);
+    struct device *it = &devices[k];
+    if (said && sscanf(said, "%zu %15s %lu %lu", &it->most, it->how, &it->first, &it->last) != 4) _exit(125);
+  }
+  counts = mmap(NULL, 2 * sizeof *counts, PROT_READ | PROT_WRITE, MAP_SHARED, 9, 0);
+  if (counts == MAP_FAILED) _exit(125);
 }
 
 /* Moves bytes by the call of this number, as the device lets it. */
 static ssize_t move(int fd, long number, void *bytes, size_t size) {
-    if ((number == SYS_read) != (fd == 0) || fd > 1)
-        return syscall(number, fd, bytes, size);
-    const struct device *it = &devices[fd];
-    uint64_t count = ++counts[fd];
-    if (it->first && count >= it->first && (it->last == 0 || count <= it->last)) {
-        if (strcmp(it->how, "nothing") == 0)
-            return 0;
-        errno = strcmp(it->how, "interrupt") == 0 ? EINTR : EIO;
-        return -1;
-    }
-    return syscall(number, fd, bytes, it->most && it->most < size ? it->most : size);
+  if ((number == SYS_read) != (fd == 0) || fd > 1) return syscall(number, fd, bytes, size);
+  const struct device *it = &devices[fd];
+  uint64_t count = ++counts[fd];
+  if (it->first && count >= it->first && (it->last == 0 || count <= it->last)) {
+    if (strcmp(it->how, "nothing") == 0) return 0;
+    errno = strcmp(it->how, "interrupt") == 0 ? EINTR : EIO;
+    return -1;
+  }
+  return syscall(number, fd, bytes, it->most && it->most < size ? it->most : size);
 }
 
 ssize_t read(int fd, void *to, size_t size) { return move(fd, SYS_read, to, size); }

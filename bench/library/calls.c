@@ -147,8 +147,8 @@ static void time_desks(void) {
 }
 
 int main(void) {
-  struct times *const calls[] = {&handle_graph, &graph_ready, &graph_claim, &graph_finish, &graph_outcome, &graph_complete,
-                                 &handle_desk, &desk_ready, &desk_claim, &desk_finish, &desk_outcome};
+  struct times *const calls[] = {&handle_graph, &graph_ready, &graph_claim, &graph_finish, &graph_outcome, &graph_complete, &handle_desk,
+      &desk_ready, &desk_claim, &desk_finish, &desk_outcome};
   time_graphs();
   time_desks();
   for (size_t i = 0; i < sizeof calls / sizeof calls[0]; i++) show(calls[i], FAN - 1);

@@ -267,7 +267,8 @@ static void count_chained(void) {
   cf_free(&request);
   request = open_request(&plan, 1, 2 * CHAINED);
   for (uint16_t i = 0; i < CHAINED; i++)
-    MUST(cf_request_apply(&request, word_of((cf_event){.call = CF_CALL_ATTACH, .form = CF_APPLY, .sources = 1, .first = i}), 0, &applied, told, 4));
+    MUST(cf_request_apply(
+        &request, word_of((cf_event){.call = CF_CALL_ATTACH, .form = CF_APPLY, .sources = 1, .first = i}), 0, &applied, told, 4));
   request_gather(&request, sources);
   cf_free(&request), cf_free(&plan);
   say("request_attach", CHAINED), say("request_run", CHAINED), say("request_gather", CHAINED);
@@ -392,7 +393,7 @@ static void count_calls(cf_handle *graph) {
 }
 
 static void count_graph(cf_handle *plan) {
-  static void (*const ways[])(cf_handle *graph) = {graph_next, graph_sweep, graph_work, graph_round};
+  static void (*const ways[])(cf_handle * graph) = {graph_next, graph_sweep, graph_work, graph_round};
   cf_handle graph = {0};
   MUST(cf_graph_new(plan, 0, &graph));
   count_calls(&graph);
@@ -497,7 +498,10 @@ static void count_completions(cf_handle *plan) {
 }
 
 int main(int count, char **given_words) {
-  static const struct { const char *name; enum shape shape; } shapes[] = {{"chain", CHAIN}, {"fan-out", FAN_OUT}, {"sources", SOURCES}};
+  static const struct {
+    const char *name;
+    enum shape shape;
+  } shapes[] = {{"chain", CHAIN}, {"fan-out", FAN_OUT}, {"sources", SOURCES}};
   for (size_t i = 0; i < sizeof shapes / sizeof shapes[0]; i++) {
     if (count != 2 || strcmp(given_words[1], shapes[i].name) != 0) continue;
     cf_handle plan = plan_of(shapes[i].shape, STAGES);

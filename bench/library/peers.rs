@@ -11,12 +11,12 @@ use super::{one_more, show, PARTS, THREADS};
 use std::time::{Duration, Instant};
 
 #[cfg(any(feature = "futures", feature = "tokio"))]
-#[path = "../left.rs"]
+#[path = "../parts/left.rs"]
 #[cfg_attr(not(feature = "tokio"), allow(dead_code))]
 mod left;
 
 #[cfg(feature = "futures")]
-#[path = "../joined.rs"]
+#[path = "../parts/joined.rs"]
 mod joined;
 
 #[cfg(feature = "futures")]

@@ -13,8 +13,7 @@
 #include "cf.h"
 
 typedef struct {
-  PyObject_HEAD
-  cf_handle graph;
+  PyObject_HEAD cf_handle graph;
   cf_task task;
 } Chain;
 
@@ -134,12 +133,21 @@ static PyObject *chain_outcome(PyObject *object, PyObject *stage) {
 }
 
 static PyMethodDef methods[] = {
-    {"start", chain_start, METH_O, NULL},     {"next", chain_next, METH_O, NULL},   {"work", chain_work, METH_O, NULL},
-    {"begin", chain_begin, METH_NOARGS, NULL}, {"sweep", chain_sweep, METH_O, NULL}, {"end", chain_end, METH_NOARGS, NULL},
-    {"outcome", chain_outcome, METH_O, NULL}, {NULL, NULL, 0, NULL},
+    {"start", chain_start, METH_O, NULL},
+    {"next", chain_next, METH_O, NULL},
+    {"work", chain_work, METH_O, NULL},
+    {"begin", chain_begin, METH_NOARGS, NULL},
+    {"sweep", chain_sweep, METH_O, NULL},
+    {"end", chain_end, METH_NOARGS, NULL},
+    {"outcome", chain_outcome, METH_O, NULL},
+    {NULL, NULL, 0, NULL},
 };
 static PyType_Slot slots[] = {
-    {Py_tp_new, PyType_GenericNew}, {Py_tp_init, chain_init}, {Py_tp_dealloc, chain_dealloc}, {Py_tp_methods, methods}, {0, NULL},
+    {Py_tp_new, PyType_GenericNew},
+    {Py_tp_init, chain_init},
+    {Py_tp_dealloc, chain_dealloc},
+    {Py_tp_methods, methods},
+    {0, NULL},
 };
 static PyType_Spec spec = {"step_module.Chain", sizeof(Chain), 0, Py_TPFLAGS_DEFAULT, slots};
 static PyModuleDef module = {PyModuleDef_HEAD_INIT, "step_module", NULL, -1, NULL, NULL, NULL, NULL, NULL};

@@ -71,12 +71,11 @@ enum { WAYS = 5 };
 static void (*const ways[WAYS])(cf_handle *graph) = {by_three, by_next, by_work, by_round, by_sweep};
 
 static struct times chain[WAYS] = {{.name = "per request chain 512"}, {.name = "per request chain 512, by cf_next"},
-                                   {.name = "per request chain 512, by cf_work"}, {.name = "per request chain 512, by cf_round"},
-                                   {.name = "per request chain 512, by cf_sweep_next"}};
+    {.name = "per request chain 512, by cf_work"}, {.name = "per request chain 512, by cf_round"},
+    {.name = "per request chain 512, by cf_sweep_next"}};
 static struct times fan_out[WAYS] = {{.name = "per request fan-out 512"}, {.name = "per request fan-out 512, by cf_next"},
-                                     {.name = "per request fan-out 512, by cf_work"},
-                                     {.name = "per request fan-out 512, by cf_round"},
-                                     {.name = "per request fan-out 512, by cf_sweep_next"}};
+    {.name = "per request fan-out 512, by cf_work"}, {.name = "per request fan-out 512, by cf_round"},
+    {.name = "per request fan-out 512, by cf_sweep_next"}};
 static struct times all_of = {.name = "per request allOf 512"};
 
 static void must_hold(cf_handle *graph, uint16_t stage, uint32_t kind, int32_t number) {
@@ -173,8 +172,8 @@ static void by_ledger_step(cf_handle *ledger) {
   must_be(!task.held && task.finished == CF_WON, "a finish");
 }
 
-static struct times ledger_chain[LEDGER_WAYS] = {{.name = "ledger chain 512"}, {.name = "ledger chain 512, by cf_ledger_step"},
-                                                 {.name = "ledger chain 512, by cf_ledger_apply_all"}};
+static struct times ledger_chain[LEDGER_WAYS] = {
+    {.name = "ledger chain 512"}, {.name = "ledger chain 512, by cf_ledger_step"}, {.name = "ledger chain 512, by cf_ledger_apply_all"}};
 
 /* The ways in turn; the last does the words that the first has written. */
 static void time_ledgers(void) {
@@ -320,8 +319,7 @@ static void time_race(cf_handle *plan, int way) {
   uint64_t since = moment();
   if (way == 0)
     for (uint16_t i = 0; i < RACED; i++) MUST(cf_desk_complete(&caller, i, number(i), &reply));
-  else
-    MUST(cf_desk_complete_many(&caller, given, RACED, &done));
+  else MUST(cf_desk_complete_many(&caller, given, RACED, &done));
   add(&race[way], since);
   MUST(cf_desk_read(&caller, RACED - 1, &last));
   must_be(last.kind == CF_VALUE && last.value.number == RACED - 1, "a completion");

@@ -184,9 +184,14 @@ def took(way):
 
 def main(library, *module):
     chain = ByCtypes(library)
-    ways = {"ctypes, three calls": chain.by_three, "ctypes, by cf_next": chain.by_next, "ctypes, by cf_sweep_next": chain.by_sweep,
-            "ctypes, by cf_round": chain.by_round, "ctypes, by cf_ledger_step": chain.by_ledger_step,
-            "ctypes, by cf_desk_next": chain.by_desk_next}
+    ways = {
+        "ctypes, three calls": chain.by_three,
+        "ctypes, by cf_next": chain.by_next,
+        "ctypes, by cf_sweep_next": chain.by_sweep,
+        "ctypes, by cf_round": chain.by_round,
+        "ctypes, by cf_ledger_step": chain.by_ledger_step,
+        "ctypes, by cf_desk_next": chain.by_desk_next,
+    }
     for path in module:
         built = ByModule(path)
         ways.update({"module, by cf_next": built.by_next, "module, by cf_sweep_next": built.by_sweep, "module, by work": built.by_work})

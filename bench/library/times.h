@@ -19,7 +19,11 @@ static inline void must_be(bool is_so, const char *what) { must(is_so ? CF_OK : 
 
 /* ---- Times ---- */
 
-struct times { const char *name; uint64_t nanos[MOST_ROUNDS]; size_t rounds; };
+struct times {
+  const char *name;
+  uint64_t nanos[MOST_ROUNDS];
+  size_t rounds;
+};
 
 static inline uint64_t moment(void) {
   struct timespec now;
@@ -54,12 +58,9 @@ static inline cf_handle plan_of(enum shape shape, uint16_t stages) {
   for (uint16_t i = 0; i < stages; i++) {
     const uint16_t of = shape == CHAIN && i > 0 ? (uint16_t)(i - 1) : 0;
     below[i] = i;
-    if (shape == ALL_OF && i == stages - 1)
-      MUST(cf_builder_stage(&plan, CF_ALL_OF, below, i, CF_NO_FUNCTION, &number));
-    else if (shape == SOURCES || shape == ALL_OF || i == 0)
-      MUST(cf_builder_stage(&plan, CF_SOURCE, NULL, 0, CF_NO_FUNCTION, &number));
-    else
-      MUST(cf_builder_stage(&plan, CF_APPLY, &of, 1, 0, &number));
+    if (shape == ALL_OF && i == stages - 1) MUST(cf_builder_stage(&plan, CF_ALL_OF, below, i, CF_NO_FUNCTION, &number));
+    else if (shape == SOURCES || shape == ALL_OF || i == 0) MUST(cf_builder_stage(&plan, CF_SOURCE, NULL, 0, CF_NO_FUNCTION, &number));
+    else MUST(cf_builder_stage(&plan, CF_APPLY, &of, 1, 0, &number));
   }
   MUST(cf_build(&plan));
   free(below);

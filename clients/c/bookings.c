@@ -12,8 +12,7 @@ enum { TRAVELLERS = 2, FLIGHT_PRICE = 180, HOTEL_PRICE = 150, HOTEL_FALLBACK = 2
 enum { ORDER, FLIGHT, HOTEL, CAR_A, CAR_B, CAR, BEDS, TOTAL, PAY, PLANNED };
 enum { F_FLIGHT, F_HOTEL, F_CAR_A, F_CAR_B, F_SUM, F_PAY, F_OTHER_CARD, F_RETRY, FUNCTIONS };
 static const char *const names[PLANNED + ROOM] = {
-  "order", "flight", "hotel", "car firm A", "car firm B", "car", "flight + hotel", "total", "payment", "other card", "paid"
-};
+    "order", "flight", "hotel", "car firm A", "car firm B", "car", "flight + hotel", "total", "payment", "other card", "paid"};
 
 /* The one place where codes are tested: it answers the code if it is CF_OK or the other that is expected, and else ends the program. */
 static uint32_t must(uint32_t code, uint32_t also, const char *call) {
@@ -29,9 +28,12 @@ static uint32_t must(uint32_t code, uint32_t also, const char *call) {
 #define THREAD(call) ((void)must((call) == 0 ? CF_OK : CF_NOTHING, CF_OK, #call))
 
 /* A bell by which threads rest: rung after each changing call, so that nobody has to look again before something was done. */
-static struct { pthread_mutex_t lock; pthread_cond_t changed; unsigned rung; bool over; } bell = {
-  PTHREAD_MUTEX_INITIALIZER, PTHREAD_COND_INITIALIZER, 0, false
-};
+static struct {
+  pthread_mutex_t lock;
+  pthread_cond_t changed;
+  unsigned rung;
+  bool over;
+} bell = {PTHREAD_MUTEX_INITIALIZER, PTHREAD_COND_INITIALIZER, 0, false};
 static void ring(bool over) {
   THREAD(pthread_mutex_lock(&bell.lock));
   bell.rung++;

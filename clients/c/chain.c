@@ -6,7 +6,13 @@
 
 enum { LENGTH = 16, ME = 1, OWN = 0, LANE = 0, ROOM = 4 };
 
-#define DO(call) do { if ((call) != CF_OK) { fprintf(stderr, "%s\n", #call); exit(1); } } while (0)
+#define DO(call)                                                                                                                           \
+  do {                                                                                                                                     \
+    if ((call) != CF_OK) {                                                                                                                 \
+      fprintf(stderr, "%s\n", #call);                                                                                                      \
+      exit(1);                                                                                                                             \
+    }                                                                                                                                      \
+  } while (0)
 
 static uint64_t word_of(cf_event event) {
   uint64_t word;

@@ -23,7 +23,11 @@ static void build(cf_handle *plan, uint16_t sources) {
   row("build", cf_build(plan), CF_OK);
 }
 
-struct worker { cf_handle caller; uint32_t last; int done; };
+struct worker {
+  cf_handle caller;
+  uint32_t last;
+  int done;
+};
 
 /* A caller's loop. It ends once all stages are settled, or with a code that it doesn't know. */
 static void *work(void *given) {
@@ -180,7 +184,8 @@ static void rows_refused(cf_handle *plan) {
   row("none", cf_desk_complete_many(&caller, NULL, 0, &done), CF_OK);
   holds("none was done", done == 0);
   row("the third isn't there", cf_desk_complete_many(&caller, given, 4, &done), CF_NO_STAGE);
-  holds("two were done", done == 2 && cf_desk_read(&caller, 1, &outcome) == CF_OK && outcome.kind == CF_VALUE && outcome.value.kind == CF_NIL);
+  holds("two were done",
+      done == 2 && cf_desk_read(&caller, 1, &outcome) == CF_OK && outcome.kind == CF_VALUE && outcome.value.kind == CF_NIL);
   row("the second has no record", cf_desk_complete_many(&caller, given, 2, &done), CF_PASS_FULL);
   holds("one was done", done == 1);
   cf_free(&caller);

@@ -5,7 +5,13 @@
 
 enum { OFFERS = 5, ME = 1, OWN = 0, ROOM = 2 * (OFFERS - 1), TOLD = OFFERS + ROOM };
 
-#define DO(call) do { if ((call) != CF_OK) { fprintf(stderr, "%s\n", #call); exit(1); } } while (0)
+#define DO(call)                                                                                                                           \
+  do {                                                                                                                                     \
+    if ((call) != CF_OK) {                                                                                                                 \
+      fprintf(stderr, "%s\n", #call);                                                                                                      \
+      exit(1);                                                                                                                             \
+    }                                                                                                                                      \
+  } while (0)
 
 static uint16_t all, quickest;
 

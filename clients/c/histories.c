@@ -8,7 +8,13 @@
 enum { LOAD, CHARGE, SORRY, MAIL }; /* MAIL is attached */
 enum { OWN, ME, CLERK, EVENTS = 16 };
 
-#define DO(call) do { if ((call) != CF_OK) { fprintf(stderr, "%s\n", #call); exit(1); } } while (0)
+#define DO(call)                                                                                                                           \
+  do {                                                                                                                                     \
+    if ((call) != CF_OK) {                                                                                                                 \
+      fprintf(stderr, "%s\n", #call);                                                                                                      \
+      exit(1);                                                                                                                             \
+    }                                                                                                                                      \
+  } while (0)
 #define ROW(call, wanted) row(#call, (call), (wanted))
 #define HOLDS(fact) holds(#fact, (fact))
 

@@ -6,12 +6,18 @@
 #include <stdlib.h>
 #include <time.h>
 
-enum { STOCK, PRICE, TOTAL, ANSWER, MAIL, STAGES };   /* MAIL is attached */
+enum { STOCK, PRICE, TOTAL, ANSWER, MAIL, STAGES }; /* MAIL is attached */
 enum { WORKERS, MAILER, LANES, ME = 1, OWN = 0, ROW = 2, NOBODY_MAILS = 503 };
 enum { ASK_STOCK, MULTIPLY, SEND };
 static const char *const names[STAGES] = {"stock", "price", "total", "answer", "mail"};
 
-#define DO(call) do { if ((call) != CF_OK) { fprintf(stderr, "%s\n", #call); exit(1); } } while (0)
+#define DO(call)                                                                                                                           \
+  do {                                                                                                                                     \
+    if ((call) != CF_OK) {                                                                                                                 \
+      fprintf(stderr, "%s\n", #call);                                                                                                      \
+      exit(1);                                                                                                                             \
+    }                                                                                                                                      \
+  } while (0)
 
 /* The functions of the stages. */
 static cf_answer call(const cf_task *task) {

@@ -5,7 +5,13 @@
 
 enum { ME = 1, OWN = 0, ROOM = 3, TOLD = 8, CUSTOMER = 0, FIND_CARD = 7 };
 
-#define DO(call) do { if ((call) != CF_OK) { fprintf(stderr, "%s\n", #call); exit(1); } } while (0)
+#define DO(call)                                                                                                                           \
+  do {                                                                                                                                     \
+    if ((call) != CF_OK) {                                                                                                                 \
+      fprintf(stderr, "%s\n", #call);                                                                                                      \
+      exit(1);                                                                                                                             \
+    }                                                                                                                                      \
+  } while (0)
 
 static void say(const cf_told *told, size_t n) {
   for (size_t k = 0; k < n; k++) printf("stage %u: %d\n", (unsigned)told[k].stage, told[k].outcome.value.number);

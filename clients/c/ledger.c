@@ -117,7 +117,8 @@ static void again(cf_handle *plan, cf_handle *ledger) {
     cf_stage ours, theirs;
     row("a stage", cf_ledger_stage(ledger, stage, &ours), CF_OK);
     row("the same of the copy", cf_ledger_stage(&copy, stage, &theirs), CF_OK);
-    holds("they are the same", ours.kind == theirs.kind && ours.who == theirs.who && ours.outcome.value.number == theirs.outcome.value.number);
+    holds("they are the same",
+        ours.kind == theirs.kind && ours.who == theirs.who && ours.outcome.value.number == theirs.outcome.value.number);
   }
   row("a full handle", cf_ledger_of(plan, 1, words, n, &copy, &place), CF_FULL);
   cf_free(&copy);

@@ -49,13 +49,11 @@ static void *second(void *caller) {
   cf_desk_seen(caller, &after);
   cf_desk_fail_as(caller, 0, CF_TIMED_OUT, &reply);
   printf("%s: %d events seen, then %d; the notice is %s; timed out: %u\n", cf_code_name(heeded), before, after,
-         notice.full ? "there" : "used up", reply.answer);
+      notice.full ? "there" : "used up", reply.answer);
   return NULL;
 }
 
-static void open_desk(cf_handle *plan, cf_handle *callers) {
-  row("a desk", cf_desk_open(plan, callers, CALLERS, LOG, LOG), CF_OK);
-}
+static void open_desk(cf_handle *plan, cf_handle *callers) { row("a desk", cf_desk_open(plan, callers, CALLERS, LOG, LOG), CF_OK); }
 
 static void refusals(cf_handle *plan) {
   cf_handle callers[CALLERS] = {{0}}, others[CALLERS] = {{0}}, notice = {0}, empty = {0};

@@ -13,8 +13,16 @@ enum { STOCK_OR = SOURCES, PRICE_ANY, PRICE, PRICE_OR, ADDRESS_OR, COST, ORDER, 
 static const char *const names[SOURCES] = {"stock", "price A", "price B", "the retry", "address"};
 
 /* A supplier's answer: how long after it is asked, and the value, or the fault where that isn't 0. */
-struct supply { uint32_t after, fault; int32_t value; };
-struct order { const char *name; int32_t count; uint32_t cancelled_at; struct supply supplies[SOURCES]; };
+struct supply {
+  uint32_t after, fault;
+  int32_t value;
+};
+struct order {
+  const char *name;
+  int32_t count;
+  uint32_t cancelled_at;
+  struct supply supplies[SOURCES];
+};
 
 /* `due`: when a supplier that was asked answers. */
 struct shop {
@@ -27,19 +35,21 @@ static uint32_t said(const char *call, uint32_t code) {
   fprintf(stderr, "%s: answered %u\n", call, (unsigned)code);
   return code;
 }
-#define TRY(call) do { uint32_t code_ = (call); if (code_ != CF_OK) return said(#call, code_); } while (0)
+#define TRY(call)                                                                                                                          \
+  do {                                                                                                                                     \
+    uint32_t code_ = (call);                                                                                                               \
+    if (code_ != CF_OK) return said(#call, code_);                                                                                         \
+  } while (0)
 
 static void ask(struct shop *shop, uint16_t source) { shop->due[source] = shop->now + shop->order->supplies[source].after; }
 
 /* ---- Functions of stages ---- */
 
-static cf_answer give(int32_t number) {
-  return (cf_answer){.kind = CF_GIVE, .value = {CF_INT, number}};
-}
+static cf_answer give(int32_t number) { return (cf_answer){.kind = CF_GIVE, .value = {CF_INT, number}}; }
 
 static cf_answer fallback(struct shop *shop, const cf_args *args, const char *what, int32_t number) {
-  printf("%4u  no %s (%s): %d instead\n", (unsigned)shop->now, what,
-         args->outcome.kind == CF_TIMED_OUT ? "timed out" : "failed", (int)number);
+  printf(
+      "%4u  no %s (%s): %d instead\n", (unsigned)shop->now, what, args->outcome.kind == CF_TIMED_OUT ? "timed out" : "failed", (int)number);
   return give(number);
 }
 static cf_answer stock_seen(struct shop *shop, const cf_args *args) { return fallback(shop, args, "stock", STOCK_SEEN); }
@@ -70,12 +80,17 @@ static cf_answer receipt(struct shop *shop, const cf_args *args) {
 }
 
 enum { F_STOCK_SEEN, F_PRICE_AGAIN, F_LIST_PRICE, F_PICK_UP, F_COST, F_TOTAL, F_RECEIPT };
-static cf_answer (*const functions[])(struct shop *, const cf_args *) = {stock_seen, price_again, list_price, pick_up,
-                                                                         cost, total, receipt};
+static cf_answer (*const functions[])(struct shop *, const cf_args *) = {
+    stock_seen, price_again, list_price, pick_up, cost, total, receipt};
 
 /* ---- The plan ---- */
 
-static const struct { uint32_t form; size_t n; uint16_t of[2]; uint32_t function, limit; } stages[STAGES] = {
+static const struct {
+  uint32_t form;
+  size_t n;
+  uint16_t of[2];
+  uint32_t function, limit;
+} stages[STAGES] = {
     [STOCK] = {CF_SOURCE, 0, {0}, CF_NO_FUNCTION, 50},
     [PRICE_A] = {CF_SOURCE, 0, {0}, CF_NO_FUNCTION, 0},
     [PRICE_B] = {CF_SOURCE, 0, {0}, CF_NO_FUNCTION, 0},

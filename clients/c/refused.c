@@ -12,11 +12,33 @@ static const uint16_t NEVER = UINT16_MAX;
 
 /* What calls write. Each is filled with one byte before, and has to be so afterwards. */
 static struct {
-  cf_reply reply; cf_task task; cf_outcome outcome; cf_now now; cf_record record; cf_event event; cf_stage stage; cf_step step;
-  cf_applied applied; cf_request_gathering gathering; cf_request_composing composing; cf_request_linking linking;
-  cf_request_step turn; cf_told told[2]; cf_deadline deadline; cf_request_done done; cf_request_call call;
-  cf_news news[2]; uint64_t words[2]; uint16_t stages[2]; uint8_t text[TEXT]; uint16_t number; uint8_t small; uint32_t calls; uint64_t word;
-  cf_row_claim claim; size_t n;
+  cf_reply reply;
+  cf_task task;
+  cf_outcome outcome;
+  cf_now now;
+  cf_record record;
+  cf_event event;
+  cf_stage stage;
+  cf_step step;
+  cf_applied applied;
+  cf_request_gathering gathering;
+  cf_request_composing composing;
+  cf_request_linking linking;
+  cf_request_step turn;
+  cf_told told[2];
+  cf_deadline deadline;
+  cf_request_done done;
+  cf_request_call call;
+  cf_news news[2];
+  uint64_t words[2];
+  uint16_t stages[2];
+  uint8_t text[TEXT];
+  uint16_t number;
+  uint8_t small;
+  uint32_t calls;
+  uint64_t word;
+  cf_row_claim claim;
+  size_t n;
 } out;
 
 static void fill(void) { memset(&out, 0xa5, sizeof out); }
@@ -175,9 +197,7 @@ static void caller_calls(cf_handle *h, uint32_t wanted) {
   ROW(cf_desk_heed(h, &empty), wanted);
 }
 
-static void closing_calls(cf_handle *h, uint32_t wanted) {
-  ROW(cf_close_end(h), wanted);
-}
+static void closing_calls(cf_handle *h, uint32_t wanted) { ROW(cf_close_end(h), wanted); }
 
 static void closed_calls(cf_handle *h, uint32_t wanted) {
   ROW(cf_closed_events(h, &out.number), wanted);
@@ -190,9 +210,8 @@ static void closed_calls(cf_handle *h, uint32_t wanted) {
 /* ---- One handle of each kind ---- */
 
 enum kind { BUILDER, PLAN, GRAPH, SWEEP, LEDGER, REQUEST, VIEW, HISTORY, CALLER, CLOSING, CLOSED, KINDS };
-static void (*const calls_of[KINDS])(cf_handle *h, uint32_t wanted) = {builder_calls, plan_calls, graph_calls, sweep_calls,
-                                                                       ledger_calls, request_calls, view_calls, history_calls,
-                                                                       caller_calls, closing_calls, closed_calls};
+static void (*const calls_of[KINDS])(cf_handle *h, uint32_t wanted) = {builder_calls, plan_calls, graph_calls, sweep_calls, ledger_calls,
+    request_calls, view_calls, history_calls, caller_calls, closing_calls, closed_calls};
 static cf_handle held[KINDS], other_caller;
 
 static void build(cf_handle *builder) {

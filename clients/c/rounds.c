@@ -19,9 +19,7 @@ static void build(cf_handle *plan) {
   row("build", cf_build(plan), CF_OK);
 }
 
-static cf_answer ten_times(const cf_task *task) {
-  return (cf_answer){.kind = CF_GIVE, .value = {CF_INT, task->function * 10}};
-}
+static cf_answer ten_times(const cf_task *task) { return (cf_answer){.kind = CF_GIVE, .value = {CF_INT, task->function * 10}}; }
 
 /* What a round of workers is: all that is held is answered at once, and the next round is claimed. */
 static void by_rounds(cf_handle *graph) {

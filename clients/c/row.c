@@ -8,11 +8,20 @@
 enum { PRICE, TOTAL, STAGES };
 enum { DOUBLE = 0, ENTRIES = 16, COUNT_BITS = 23 };
 
-#define DO(call) do { if ((call) != CF_OK) { fprintf(stderr, "%s\n", #call); exit(1); } } while (0)
+#define DO(call)                                                                                                                           \
+  do {                                                                                                                                     \
+    if ((call) != CF_OK) {                                                                                                                 \
+      fprintf(stderr, "%s\n", #call);                                                                                                      \
+      exit(1);                                                                                                                             \
+    }                                                                                                                                      \
+  } while (0)
 
 /* ---- The store: a group of entries stands whole or not at all, and only where nothing stands yet ---- */
 
-static struct { cf_entry entries[ENTRIES]; size_t count; } store;
+static struct {
+  cf_entry entries[ENTRIES];
+  size_t count;
+} store;
 
 static void put(size_t place, const cf_entry *group, size_t n) {
   if (place != store.count || n > ENTRIES - place) return;
@@ -22,7 +31,12 @@ static void put(size_t place, const cf_entry *group, size_t n) {
 
 /* ---- A session ---- */
 
-typedef struct { const char *name; uint64_t number; cf_handle view; cf_args args; } session;
+typedef struct {
+  const char *name;
+  uint64_t number;
+  cf_handle view;
+  cf_args args;
+} session;
 
 static session ann = {.name = "ann", .number = 700}, bob = {.name = "bob", .number = 800};
 

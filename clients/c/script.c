@@ -4,9 +4,8 @@
 #include <stdlib.h>
 #include <string.h>
 
-static const char five[] =
-    "{\"cf\": 1, \"stages\": [{\"form\": \"source\"}, {\"form\": \"apply\", \"of\": [0], \"fn\": {\"add\": 5}}],"
-    " \"steps\": [[\"complete\", 0, 3], [\"work\"], [\"now\", 1]]}";
+static const char five[] = "{\"cf\": 1, \"stages\": [{\"form\": \"source\"}, {\"form\": \"apply\", \"of\": [0], \"fn\": {\"add\": 5}}],"
+                           " \"steps\": [[\"complete\", 0, 3], [\"work\"], [\"now\", 1]]}";
 static const char wrong[] = "{\"cf\": 1, \"stages\": [{\"form\": \"apply\", \"of\": [0], \"fn\": {\"add\": 5}}]}";
 
 static void show(const uint8_t *text, size_t length) { printf("%.*s", (int)length, (const char *)text); }

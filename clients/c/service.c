@@ -18,22 +18,31 @@ enum { THREADS = 4, TRIES = 3, STEP = 5, SOON = 20, LAST = 20000, MOMENTS = LAST
 enum { ROOM = TRIES - 1, WORK = 200, LOG = THREADS * (MOMENTS + WORK), CALLS = 2 * (MOMENTS + WORK), BUSY = 503 };
 
 /* The stages, by the numbers that they get in this order. */
-enum {
-  PROFILE, BASKET, ADS, NEWS, NEWS_OR, REPLICA_A, REPLICA_B, FIRST, PRICE, STOCK_TRY, STOCK, PARTS, PAGE, STAGES
-};
+enum { PROFILE, BASKET, ADS, NEWS, NEWS_OR, REPLICA_A, REPLICA_B, FIRST, PRICE, STOCK_TRY, STOCK, PARTS, PAGE, STAGES };
 static const uint16_t parts[] = {PROFILE, BASKET, ADS, NEWS_OR, PRICE, STOCK};
 enum { PARTS_COUNT = sizeof parts / sizeof parts[0] };
 
-struct service { cf_handle plan, callers[THREADS], fresh; struct timespec began; };
+struct service {
+  cf_handle plan, callers[THREADS], fresh;
+  struct timespec began;
+};
 
 /* A thread: its caller, the last moment that it told, and how it ended. */
-struct worker { struct service *service; cf_handle *caller; uint32_t told, code; };
+struct worker {
+  struct service *service;
+  cf_handle *caller;
+  uint32_t told, code;
+};
 
 static uint32_t said(const char *call, uint32_t code) {
   fprintf(stderr, "%s: answered %u\n", call, (unsigned)code);
   return code;
 }
-#define TRY(call) do { uint32_t code_ = (call); if (code_ != CF_OK) return said(#call, code_); } while (0)
+#define TRY(call)                                                                                                                          \
+  do {                                                                                                                                     \
+    uint32_t code_ = (call);                                                                                                               \
+    if (code_ != CF_OK) return said(#call, code_);                                                                                         \
+  } while (0)
 
 /* ---- Time ---- */
 
@@ -69,7 +78,10 @@ static uint32_t wait_for(struct worker *me, uint16_t stage) {
 
 /* ---- Functions of stages ---- */
 
-struct job { uint16_t stage, function; cf_args args; };
+struct job {
+  uint16_t stage, function;
+  cf_args args;
+};
 
 static cf_answer give(int32_t number) { return (cf_answer){.kind = CF_GIVE, .value = {CF_INT, number}}; }
 
@@ -142,7 +154,12 @@ _Static_assert(FUNCTIONS == F_TRY + TRIES, "each try has a number of its own");
 /* ---- The plan ---- */
 
 enum { ONE = 1, TWO = 2 };
-static const struct { uint32_t form; const uint16_t *of; size_t n; uint32_t function, limit, kind; } stages[STAGES] = {
+static const struct {
+  uint32_t form;
+  const uint16_t *of;
+  size_t n;
+  uint32_t function, limit, kind;
+} stages[STAGES] = {
     [PROFILE] = {CF_SUPPLY, NULL, 0, F_ASK, LAST, CF_TIMEOUT},
     [BASKET] = {CF_SUPPLY, NULL, 0, F_ASK, LAST, CF_TIMEOUT},
     [ADS] = {CF_SUPPLY, NULL, 0, F_ASK_TOO_SLOW, SOON, CF_GIVE_VALUE},
@@ -243,7 +260,9 @@ static uint32_t serve(struct service *service) {
 /* ---- The history, done again ---- */
 
 /* How many replies, looks and outcomes were compared, and how many weren't the fresh graph's; how many stages were claimed twice. */
-struct found { unsigned compared, different, twice; };
+struct found {
+  unsigned compared, different, twice;
+};
 
 /* No padding is in these, so equal ones have equal bytes. */
 _Static_assert(sizeof(cf_reply) == 12 * sizeof(uint32_t) && sizeof(cf_outcome) == 5 * sizeof(uint32_t), "no padding");
@@ -293,8 +312,8 @@ static uint32_t check_event(cf_handle *closed, cf_handle *fresh, uint16_t place,
   TRY(cf_event_of(word, &event));
   TRY(cf_apply(fresh, word, &reply));
   TRY(cf_closed_record(closed, event.who, next[event.who]++, &record));
-  compare(found, record.kind == CF_DID && record.word == word && record.place == place + 1u &&
-                     memcmp(&reply, &record.reply, sizeof reply) == 0);
+  compare(found,
+      record.kind == CF_DID && record.word == word && record.place == place + 1u && memcmp(&reply, &record.reply, sizeof reply) == 0);
   if (event.call == CF_CALL_CLAIM && reply.answer == CF_GRANTED) {
     found->twice += claimed[event.stage];
     claimed[event.stage] = true;

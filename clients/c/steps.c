@@ -69,7 +69,8 @@ static void refused(cf_handle *plan, cf_handle *graph) {
   task.stage = 0;
   memcpy(&kept, &task, sizeof task);
   row("a stage of another caller", cf_next(graph, OTHER, &task), CF_NOT_HELD);
-  holds("the task stays, and the next stage is ready", !memcmp(&kept, &task, sizeof task) && cf_lowest_ready(graph, &ready) == CF_OK && ready == 1);
+  holds("the task stays, and the next stage is ready",
+      !memcmp(&kept, &task, sizeof task) && cf_lowest_ready(graph, &ready) == CF_OK && ready == 1);
 
   cf_reply reply;
   row("the stage is cancelled", cf_cancel(graph, 0, &reply), CF_OK);

@@ -40,8 +40,9 @@ def by_library(path):
             report = ctypes.create_string_buffer(room)
             status = library.cf_run_script(text, ctypes.c_size_t(len(text)), report, ctypes.c_size_t(room), ctypes.byref(length))
             if length.value <= room:
-                return status, report.raw[:length.value].decode()
+                return status, report.raw[: length.value].decode()
             room = length.value
+
     return run
 
 

@@ -13,7 +13,7 @@ class Differs(Exception):
 
 def numbers(words, defaults):
     """The numbers that the words are, and for those that aren't given the defaults."""
-    return [int(word) for word in words[:len(defaults)]] + defaults[len(words):]
+    return [int(word) for word in words[: len(defaults)]] + defaults[len(words) :]
 
 
 def batch(task):

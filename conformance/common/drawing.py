@@ -6,13 +6,27 @@ HEAD = """digraph plan {
   node [fontname="Helvetica", fontsize=11];
   edge [fontname="Helvetica", fontsize=9];
 """
-SHAPES = {"source": "ellipse", "handle": "hexagon", "whenComplete": "hexagon", "exceptionally": "hexagon",
-          "compose": "parallelogram", "exceptionallyCompose": "parallelogram", "allOf": "invtrapezium", "anyOf": "invhouse",
-          **{form: "invtrapezium" for form in model.BOTH}, **{form: "invhouse" for form in model.EITHER}}
-LOOKS = {"pending": 'style="filled,dotted", fillcolor=gray95', "ready": 'style="filled,bold", fillcolor=khaki1',
-         "claimed": 'style="filled,bold,dashed", fillcolor=lightblue', "linked": 'style="filled,dashed", fillcolor=lightblue',
-         "value": "style=filled, fillcolor=darkseagreen1", "fault": "style=filled, peripheries=2, fillcolor=lightcoral",
-         "cancelled": 'style="filled,dashed", peripheries=2, fillcolor=burlywood1'}
+SHAPES = {
+    "source": "ellipse",
+    "handle": "hexagon",
+    "whenComplete": "hexagon",
+    "exceptionally": "hexagon",
+    "compose": "parallelogram",
+    "exceptionallyCompose": "parallelogram",
+    "allOf": "invtrapezium",
+    "anyOf": "invhouse",
+    **{form: "invtrapezium" for form in model.BOTH},
+    **{form: "invhouse" for form in model.EITHER},
+}
+LOOKS = {
+    "pending": 'style="filled,dotted", fillcolor=gray95',
+    "ready": 'style="filled,bold", fillcolor=khaki1',
+    "claimed": 'style="filled,bold,dashed", fillcolor=lightblue',
+    "linked": 'style="filled,dashed", fillcolor=lightblue',
+    "value": "style=filled, fillcolor=darkseagreen1",
+    "fault": "style=filled, peripheries=2, fillcolor=lightcoral",
+    "cancelled": 'style="filled,dashed", peripheries=2, fillcolor=burlywood1',
+}
 
 
 def function_text(said):
@@ -81,7 +95,6 @@ def picture(script):
         what = f"timeout {limit.at}"
         if limit.outcome[0] == "value":
             what = f"complete {limit.at} value {model.value_text(limit.outcome[1])}"
-        lines += [f'l{k} [label="{what}", shape=note, style=solid, fontsize=9];',
-                  f"l{k} -> s{limit.stage} [style=dotted, arrowhead=none];"]
+        lines += [f'l{k} [label="{what}", shape=note, style=solid, fontsize=9];', f"l{k} -> s{limit.stage} [style=dotted, arrowhead=none];"]
         edges += 1
     return HEAD + "".join(f"  {line}\n" for line in lines) + "}\n", edges

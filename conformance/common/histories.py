@@ -6,9 +6,27 @@ Nothing of it is taken from the product's code.
 import model
 
 # The forms by the numbers that words have for them.
-FORMS = ["source", "supply", "runAsync", "apply", "accept", "thenRun", "combine", "acceptBoth", "runBoth", "applyEither",
-         "acceptEither", "runEither", "compose", "handle", "whenComplete", "exceptionally", "allOf", "anyOf",
-         "exceptionallyCompose"]
+FORMS = [
+    "source",
+    "supply",
+    "runAsync",
+    "apply",
+    "accept",
+    "thenRun",
+    "combine",
+    "acceptBoth",
+    "runBoth",
+    "applyEither",
+    "acceptEither",
+    "runEither",
+    "compose",
+    "handle",
+    "whenComplete",
+    "exceptionally",
+    "allOf",
+    "anyOf",
+    "exceptionallyCompose",
+]
 KINDS = ["complete", "fail", "cancel", "claim", "finish", "tick", "attach", "failAs"]
 FAILURES = ["timeout", "badanswer"]  # by the tags that words have for them
 
@@ -18,6 +36,7 @@ def signed(low):
 
 
 # Words.
+
 
 def value_fields(v):
     return (0, 0) if v is None else (1, v % 2**32)
@@ -100,6 +119,7 @@ def event_of(word):
 
 
 # The verdict.
+
 
 def unfit(state, event, callers, functions):
     """Why an event can't stand there, if it can't."""

@@ -5,25 +5,141 @@ import re
 
 TOKEN = re.compile(r'"(?:[^"\\]|\\.)*"|-?[0-9][0-9.eE+-]*|[\[\]{}:,]|[a-z]+')
 
-NUMBERS = ["0", "-0", "0.0", "1.0", "1e0", "1E+0", "10e-1", "0e999999999999", "1e-999999999999", "1e308", "1.7976931348623157e308", "1e309",
-           "-1e400", "1e999999999999", "01", "-01", "+1", "1.", ".5", "-", "--1", "1e", "1e+", "1.e1", "0x10", "1_000", "1f", "NaN",
-           "Infinity", "-Infinity", "\uff11", "127", "128", "4095", "4096", "65535", "65536", "2147483647", "2147483648",
-           "-2147483648", "-2147483649", "4294967295", "4294967296", "9223372036854775807", "9223372036854775808",
-           "-9223372036854775808", "-9223372036854775809", "18446744073709551615", "18446744073709551616", "9" * 400, "0." + "3" * 400,
-           "1" + "0" * 30, "1" + "0" * 309]
+NUMBERS = [
+    "0",
+    "-0",
+    "0.0",
+    "1.0",
+    "1e0",
+    "1E+0",
+    "10e-1",
+    "0e999999999999",
+    "1e-999999999999",
+    "1e308",
+    "1.7976931348623157e308",
+    "1e309",
+    "-1e400",
+    "1e999999999999",
+    "01",
+    "-01",
+    "+1",
+    "1.",
+    ".5",
+    "-",
+    "--1",
+    "1e",
+    "1e+",
+    "1.e1",
+    "0x10",
+    "1_000",
+    "1f",
+    "NaN",
+    "Infinity",
+    "-Infinity",
+    "\uff11",
+    "127",
+    "128",
+    "4095",
+    "4096",
+    "65535",
+    "65536",
+    "2147483647",
+    "2147483648",
+    "-2147483648",
+    "-2147483649",
+    "4294967295",
+    "4294967296",
+    "9223372036854775807",
+    "9223372036854775808",
+    "-9223372036854775808",
+    "-9223372036854775809",
+    "18446744073709551615",
+    "18446744073709551616",
+    "9" * 400,
+    "0." + "3" * 400,
+    "1" + "0" * 30,
+    "1" + "0" * 309,
+]
 
-TEXTS = ['""', '"\\u0000"', '"\\ud800"', '"\\udc00"', '"\\ud83d\\ude00"', '"\\ude00\\ud83d"', '"\\ud800x"', '"\\u12"', '"\\u12g4"', '"\\x41"', '"\\"',
-         '"\\/"', '"\x00"', '"\x1f"', '"\x7f"', '"\n"', '"\ufeff"', '"\u2028"', "'a'", '"', '"a', '"\\u0063f"', '"st\\u0061ges"', '"\\u0073teps"',
-         '"Stages"', '"cf "', '"stages\\u0000"', '"of"', '"fn"', '"form"', '"room"', '"limits"', '"wor\\u006b"', '"\U0001f600"', '"' + "x" * 5_000 + '"']
+TEXTS = [
+    '""',
+    '"\\u0000"',
+    '"\\ud800"',
+    '"\\udc00"',
+    '"\\ud83d\\ude00"',
+    '"\\ude00\\ud83d"',
+    '"\\ud800x"',
+    '"\\u12"',
+    '"\\u12g4"',
+    '"\\x41"',
+    '"\\"',
+    '"\\/"',
+    '"\x00"',
+    '"\x1f"',
+    '"\x7f"',
+    '"\n"',
+    '"\ufeff"',
+    '"\u2028"',
+    "'a'",
+    '"',
+    '"a',
+    '"\\u0063f"',
+    '"st\\u0061ges"',
+    '"\\u0073teps"',
+    '"Stages"',
+    '"cf "',
+    '"stages\\u0000"',
+    '"of"',
+    '"fn"',
+    '"form"',
+    '"room"',
+    '"limits"',
+    '"wor\\u006b"',
+    '"\U0001f600"',
+    '"' + "x" * 5_000 + '"',
+]
 
-WORDS = ["null", "true", "false", "nul", "True", "None", "undefined", "nulll", "//", "/**/", "#", ";", "=", "\ufeff", "\x00", "\x0b", "\x0c", "\u00a0"]
+WORDS = [
+    "null",
+    "true",
+    "false",
+    "nul",
+    "True",
+    "None",
+    "undefined",
+    "nulll",
+    "//",
+    "/**/",
+    "#",
+    ";",
+    "=",
+    "\ufeff",
+    "\x00",
+    "\x0b",
+    "\x0c",
+    "\u00a0",
+]
 
 BRACKETS = ["[", "]", "{", "}", "[]", "{}", ":", ",", ",,", "::", "[,]", "{,}", "[1,]", '{"a":1,}', '{"a"}', "{1:2}", "(", ")"]
 
 # A null byte, a mark of the order of bytes, and what is no UTF-8: a byte that only follows, one that isn't followed, a text
 # that could be shorter, half of a pair, and a number that is too great.
-BYTES = [b"\x00", b"\xef\xbb\xbf", b"\x80", b"\xc3", b"\xc0\x80", b"\xe0\x80\x80", b"\xed\xa0\x80", b"\xed\xbf\xbf", b"\xf4\x90\x80\x80", b"\xf8\x88\x80\x80\x80",
-         b"\xff", b"\xfe\xff", b"\xe2\x82", b"\xf0\x9f\x98"]
+BYTES = [
+    b"\x00",
+    b"\xef\xbb\xbf",
+    b"\x80",
+    b"\xc3",
+    b"\xc0\x80",
+    b"\xe0\x80\x80",
+    b"\xed\xa0\x80",
+    b"\xed\xbf\xbf",
+    b"\xf4\x90\x80\x80",
+    b"\xf8\x88\x80\x80\x80",
+    b"\xff",
+    b"\xfe\xff",
+    b"\xe2\x82",
+    b"\xf0\x9f\x98",
+]
 
 
 def alike(rng, token):
@@ -41,7 +157,7 @@ def deep(rng, token):
     """A token within so many lists and objects, which all end, or seldom don't."""
     opened = [rng.choice(["[", '{"a":']) for _ in range(rng.choice([1, 120, 124, 125, 126, 127, 128, 129, 2_000]))]
     closed = ["]" if it == "[" else "}" for it in reversed(opened)]
-    return "".join(opened) + token + "".join(closed[rng.random() < 0.1:])
+    return "".join(opened) + token + "".join(closed[rng.random() < 0.1 :])
 
 
 def change(rng, tokens):
@@ -70,7 +186,7 @@ def twice(rng, tokens, at):
         at = rng.choice(objects)
         name = tokens[at + 1] if rng.random() < 0.6 else rng.choice(TEXTS)
         member = [name, ":", alike(rng, tokens[at + 3])]
-        tokens[at + 1:at + 1] = member + ([] if tokens[at + 1] == "}" else [","])
+        tokens[at + 1 : at + 1] = member + ([] if tokens[at + 1] == "}" else [","])
 
 
 def hostile(rng, script):
@@ -84,5 +200,7 @@ def hostile(rng, script):
         at = rng.randrange(len(data) + 1)
         data = data[:at] + rng.choice(BYTES) + data[at:]
     if rng.random() < 0.1:
-        data = rng.choice([data + data, data + b"]", data + b"}", data + b",", b"[" + data + b"]", data[1:], data[:-1], b" " + data + b"\r\n\t ", b""])
+        data = rng.choice(
+            [data + data, data + b"]", data + b"}", data + b",", b"[" + data + b"]", data[1:], data[:-1], b" " + data + b"\r\n\t ", b""]
+        )
     return data

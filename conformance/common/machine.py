@@ -198,8 +198,7 @@ class Machine:
         before = self.state
         reply, self.state = model.answered(before, event)
         self.events.append(event)
-        self.told += [i for i in range(self.stages())
-                         if self.is_settled(i) and (i >= len(before.stages) or model.outcome(before, i) is None)]
+        self.told += [i for i in range(self.stages()) if self.is_settled(i) and (i >= len(before.stages) or model.outcome(before, i) is None)]
         self.see_gathered(-1 if event[0] in ("attach", "tick") else event[2])
         return tuple(reply)
 

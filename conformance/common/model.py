@@ -18,8 +18,7 @@ Plan = namedtuple("Plan", "stages limits")
 State = namedtuple("State", "plan room stages claims last used")
 
 NO_SOURCE = {"source", "supply", "runAsync"}
-ONE_SOURCE = {"apply", "accept", "thenRun", "compose", "handle", "whenComplete", "exceptionally",
-              "exceptionallyCompose"}
+ONE_SOURCE = {"apply", "accept", "thenRun", "compose", "handle", "whenComplete", "exceptionally", "exceptionallyCompose"}
 BOTH = {"combine", "acceptBoth", "runBoth"}
 EITHER = {"applyEither", "acceptEither", "runEither"}
 GIVES_VALUE = {"supply", "apply", "combine", "applyEither", "handle", "exceptionally"}
@@ -127,7 +126,7 @@ def start(plan, room=0):
 
 
 def put(items, i, item):
-    return items[:i] + (item,) + items[i + 1:]
+    return items[:i] + (item,) + items[i + 1 :]
 
 
 def fits_form(form, sources, has_function):
@@ -220,6 +219,7 @@ def lowest_ready(state):
 
 # Functions as scripts write them.
 
+
 def int32(n):
     return (n + 2**31) % 2**32 - 2**31
 
@@ -274,6 +274,7 @@ def call(function, args):
 
 # Scripts.
 
+
 def stage_of(said, functions):
     """The stage that an object asks for. Its function, if it has one, is put behind the others."""
     number = len(functions) if "fn" in said else None
@@ -285,9 +286,10 @@ def plan_of(script):
     """The plan of a script that is right, and its functions by their numbers."""
     functions = []
     stages = [stage_of(s, functions) for s in script["stages"]]
-    limits = [Limit(m["stage"], m["at"],
-                    ("fault", ("timeout",), False) if m["kind"] == "timeout" else ("value", m["value"]))
-              for m in script.get("limits", [])]
+    limits = [
+        Limit(m["stage"], m["at"], ("fault", ("timeout",), False) if m["kind"] == "timeout" else ("value", m["value"]))
+        for m in script.get("limits", [])
+    ]
     return Plan(tuple(stages), tuple(sorted(limits, key=lambda m: m.at))), functions
 
 
@@ -365,6 +367,7 @@ def stage_lines(state):
 
 
 # Texts.
+
 
 def value_text(v):
     return "nil" if v is None else str(v)

@@ -11,10 +11,16 @@ STEPS = ["complete", "fail", "cancel", "now", "outcome", "join", "attach"]
 
 def program(path):
     """What asks cf_look."""
+
     def explore(said):
         ran = subprocess.run([path, "explore", "--json"], input=json.dumps(said), stdout=subprocess.PIPE, stderr=subprocess.DEVNULL, encoding="utf-8")
         told = json.loads(ran.stdout)
-        return None if not told["whole"] else {tuple(end["outcomes"][str(i)] for i in range(len(end["outcomes"]))): int(end["orders"]) for end in told["ends"]}
+        return (
+            None
+            if not told["whole"]
+            else {tuple(end["outcomes"][str(i)] for i in range(len(end["outcomes"]))): int(end["orders"]) for end in told["ends"]}
+        )
+
     return explore
 
 
@@ -53,8 +59,9 @@ def question(seed):
     if r.random() < 0.5:
         open_ones = [i for i, it in enumerate(stages) if it["form"] != "allOf"]
         said["clock"] = "free"
-        said["limits"] = [{"stage": r.choice(open_ones or [0]), "at": r.randrange(20), "kind": r.choice(["timeout", "value"])}
-                          for _ in range(r.randrange(1, 3))]
+        said["limits"] = [
+            {"stage": r.choice(open_ones or [0]), "at": r.randrange(20), "kind": r.choice(["timeout", "value"])} for _ in range(r.randrange(1, 3))
+        ]
         for limit in said["limits"]:
             if limit["kind"] == "value":
                 limit["value"] = r.choice([None, 4])
@@ -85,5 +92,10 @@ def step(r, count, room):
         form = r.choice(["source", "apply", "combine"])
         of = [r.randrange(count) for _ in range({"source": 0, "apply": 1, "combine": 2}[form])]
         return ["attach", {"form": form, "of": of, **({} if form == "source" else {"fn": {"add": 1}})}]
-    return {"complete": ["complete", i, r.randrange(3)], "fail": ["fail", i, r.randrange(2)], "cancel": ["cancel", i], "now": ["now", i],
-            "join": ["join", i, r.randrange(1, 3)]}[kind]
+    return {
+        "complete": ["complete", i, r.randrange(3)],
+        "fail": ["fail", i, r.randrange(2)],
+        "cancel": ["cancel", i],
+        "now": ["now", i],
+        "join": ["join", i, r.randrange(1, 3)],
+    }[kind]

@@ -3,7 +3,7 @@ import random
 
 import model
 
-VALUES = [None, 0, 1, -1, 2, 7, 2**31 - 1, -2**31]
+VALUES = [None, 0, 1, -1, 2, 7, 2**31 - 1, -(2**31)]
 CODES = [0, 1, 7, 2**32 - 1]
 SCRIPT_FORMS = [form for form in model.FORMS if form != "exceptionallyCompose"]
 MOMENTS = [0, 1, 5, 10, 20, 2**32 - 1]
@@ -95,7 +95,8 @@ def random_attach(rng, sizes):
 def random_step(rng, sizes, attaches):
     kind = rng.choices(
         ["complete", "fail", "cancel", "claim", "finish", "tick", "now", "outcome", "work", "ready", "attach", "failAs"],
-        [8, 2, 2, 8, 8, 2, 4, 6, 3, 1, attaches, 2])[0]
+        [8, 2, 2, 8, 8, 2, 4, 6, 3, 1, attaches, 2],
+    )[0]
     i = sizes.random_stage(rng)
     if kind == "complete":
         return [kind, i, rng.choice(VALUES)]

@@ -10,15 +10,65 @@ import reading
 
 SOURCE = {"form": "source"}
 APPLY = {"form": "apply", "of": [0], "fn": {"add": 5}}
-NUMBERS = [0, 1, 2, -1, 3, 63, 64, 4_095, 4_096, 4_097, 16_384, 65_535, 65_536, 2**31 - 1, 2**31, -2**31, -2**31 - 1, 2**32 - 1,
-           2**32, 2**63, 2**64, 1.0, 1.5, -0.0]
-JUNK = [None, True, False, "", "source", "exceptionallyCompose", "attach", "neg", "timeout", [], {}, [0], [0, 0], [0, 0, 0], [None],
-        {"goto": 0}, {"add": 1, "mul": 2}, {"give": 1}, {"link": 65_536}, SOURCE, APPLY, ["work"], ["attach", SOURCE],
-        ["attach", APPLY], ["attach", APPLY, 0], ["attach"]]
+NUMBERS = [
+    0,
+    1,
+    2,
+    -1,
+    3,
+    63,
+    64,
+    4_095,
+    4_096,
+    4_097,
+    16_384,
+    65_535,
+    65_536,
+    2**31 - 1,
+    2**31,
+    -(2**31),
+    -(2**31) - 1,
+    2**32 - 1,
+    2**32,
+    2**63,
+    2**64,
+    1.0,
+    1.5,
+    -0.0,
+]
+JUNK = [
+    None,
+    True,
+    False,
+    "",
+    "source",
+    "exceptionallyCompose",
+    "attach",
+    "neg",
+    "timeout",
+    [],
+    {},
+    [0],
+    [0, 0],
+    [0, 0, 0],
+    [None],
+    {"goto": 0},
+    {"add": 1, "mul": 2},
+    {"give": 1},
+    {"link": 65_536},
+    SOURCE,
+    APPLY,
+    ["work"],
+    ["attach", SOURCE],
+    ["attach", APPLY],
+    ["attach", APPLY, 0],
+    ["attach"],
+]
 MEMBERS = ["cf", "room", "stages", "limits", "steps", "form", "of", "fn", "stage", "at", "kind", "value", "x"]
 
 
 # Right scripts.
+
 
 def random_attach(rng, count):
     """An attach that is right where there are so many stages, or seldom one that may not be."""
@@ -34,15 +84,25 @@ def random_attach(rng, count):
 
 
 def random_step(rng, count, version):
-    kind = rng.choices(["complete", "fail", "cancel", "tick", "work", "now", "outcome", "claim", "finish", "nudge", "attach", "failAs"],
-                       [8, 2, 2, 2, 6, 4, 4, 6, 5, 2, 9 * min(version - 1, 1), 4 * max(version - 2, 0)])[0]
+    kind = rng.choices(
+        ["complete", "fail", "cancel", "tick", "work", "now", "outcome", "claim", "finish", "nudge", "attach", "failAs"],
+        [8, 2, 2, 2, 6, 4, 4, 6, 5, 2, 9 * min(version - 1, 1), 4 * max(version - 2, 0)],
+    )[0]
     if kind == "attach":
         return random_attach(rng, count)
     i = rng.randrange(count) if count else 0
-    values = {"complete": [i, rng.choice(random_runs.VALUES)], "fail": [i, rng.choice(random_runs.CODES)], "cancel": [i],
-              "tick": [rng.choice(random_runs.MOMENTS[:-1])], "work": [], "outcome": [i], "claim": [rng.choice([0, 1, 63]), i],
-              "now": rng.choice([[i], [i, rng.choice(random_runs.VALUES)]]), "nudge": [rng.choice([0, 1, 2, 2**32 - 1])],
-              "failAs": [i, rng.choice(["timeout", "badanswer"])]}
+    values = {
+        "complete": [i, rng.choice(random_runs.VALUES)],
+        "fail": [i, rng.choice(random_runs.CODES)],
+        "cancel": [i],
+        "tick": [rng.choice(random_runs.MOMENTS[:-1])],
+        "work": [],
+        "outcome": [i],
+        "claim": [rng.choice([0, 1, 63]), i],
+        "now": rng.choice([[i], [i, rng.choice(random_runs.VALUES)]]),
+        "nudge": [rng.choice([0, 1, 2, 2**32 - 1])],
+        "failAs": [i, rng.choice(["timeout", "badanswer"])],
+    }
     if kind == "finish":
         answer = rng.choice([{"give": rng.choice(random_runs.VALUES)}, {"throw": rng.choice(random_runs.CODES)}, {"link": rng.randrange(i + 2)}])
         return [kind, rng.choice([0, 1, 63]), i, answer]
@@ -70,10 +130,11 @@ def random_script(rng):
 
 # Spoilt ones.
 
+
 def places(x, found):
     """Each list and object in a value, with each of its positions."""
     if isinstance(x, (list, dict)):
-        for at in (range(len(x)) if isinstance(x, list) else list(x)):
+        for at in range(len(x)) if isinstance(x, list) else list(x):
             found.append((x, at))
             places(x[at], found)
     return found
@@ -106,7 +167,7 @@ def spoil_bytes(rng, data):
     """Bytes of which one is lost, changed, or put in, or the rest is cut."""
     at = rng.randrange(len(data))
     new = bytes([rng.choice(b'0123456789-+.eE{}[],:"\\ nutf\x00\x1f\xff\xc3')])
-    return rng.choice([data[:at], data[:at] + data[at + 1:], data[:at] + new + data[at + 1:], data[:at] + new + data[at:]])
+    return rng.choice([data[:at], data[:at] + data[at + 1 :], data[:at] + new + data[at + 1 :], data[:at] + new + data[at:]])
 
 
 def random_bytes(rng):
@@ -125,6 +186,7 @@ def bytes_of(seed):
 
 
 # Scripts at the bounds.
+
 
 def written(version, stages, steps=(), **more):
     return json.dumps({"cf": version, "stages": stages, "steps": list(steps), **more}).encode()

@@ -29,10 +29,11 @@ def need(is_right, line):
 
 # JSON, as far as it is narrower than Python's reading of it.
 
+
 def deepest(text):
     """How deep arrays and objects stand in each other."""
     depth = most = 0
-    for bracket in re.findall(r'[\[\]{}]', re.sub(r'"(?:[^"\\]|\\.)*"', "", text, flags=re.S)):
+    for bracket in re.findall(r"[\[\]{}]", re.sub(r'"(?:[^"\\]|\\.)*"', "", text, flags=re.S)):
         depth += 1 if bracket in "[{" else -1
         most = max(most, depth)
     return most
@@ -42,7 +43,7 @@ def number_of(text):
     """An int where the number is a whole one of 64 bits, else a float, which holds it or there is no such number."""
     if float(text) in (float("inf"), float("-inf")):
         raise ValueError("too great")
-    is_whole = re.fullmatch(r"-?\d{1,19}", text) and text != "-0" and -2**63 <= int(text) < 2**63
+    is_whole = re.fullmatch(r"-?\d{1,19}", text) and text != "-0" and -(2**63) <= int(text) < 2**63
     return int(text) if is_whole else float(text)
 
 
@@ -87,12 +88,13 @@ def value_of(data):
 
 # The parts of a script.
 
+
 def is_whole(x, low, high):
     return type(x) is int and low <= x <= high
 
 
 def is_value(x):
-    return x is None or is_whole(x, -2**31, 2**31 - 1)
+    return x is None or is_whole(x, -(2**31), 2**31 - 1)
 
 
 def is_code(x):
@@ -189,11 +191,20 @@ def is_step(step, count, version):
     def who(x):
         return is_whole(x, 0, 63)
 
-    kinds = {"complete": [(stage, is_value)], "fail": [(stage, is_code)], "cancel": [(stage,)], "tick": [(is_code,)],
-             "work": [()], "now": [(stage,), (stage, is_value)], "outcome": [(stage,)], "claim": [(who, stage)],
-             "finish": [(who, stage, is_answer)], "nudge": [(is_code,)], "failAs": [(stage, is_failure)] * (version >= 3)}
-    return any(len(step) == len(parts) + 1 and all(part(x) for part, x in zip(parts, step[1:]))
-               for parts in kinds.get(step[0], []))
+    kinds = {
+        "complete": [(stage, is_value)],
+        "fail": [(stage, is_code)],
+        "cancel": [(stage,)],
+        "tick": [(is_code,)],
+        "work": [()],
+        "now": [(stage,), (stage, is_value)],
+        "outcome": [(stage,)],
+        "claim": [(who, stage)],
+        "finish": [(who, stage, is_answer)],
+        "nudge": [(is_code,)],
+        "failAs": [(stage, is_failure)] * (version >= 3),
+    }
+    return any(len(step) == len(parts) + 1 and all(part(x) for part, x in zip(parts, step[1:])) for parts in kinds.get(step[0], []))
 
 
 def check_steps(script, room, is_race):

@@ -1,8 +1,24 @@
 """What the events of a Python service's history were answered, in the words of reports: of its entries, whose replies and outcomes are
 numbers. `cf` has to be importable."""
 from cf.events import Attach, Claim, Finish, Tick
-from cf.service.words import (ANSWER, ARGS, BAD_ANSWER, CANCELLED, FIRST, FIRST_SOME, FORMS, GOT, NUMBER, OUTCOME, SECOND, SECOND_SOME, THROWN,
-                              TIMED_OUT, VALUE, Told)
+from cf.service.words import (
+    ANSWER,
+    ARGS,
+    BAD_ANSWER,
+    CANCELLED,
+    FIRST,
+    FIRST_SOME,
+    FORMS,
+    GOT,
+    NUMBER,
+    OUTCOME,
+    SECOND,
+    SECOND_SOME,
+    THROWN,
+    TIMED_OUT,
+    VALUE,
+    Told,
+)
 
 CAUSES = {CANCELLED: "cancelled", TIMED_OUT: "timeout", BAD_ANSWER: "badanswer"}
 

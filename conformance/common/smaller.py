@@ -78,9 +78,9 @@ def plainer_stages(script, i):
     yield with_stage(script, i, {"form": "anyOf", "of": stage.get("of", [])})
     for k, n in enumerate(stage.get("of", [])):
         of = stage["of"]
-        yield with_stage(script, i, dict(stage, of=of[:k] + of[k + 1:]))
+        yield with_stage(script, i, dict(stage, of=of[:k] + of[k + 1 :]))
         for lower in stages[n].get("of", []):
-            yield with_stage(script, i, dict(stage, of=of[:k] + [lower] + of[k + 1:]))
+            yield with_stage(script, i, dict(stage, of=of[:k] + [lower] + of[k + 1 :]))
     if "fn" in stage:
         for function in PLAIN_FUNCTIONS:
             yield with_stage(script, i, dict(stage, fn=function))
@@ -109,9 +109,9 @@ def smaller(script):
     for i in reversed(range(len(all_stages(script)))):
         yield without_stage(script, i)
     for k, step in enumerate(script["steps"]):
-        yield dict(copy(script), steps=script["steps"][:k] + script["steps"][k + 1:])
+        yield dict(copy(script), steps=script["steps"][:k] + script["steps"][k + 1 :])
     for k in range(len(script.get("limits", []))):
-        yield dict(copy(script), limits=script["limits"][:k] + script["limits"][k + 1:])
+        yield dict(copy(script), limits=script["limits"][:k] + script["limits"][k + 1 :])
     for name in ("limits", "room"):
         yield {key: x for key, x in script.items() if key != name or x}
     if script.get("room"):
@@ -121,7 +121,7 @@ def smaller(script):
         yield from plainer_stages(script, i)
     for k, step in enumerate(script["steps"]):
         for plainer in plainer_step(step):
-            yield dict(copy(script), steps=script["steps"][:k] + [plainer] + script["steps"][k + 1:])
+            yield dict(copy(script), steps=script["steps"][:k] + [plainer] + script["steps"][k + 1 :])
 
 
 def smallest(script, shows):

@@ -32,7 +32,10 @@ static void must(bool is_so, const char *what) {
 /* ---- A sequential graph of a few stages ---- */
 
 /* The stages of a round, by their forms. Their sources are stages of the round, too. */
-struct shape { uint32_t count, form[STAGES]; uint16_t of[STAGES][2]; };
+struct shape {
+  uint32_t count, form[STAGES];
+  uint16_t of[STAGES][2];
+};
 static const struct shape SHAPES[] = {
     {1, {CF_SOURCE}, {{0}}},
     {1, {CF_SUPPLY}, {{0}}},
@@ -60,14 +63,27 @@ static uint64_t args(uint64_t kind, uint64_t first, uint64_t second) { return ki
 /* What a stage is. `is` has a ready one's arguments, or a settled one's outcome; `holder` is 1 more than the caller whose claim
  * is open, or 0. */
 enum { PENDING, READY, CLAIMED, SETTLED };
-struct stage { uint32_t kind, holder; uint64_t is; };
-struct state { struct stage stages[STAGES]; };
+struct stage {
+  uint32_t kind, holder;
+  uint64_t is;
+};
+struct state {
+  struct stage stages[STAGES];
+};
 
 /* A call, and what it was told: `args` are those of a claim that was granted. */
 enum { COMPLETE, FAIL, CANCEL, CLAIM, FINISH, THROW, READ };
 static const char *const NAMES[] = {"complete", "fail", "cancel", "claim", "finish", "throw", "read"};
-struct told { uint64_t answer, args; };
-struct call { uint64_t begin, end; uint32_t who, what; uint16_t stage; uint32_t number; struct told told; };
+struct told {
+  uint64_t answer, args;
+};
+struct call {
+  uint64_t begin, end;
+  uint32_t who, what;
+  uint16_t stage;
+  uint32_t number;
+  struct told told;
+};
 
 static void settle(struct stage *it, uint64_t with) { it->kind = SETTLED, it->is = with; }
 static void be_ready(struct stage *it, uint64_t with) { it->kind = READY, it->is = with; }
@@ -150,8 +166,18 @@ static struct told answered(const struct shape *shape, struct state *s, const st
 
 /* The calls of a round, in the order of their begins, and what the search has come to: which were done, and the state then. */
 enum { SEEN = 1 << 15 };
-struct seen { uint64_t of; uint64_t done; struct state state; };
-struct judge { uint64_t searches, count; const struct shape *shape; const struct call *calls; size_t n; struct seen *seen; };
+struct seen {
+  uint64_t of;
+  uint64_t done;
+  struct state state;
+};
+struct judge {
+  uint64_t searches, count;
+  const struct shape *shape;
+  const struct call *calls;
+  size_t n;
+  struct seen *seen;
+};
 
 static struct judge new_judge(void) {
   struct judge it = {0, 0, NULL, NULL, 0, calloc(SEEN, sizeof(struct seen))};
@@ -206,7 +232,11 @@ static bool is_right(struct judge *j, const struct shape *shape, struct call *ca
 }
 
 /* Whether calls that are sorted by where they stand keep time: none returned before one began that stands before it. */
-struct placed { uint64_t place; const struct call *call; size_t round; };
+struct placed {
+  uint64_t place;
+  const struct call *call;
+  size_t round;
+};
 
 static int by_place(const void *a, const void *b) {
   const struct placed *x = a, *y = b;
@@ -230,31 +260,36 @@ enum { ONE_SOURCE, ONE_SUPPLY, SOURCE_APPLY }; /* of SHAPES */
 #define ONE_ARG(number) (CF_ONE | (number) << 3)
 
 /* Up to three calls of a round, and whether some order of them is right. */
-struct row { const char *name; bool is_right; uint32_t shape; size_t n; struct call calls[CALLS]; };
+struct row {
+  const char *name;
+  bool is_right;
+  uint32_t shape;
+  size_t n;
+  struct call calls[CALLS];
+};
 
 static void judge_rows(void) {
   const struct row rows[] = {
-    {"a read behind a complete", true, ONE_SOURCE, 2, {{1, 2, 0, COMPLETE, 0, 5, {1, 0}}, {3, 4, 1, READ, 0, 0, {VALUE(5), 0}}}},
-    {"a stale read", false, ONE_SOURCE, 2, {{1, 2, 0, COMPLETE, 0, 5, {1, 0}}, {3, 4, 1, READ, 0, 0, {0, 0}}}},
-    {"a read beside a complete", true, ONE_SOURCE, 2, {{1, 3, 0, COMPLETE, 0, 5, {1, 0}}, {2, 4, 1, READ, 0, 0, {0, 0}}}},
-    {"a read too soon", false, ONE_SOURCE, 2, {{3, 4, 0, COMPLETE, 0, 5, {1, 0}}, {1, 2, 1, READ, 0, 0, {VALUE(5), 0}}}},
-    {"reads within a complete", true, ONE_SOURCE, 3,
-     {{1, 6, 0, COMPLETE, 0, 5, {1, 0}}, {2, 3, 1, READ, 0, 0, {0, 0}}, {4, 5, 2, READ, 0, 0, {VALUE(5), 0}}}},
-    {"reads that go back", false, ONE_SOURCE, 3,
-     {{1, 6, 0, COMPLETE, 0, 5, {1, 0}}, {2, 3, 1, READ, 0, 0, {VALUE(5), 0}}, {4, 5, 2, READ, 0, 0, {0, 0}}}},
-    {"two that win", false, ONE_SOURCE, 2, {{1, 3, 0, COMPLETE, 0, 5, {1, 0}}, {2, 4, 1, COMPLETE, 0, 6, {1, 0}}}},
-    {"one that loses", true, ONE_SOURCE, 2, {{1, 3, 0, COMPLETE, 0, 5, {0, 0}}, {2, 4, 1, COMPLETE, 0, 6, {1, 0}}}},
-    {"one that loses too soon", false, ONE_SOURCE, 2, {{1, 2, 0, COMPLETE, 0, 5, {0, 0}}, {3, 4, 1, COMPLETE, 0, 6, {1, 0}}}},
-    {"a loser's value", false, ONE_SOURCE, 3,
-     {{1, 4, 0, COMPLETE, 0, 5, {1, 0}}, {2, 5, 1, COMPLETE, 0, 6, {0, 0}}, {3, 6, 2, READ, 0, 0, {VALUE(6), 0}}}},
-    {"two grants", false, ONE_SUPPLY, 2, {{1, 3, 0, CLAIM, 0, 0, {CF_GRANTED, 0}}, {2, 4, 1, CLAIM, 0, 0, {CF_GRANTED, 0}}}},
-    {"one grant", true, ONE_SUPPLY, 2, {{1, 3, 0, CLAIM, 0, 0, {CF_TAKEN, 0}}, {2, 4, 1, CLAIM, 0, 0, {CF_GRANTED, 0}}}},
-    {"another's finish", false, ONE_SUPPLY, 2, {{1, 2, 0, CLAIM, 0, 0, {CF_GRANTED, 0}}, {3, 4, 1, FINISH, 0, 5, {CF_WON, 0}}}},
-    {"a claim that comes too late", false, SOURCE_APPLY, 2,
-     {{1, 2, 0, COMPLETE, 0, 5, {1, 0}}, {3, 4, 1, CLAIM, 1, 0, {CF_NOT_READY, 0}}}},
-    {"its arguments", true, SOURCE_APPLY, 2,
-     {{1, 3, 0, COMPLETE, 0, 5, {1, 0}}, {2, 4, 1, CLAIM, 1, 0, {CF_GRANTED, ONE_ARG(5)}}}},
-    {"others", false, SOURCE_APPLY, 2, {{1, 3, 0, COMPLETE, 0, 5, {1, 0}}, {2, 4, 1, CLAIM, 1, 0, {CF_GRANTED, ONE_ARG(6)}}}},
+      {"a read behind a complete", true, ONE_SOURCE, 2, {{1, 2, 0, COMPLETE, 0, 5, {1, 0}}, {3, 4, 1, READ, 0, 0, {VALUE(5), 0}}}},
+      {"a stale read", false, ONE_SOURCE, 2, {{1, 2, 0, COMPLETE, 0, 5, {1, 0}}, {3, 4, 1, READ, 0, 0, {0, 0}}}},
+      {"a read beside a complete", true, ONE_SOURCE, 2, {{1, 3, 0, COMPLETE, 0, 5, {1, 0}}, {2, 4, 1, READ, 0, 0, {0, 0}}}},
+      {"a read too soon", false, ONE_SOURCE, 2, {{3, 4, 0, COMPLETE, 0, 5, {1, 0}}, {1, 2, 1, READ, 0, 0, {VALUE(5), 0}}}},
+      {"reads within a complete", true, ONE_SOURCE, 3,
+          {{1, 6, 0, COMPLETE, 0, 5, {1, 0}}, {2, 3, 1, READ, 0, 0, {0, 0}}, {4, 5, 2, READ, 0, 0, {VALUE(5), 0}}}},
+      {"reads that go back", false, ONE_SOURCE, 3,
+          {{1, 6, 0, COMPLETE, 0, 5, {1, 0}}, {2, 3, 1, READ, 0, 0, {VALUE(5), 0}}, {4, 5, 2, READ, 0, 0, {0, 0}}}},
+      {"two that win", false, ONE_SOURCE, 2, {{1, 3, 0, COMPLETE, 0, 5, {1, 0}}, {2, 4, 1, COMPLETE, 0, 6, {1, 0}}}},
+      {"one that loses", true, ONE_SOURCE, 2, {{1, 3, 0, COMPLETE, 0, 5, {0, 0}}, {2, 4, 1, COMPLETE, 0, 6, {1, 0}}}},
+      {"one that loses too soon", false, ONE_SOURCE, 2, {{1, 2, 0, COMPLETE, 0, 5, {0, 0}}, {3, 4, 1, COMPLETE, 0, 6, {1, 0}}}},
+      {"a loser's value", false, ONE_SOURCE, 3,
+          {{1, 4, 0, COMPLETE, 0, 5, {1, 0}}, {2, 5, 1, COMPLETE, 0, 6, {0, 0}}, {3, 6, 2, READ, 0, 0, {VALUE(6), 0}}}},
+      {"two grants", false, ONE_SUPPLY, 2, {{1, 3, 0, CLAIM, 0, 0, {CF_GRANTED, 0}}, {2, 4, 1, CLAIM, 0, 0, {CF_GRANTED, 0}}}},
+      {"one grant", true, ONE_SUPPLY, 2, {{1, 3, 0, CLAIM, 0, 0, {CF_TAKEN, 0}}, {2, 4, 1, CLAIM, 0, 0, {CF_GRANTED, 0}}}},
+      {"another's finish", false, ONE_SUPPLY, 2, {{1, 2, 0, CLAIM, 0, 0, {CF_GRANTED, 0}}, {3, 4, 1, FINISH, 0, 5, {CF_WON, 0}}}},
+      {"a claim that comes too late", false, SOURCE_APPLY, 2,
+          {{1, 2, 0, COMPLETE, 0, 5, {1, 0}}, {3, 4, 1, CLAIM, 1, 0, {CF_NOT_READY, 0}}}},
+      {"its arguments", true, SOURCE_APPLY, 2, {{1, 3, 0, COMPLETE, 0, 5, {1, 0}}, {2, 4, 1, CLAIM, 1, 0, {CF_GRANTED, ONE_ARG(5)}}}},
+      {"others", false, SOURCE_APPLY, 2, {{1, 3, 0, COMPLETE, 0, 5, {1, 0}}, {2, 4, 1, CLAIM, 1, 0, {CF_GRANTED, ONE_ARG(6)}}}},
   };
   struct judge judge = new_judge();
   for (size_t k = 0; k < sizeof rows / sizeof *rows; k++) {
@@ -326,7 +361,12 @@ static void make(cf_handle *caller, uint16_t first, struct call *c) {
 
 /* ---- A desk, and its rounds ---- */
 
-struct person { uint32_t number; uint64_t chance; struct judge judge; uint64_t wrong, rounds, overlapped, calls, beside; };
+struct person {
+  uint32_t number;
+  uint64_t chance;
+  struct judge judge;
+  uint64_t wrong, rounds, overlapped, calls, beside;
+};
 static struct person people[THREADS];
 static uint64_t wanted, served, wrong_histories;
 static atomic_uint arrived, turn;
@@ -382,8 +422,8 @@ static void show(const char *what, const struct shape *shape, const struct call 
   for (uint32_t i = 0; i < shape->count; i++) printf(" %" PRIu32, shape->form[i]);
   printf("\n");
   for (const struct call *c = calls; c < calls + n; c++)
-    printf("  %" PRIu64 " to %" PRIu64 ": caller %" PRIu32 ": %s %" PRIu16 " %" PRIu32 ": %" PRIx64 " %" PRIx64 "\n",
-           c->begin, c->end, c->who, NAMES[c->what], c->stage, c->number, c->told.answer, c->told.args);
+    printf("  %" PRIu64 " to %" PRIu64 ": caller %" PRIu32 ": %s %" PRIu16 " %" PRIu32 ": %" PRIx64 " %" PRIx64 "\n", c->begin, c->end,
+        c->who, NAMES[c->what], c->stage, c->number, c->told.answer, c->told.args);
 }
 
 static size_t all_calls(const struct round *round, struct call *calls) {
@@ -511,7 +551,7 @@ int main(int n, char **words) {
     free(it->judge.seen);
   }
   printf("calls of different threads overlapped in %" PRIu64 " of %" PRIu64 " rounds, %" PRIu64 " of %" PRIu64 " calls did\n",
-         all.overlapped, all.rounds, all.beside, all.calls);
+      all.overlapped, all.rounds, all.beside, all.calls);
   printf("%" PRIu64 " rounds and %" PRIu64 " of %" PRIu64 " histories are wrong\n", all.wrong, wrong_histories, served);
   if (all.wrong + wrong_histories > 0) return 1;
   must(all.overlapped >= wanted, "calls hardly overlap here");

@@ -14,11 +14,33 @@
 enum { MOST = 64, STAGES = 64, DESKS = 64, LOG = 4096, CALLS = 1024, BLIND = 12, ENDS = 1 << 16, TEXT = 32 };
 
 /* Functions of scripts: `kind` is a letter of conformance/desks/raced, and `k` what stands behind it. */
-struct function { char kind; int has_k; int32_t k; };
-struct stage { uint32_t form, function; size_t n; uint16_t of[STAGES]; };
-struct limit { uint16_t stage; uint32_t at, kind; cf_value value; };
-struct step { char kind; uint16_t stage; uint32_t number; cf_value value; cf_answer answer; struct stage attached; };
-struct caller { size_t n; struct step *steps; };
+struct function {
+  char kind;
+  int has_k;
+  int32_t k;
+};
+struct stage {
+  uint32_t form, function;
+  size_t n;
+  uint16_t of[STAGES];
+};
+struct limit {
+  uint16_t stage;
+  uint32_t at, kind;
+  cf_value value;
+};
+struct step {
+  char kind;
+  uint16_t stage;
+  uint32_t number;
+  cf_value value;
+  cf_answer answer;
+  struct stage attached;
+};
+struct caller {
+  size_t n;
+  struct step *steps;
+};
 
 static struct function functions[MOST];
 static struct stage stages[STAGES];
@@ -33,7 +55,10 @@ static atomic_uint arrived[DESKS], busy[DESKS];
 static uint32_t people, in_round;
 static pthread_barrier_t begun, ended;
 
-struct end { char *text; uint64_t count; };
+struct end {
+  char *text;
+  uint64_t count;
+};
 static struct end ends[ENDS];
 
 static void must(int is_so, const char *what) {
@@ -85,9 +110,15 @@ static struct step read_step(void) {
   }
   it.stage = (uint16_t)number();
   switch (it.kind) {
-  case 'c': case 'n': it.value = value(); break;
-  case 'f': case 't': case 'j': it.number = (uint32_t)number(); break;
-  case 'F': it.answer.kind = (uint32_t)number(), it.answer.code = (uint32_t)number(), it.answer.value = value(); it.answer.stage = (uint16_t)number(); break;
+  case 'c':
+  case 'n': it.value = value(); break;
+  case 'f':
+  case 't':
+  case 'j': it.number = (uint32_t)number(); break;
+  case 'F':
+    it.answer.kind = (uint32_t)number(), it.answer.code = (uint32_t)number(), it.answer.value = value();
+    it.answer.stage = (uint16_t)number();
+    break;
   default: break;
   }
   return it;
@@ -95,7 +126,8 @@ static struct step read_step(void) {
 
 static void read_question(void) {
   room = (uint32_t)number(), function_count = count(MOST);
-  for (uint32_t k = 0; k < function_count; k++) functions[k].kind = letter(), functions[k].has_k = (int)number(), functions[k].k = (int32_t)number();
+  for (uint32_t k = 0; k < function_count; k++)
+    functions[k].kind = letter(), functions[k].has_k = (int)number(), functions[k].k = (int32_t)number();
   stage_count = count(STAGES);
   for (uint32_t k = 0; k < stage_count; k++) stages[k] = read_stage();
   limit_count = count(STAGES);
@@ -125,7 +157,10 @@ static void build(void) {
 
 /* ---- Who does what on a desk ---- */
 
-struct person { uint32_t number; uint64_t state; };
+struct person {
+  uint32_t number;
+  uint64_t state;
+};
 
 static uint64_t chance(struct person *me) {
   me->state ^= me->state << 13, me->state ^= me->state >> 7, me->state ^= me->state << 17;
@@ -323,11 +358,13 @@ static void close_desk(uint32_t d) {
   uint16_t n = 0;
   must(cf_close_begin(desk) == CF_OK, "a desk can't be closed");
   for (uint32_t k = 1; k < people; k++) must(cf_close_add(desk, &desks[d][k]) == CF_OK, "a caller can't be given back");
-  must(cf_close_end(desk) == CF_OK && cf_closed_graph(desk) == CF_OK && cf_stages(desk, &n) == CF_OK && n <= 2 * STAGES, "a desk isn't closed");
+  must(cf_close_end(desk) == CF_OK && cf_closed_graph(desk) == CF_OK && cf_stages(desk, &n) == CF_OK && n <= 2 * STAGES,
+      "a desk isn't closed");
   for (uint16_t i = 0; i < n; i++) {
     cf_outcome outcome;
     size_t length = 0;
-    must(cf_get(desk, i, &outcome) == CF_OK && cf_outcome_text(outcome, (uint8_t *)at, TEXT, &length) == CF_OK && length <= TEXT, "no outcome");
+    must(cf_get(desk, i, &outcome) == CF_OK && cf_outcome_text(outcome, (uint8_t *)at, TEXT, &length) == CF_OK && length <= TEXT,
+        "no outcome");
     at += length, *at++ = i + 1 < n ? '|' : 0;
   }
   note(n ? text : "");

@@ -31,8 +31,10 @@ LATE = ("late",)  # stands for the arguments of a stage whose task is queued, an
 def has_chosen(state):
     """Whether no either form or anyOf waits for another source than one that has settled."""
     settled = [held[0] == "settled" for held in state.stages]
-    return not any(held == ("pending",) and (stage.form in model.EITHER or stage.form == "anyOf")
-                   and any(settled[j] for j in stage.sources) for held, stage in zip(state.stages, state.plan.stages))
+    return not any(
+        held == ("pending",) and (stage.form in model.EITHER or stage.form == "anyOf") and any(settled[j] for j in stage.sources)
+        for held, stage in zip(state.stages, state.plan.stages)
+    )
 
 
 class Futures:
@@ -68,10 +70,12 @@ class Futures:
         if TIE in self.rules and (is_either or form == "anyOf") and self.is_settling and len(there) > 1:
             there = q = [self.choose(there)]
         is_value = there[0][0] == "value"
-        late = {FAULT_WAITS: is_either and self.is_settling and not is_value,
-                LOOKS_AGAIN: is_either and self.is_settling and is_value,
-                VALUE_WAITS: form == "exceptionally" and is_value,
-                ATTACHED_WAITS: form in model.BOTH and None not in q and not self.is_settling}
+        late = {
+            FAULT_WAITS: is_either and self.is_settling and not is_value,
+            LOOKS_AGAIN: is_either and self.is_settling and is_value,
+            VALUE_WAITS: form == "exceptionally" and is_value,
+            ATTACHED_WAITS: form in model.BOTH and None not in q and not self.is_settling,
+        }
         return ("needs", LATE) if any(late.get(rule) for rule in self.rules) else model.follows(form, q)
 
     def answered(self, state, event):
@@ -139,4 +143,4 @@ class Futures:
             done = (way for old in states for way in self.ways(lambda: self.model.do(old, step, list(functions))))
             states = {new for said, new in done if said == line and (step[0] != "work" or has_chosen(new))}
             functions += [step[1]["fn"]] if step[0] == "attach" and "fn" in step[1] else []
-        return any(model.stage_lines(state) == lines[len(steps):] for state in states)
+        return any(model.stage_lines(state) == lines[len(steps) :] for state in states)

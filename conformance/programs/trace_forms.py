@@ -80,8 +80,11 @@ def whole_pairs(ends):
 
 def bar_round(end, bars):
     """The bar within which an arrow's end lies: before the bar's end, if it has any length."""
-    found = [bar for bar in bars if bar["tid"] == end["tid"] and bar["ts"] <= end["ts"] and
-             (end["ts"] < bar["ts"] + bar["dur"] or bar["dur"] == 0 and end["ts"] == bar["ts"])]
+    found = [
+        bar
+        for bar in bars
+        if bar["tid"] == end["tid"] and bar["ts"] <= end["ts"] and (end["ts"] < bar["ts"] + bar["dur"] or bar["dur"] == 0 and end["ts"] == bar["ts"])
+    ]
     need(found, end, "is an arrow's end in no bar")
     return max(found, key=lambda bar: bar["ts"])
 
@@ -93,8 +96,12 @@ def attributes_of(thing, place):
         only(attribute, ["key", "value"], place)
         key, value = member(attribute, "key", str, place), member(attribute, "value", dict, place)
         need(len(value) == 1 and key not in told, place, f"attribute {key}")
-        (kind, content), = value.items()
-        need(kind == "stringValue" and isinstance(content, str) or kind == "intValue" and re.fullmatch(r"-?\d+", str(content)), place, f"{key} is {value}")
+        ((kind, content),) = value.items()
+        need(
+            kind == "stringValue" and isinstance(content, str) or kind == "intValue" and re.fullmatch(r"-?\d+", str(content)),
+            place,
+            f"{key} is {value}",
+        )
         told[key] = content
     return told
 
@@ -110,7 +117,11 @@ def load_spans(spans):
     member(member(scope, "scope", dict, "scope"), "name", str, "scope")
     for k, span in enumerate(member(scope, "spans", list, "scopeSpans[0]")):
         place = f"spans[{k}]"
-        only(span, ["traceId", "spanId", "parentSpanId", "name", "kind", "startTimeUnixNano", "endTimeUnixNano", "attributes", "links", "status"], place)
+        only(
+            span,
+            ["traceId", "spanId", "parentSpanId", "name", "kind", "startTimeUnixNano", "endTimeUnixNano", "attributes", "links", "status"],
+            place,
+        )
         for name, digits in (("traceId", 32), ("spanId", 16)):
             need(re.fullmatch(f"[0-9a-f]{{{digits}}}", member(span, name, str, place)) and int(span[name], 16), place, f"{name} is {span[name]!r}")
         need(span["spanId"] not in found, place, "has another's spanId")

@@ -4,7 +4,7 @@ A call is the name of a method of `machine.Machine`, what it is called with, and
 """
 import random
 from collections import Counter
-from typing import Any, Dict, Iterator, List, NamedTuple, Optional, Sequence, Tuple, Union
+from typing import Any, Dict, Iterator, List, NamedTuple, Optional, Tuple, Union
 
 import histories
 import machine
@@ -12,8 +12,23 @@ import model
 import random_runs
 
 Request = Any  # a `machine.Machine`, or what has the same methods: a `library.Library`
-KINDS = {"next": 36.0, "apply": 26, "pass_to": 5, "deadline": 6, "follow": 8, "rest": 2, "refuse": 2, "ready": 1, "cancel_all": 0.5,
-         "restart": 0.5, "grow": 1, "do_all": 6, "gather": 4, "compose": 5, "link": 5}
+KINDS = {
+    "next": 36.0,
+    "apply": 26,
+    "pass_to": 5,
+    "deadline": 6,
+    "follow": 8,
+    "rest": 2,
+    "refuse": 2,
+    "ready": 1,
+    "cancel_all": 0.5,
+    "restart": 0.5,
+    "grow": 1,
+    "do_all": 6,
+    "gather": 4,
+    "compose": 5,
+    "link": 5,
+}
 OFTEN = ["next", "apply", "pass_to", "deadline", "follow", "rest", "refuse", "gather", "compose", "link"]  # one of these comes more often by a seed
 EVENTS = {"complete": 9, "fail": 2, "failAs": 1.5, "cancel": 1.5, "claim": 2, "finish": 1.5, "tick": 1, "attach": 11, "word": 0.7}
 IN_ONE = {"next": 3, "apply": 5, "follow": 1, "deadline": 1, "pass_to": 0.5, "refuse": 0.1, "cancel_all": 0.05}  # calls of a `do_all`
@@ -62,8 +77,16 @@ def wrong_openings(rng: random.Random, opening: Opening) -> Iterator[Opening]:
     """Openings that are refused, for one reason or for several."""
     lanes = opening.lanes
     spoilt: List[Dict[str, Any]] = [
-        {"lanes": lanes[:-1]}, {"lanes": lanes + [0]}, {"lanes": lanes[:-1] + [opening.of_lanes]}, {"of_lanes": 0}, {"of_lanes": 17},
-        {"own": 64}, {"own": 255}, {"room": 4097 - len(lanes)}, {"room": 65535}]
+        {"lanes": lanes[:-1]},
+        {"lanes": lanes + [0]},
+        {"lanes": lanes[:-1] + [opening.of_lanes]},
+        {"of_lanes": 0},
+        {"of_lanes": 17},
+        {"own": 64},
+        {"own": 255},
+        {"room": 4097 - len(lanes)},
+        {"room": 65535},
+    ]
     for _ in range(2):
         changes: Dict[str, Any] = {}
         for more in rng.sample(spoilt, rng.choice([1, 1, 2])):
@@ -239,8 +262,11 @@ def answer_of(request: Request, call: Call) -> Any:
 
 def seen(request: Request) -> Dict[str, Any]:
     """What a host sees of a request after each call."""
-    return {"how many are told still": request.tell(0).total, "the next deadline": request.next_deadline(),
-            "the numbers of ready stages": request.ready_of_lanes()}
+    return {
+        "how many are told still": request.tell(0).total,
+        "the next deadline": request.next_deadline(),
+        "the numbers of ready stages": request.ready_of_lanes(),
+    }
 
 
 def compare(what: str, told: Any, wanted: Any) -> None:

@@ -14,8 +14,24 @@ import machine
 from calls import Difference, Opening
 
 sys.path.insert(1, str(Path(__file__).resolve().parents[2] / "clients/python"))
-from cf._library import (CAnswer, CArgs, CHandle, COutcome, CReply, CStage, CTask, CValue, GOT, INT, NIL, NO_FUNCTION,  # noqa: E402
-                         PENDING, STRUCTURES, THROWN, VALUE)
+from cf._library import (  # noqa: E402
+    CAnswer,
+    CArgs,
+    CHandle,
+    COutcome,
+    CReply,
+    CStage,
+    CTask,
+    CValue,
+    GOT,
+    INT,
+    NIL,
+    NO_FUNCTION,  # noqa: E402
+    PENDING,
+    STRUCTURES,
+    THROWN,
+    VALUE,
+)
 
 TELLING = ["apply", "gather", "compose", "link", "next", "follow", "pass_to", "refuse", "cancel_all", "do_all"]  # calls with a row for told stages
 LONGEST = 64  # row of told stages
@@ -44,8 +60,16 @@ class CRequestGathering(c.Structure):
 
 
 class CRequestComposing(c.Structure):
-    _fields_ = [("who", c.c_uint8), ("lane", c.c_uint8), ("form", c.c_uint32), ("source", c.c_uint16), ("function", c.c_uint16),
-                ("relay", c.c_uint16), ("stage", c.c_uint16), ("told", c.c_size_t)]
+    _fields_ = [
+        ("who", c.c_uint8),
+        ("lane", c.c_uint8),
+        ("form", c.c_uint32),
+        ("source", c.c_uint16),
+        ("function", c.c_uint16),
+        ("relay", c.c_uint16),
+        ("stage", c.c_uint16),
+        ("told", c.c_size_t),
+    ]
 
 
 class CRequestLinking(c.Structure):
@@ -61,17 +85,38 @@ class CDeadline(c.Structure):
 
 
 class CCall(c.Structure):
-    _fields_ = [("call", c.c_uint32), ("who", c.c_uint8), ("lane", c.c_uint8), ("stage", c.c_uint16), ("relay", c.c_uint16),
-                ("code", c.c_uint32), ("word", c.c_uint64), ("moment", c.c_uint64), ("kind", c.c_uint32), ("value", CValue),
-                ("reply", CReply), ("task", CTask)]
+    _fields_ = [
+        ("call", c.c_uint32),
+        ("who", c.c_uint8),
+        ("lane", c.c_uint8),
+        ("stage", c.c_uint16),
+        ("relay", c.c_uint16),
+        ("code", c.c_uint32),
+        ("word", c.c_uint64),
+        ("moment", c.c_uint64),
+        ("kind", c.c_uint32),
+        ("value", CValue),
+        ("reply", CReply),
+        ("task", CTask),
+    ]
 
 
 class CDone(c.Structure):
     _fields_ = [("calls", c.c_size_t), ("told", c.c_size_t)]
 
 
-OWN = {"cf_request_sizes": CSizes, "cf_told": CTold, "cf_applied": CApplied, "cf_request_gathering": CRequestGathering,
-       "cf_request_composing": CRequestComposing, "cf_request_linking": CRequestLinking, "cf_request_step": CRequestStep, "cf_deadline": CDeadline, "cf_request_call": CCall, "cf_request_done": CDone}
+OWN = {
+    "cf_request_sizes": CSizes,
+    "cf_told": CTold,
+    "cf_applied": CApplied,
+    "cf_request_gathering": CRequestGathering,
+    "cf_request_composing": CRequestComposing,
+    "cf_request_linking": CRequestLinking,
+    "cf_request_step": CRequestStep,
+    "cf_deadline": CDeadline,
+    "cf_request_call": CCall,
+    "cf_request_done": CDone,
+}
 IN_ONE = ["apply", "next", "follow", "deadline", "pass_to", "refuse", "cancel_all"]  # the calls of cf_request_do by their numbers
 H, P, U8, U16, U32, U64, SIZE = c.POINTER(CHandle), c.POINTER, c.c_uint8, c.c_uint16, c.c_uint32, c.c_uint64, c.c_size_t
 TOLD = [P(CTold), SIZE]
@@ -167,7 +212,7 @@ def outcome_of(outcome: COutcome) -> Optional[machine.Outcome]:
 def args_of(args: CArgs) -> Tuple[Any, ...]:
     if args.kind == GOT:
         return ("got", outcome_of(args.outcome))
-    return (["none", "one", "two"][args.kind], value_of(args.first), value_of(args.second))[:args.kind + 1]
+    return (["none", "one", "two"][args.kind], value_of(args.first), value_of(args.second))[: args.kind + 1]
 
 
 def reply_of(kind: str, reply: CReply) -> machine.Reply:
@@ -250,7 +295,7 @@ class Library:
     def checked(self, code: int, *given: Tuple[Any, bytes]) -> None:
         """Raises why a call is refused, and sees that it has left the row and what else it was given as it was."""
         if code:
-            left = bytes(self.row) == self.marked and bytes(self.total) == self.marked[:c.sizeof(self.total)]
+            left = bytes(self.row) == self.marked and bytes(self.total) == self.marked[: c.sizeof(self.total)]
             if not left or any(bytes(it) != before for it, before in given):
                 raise Difference(f"a call that is refused for {NAMES[code]} has written something")
             check(code)
@@ -351,9 +396,9 @@ class Library:
         calls, done = (CCall * len(made))(*[call_in(name, given) for name, given in made]), CDone()
         before = [bytes(call) for call in calls]
         code = C.cf_request_do(self.request, calls if made else None, len(made), done, *self.mark(room))
-        if any(bytes(call) != was for call, was in list(zip(calls, before))[done.calls:]) or (done.calls < len(made)) != bool(code):
+        if any(bytes(call) != was for call, was in list(zip(calls, before))[done.calls :]) or (done.calls < len(made)) != bool(code):
             raise Difference("rows that aren't done are written, or it isn't said which is refused")
-        answers = [answer_in_row(name, given, call) for (name, given), call in list(zip(made, calls))[:done.calls]]
+        answers = [answer_in_row(name, given, call) for (name, given), call in list(zip(made, calls))[: done.calls]]
         return (answers, NAMES[code] if code else None), self.told(done.told, room)
 
     def follow(self, room: int, relay: int, stage: int) -> Tuple[Any, machine.Told]:
@@ -431,9 +476,9 @@ def check_handles() -> int:
         given = [kind._type_() if is_pointer(kind) else kind() for kind in kinds]
         wanted: List[Tuple[int, Any, str]] = [(0, plan, "WRONG_KIND"), (0, CHandle(), "EMPTY")]
         # a row of nothing, whose length stands behind it, may be null
-        wanted += [(place, None, "NULL") for place, kind in enumerate(kinds) if is_pointer(kind) and kinds[place + 1:place + 2] != [SIZE]]
+        wanted += [(place, None, "NULL") for place, kind in enumerate(kinds) if is_pointer(kind) and kinds[place + 1 : place + 2] != [SIZE]]
         for place, pointer, why in wanted:
-            told = NAMES[getattr(C, name)(*given[:place], pointer, *given[place + 1:])]
+            told = NAMES[getattr(C, name)(*given[:place], pointer, *given[place + 1 :])]
             if told != why:
                 raise Difference(f"{name} without what it needs at {place}: it answers {told}, and not {why}")
         count += len(wanted)

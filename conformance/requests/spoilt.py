@@ -41,7 +41,7 @@ class TheRootIsTheFirst(Machine):
 class OneStageFindsNoRoom(Machine):
     def gather(self, who: int, form: str, sources: Sequence[int]) -> int:
         self.check_caller(who)
-        return super().gather(who, form, sources[:self.state.room + 1])
+        return super().gather(who, form, sources[: self.state.room + 1])
 
 
 class NoRelayIsAttached(Machine):
@@ -286,7 +286,7 @@ class ARefusedCallIsPassedOver(Machine):
     def do_all(self, made: Sequence[Tuple[str, Tuple[Any, ...]]]) -> Tuple[List[Any], Optional[str]]:
         answers, why = super().do_all(made)
         if why is not None:
-            super().do_all(made[len(answers) + 1:])
+            super().do_all(made[len(answers) + 1 :])
         return answers, why
 
 

@@ -8,22 +8,26 @@ from jobs import tables
 from languages_judge import LANGUAGES
 
 # What the judge says of a worker that is spoilt so.
-WORKERS = {"twice": r"was run \d+ times by log-{0}", "gives": "came to another, and had to", "puts": "goes back", "answers": "told that {0} ",
-           "shows": r"showed \['value', 'another'\]"}
+WORKERS = {
+    "twice": r"was run \d+ times by log-{0}",
+    "gives": "came to another, and had to",
+    "puts": "goes back",
+    "answers": "told that {0} ",
+    "shows": r"showed \['value', 'another'\]",
+}
 # What SQLite does that is spoilt so: for all languages at once.
 ENGINES = {
-    "loses a word that it has answered":
-        "after insert on cf_word when new.at % 11 = 5 begin delete from cf_word where n = new.n; end",
-    "puts a word where another stands":
-        "before insert on cf_word when new.at % 3 = 2 begin delete from cf_word where request = new.request and at = new.at; end",
-    "loses the second word of a group":
-        "after insert on cf_word when exists (select 1 from cf_word where request = new.request and at = new.at - 1 and token = new.token - 1) "
-        "and new.n % 5 = 0 begin delete from cf_word where n = new.n; end",
-    "loses a payload":
-        "after insert on cf_word when new.payload is not null and new.at % 11 = 5 begin update cf_word set payload = null where n = new.n; end",
-    "keeps another's payload":
-        "after insert on cf_word when new.payload is not null and new.at % 11 = 5 begin update cf_word set payload = "
-        "(select payload from cf_word where payload is not null and n < new.n order by n desc limit 1) where n = new.n; end"}
+    "loses a word that it has answered": "after insert on cf_word when new.at % 11 = 5 begin delete from cf_word where n = new.n; end",
+    "puts a word where another stands": "before insert on cf_word when new.at % 3 = 2 begin "
+    "delete from cf_word where request = new.request and at = new.at; end",
+    "loses the second word of a group": "after insert on cf_word when exists "
+    "(select 1 from cf_word where request = new.request and at = new.at - 1 and token = new.token - 1) "
+    "and new.n % 5 = 0 begin delete from cf_word where n = new.n; end",
+    "loses a payload": "after insert on cf_word when new.payload is not null and new.at % 11 = 5 begin "
+    "update cf_word set payload = null where n = new.n; end",
+    "keeps another's payload": "after insert on cf_word when new.payload is not null and new.at % 11 = 5 begin update cf_word set payload = "
+    "(select payload from cf_word where payload is not null and n < new.n order by n desc limit 1) where n = new.n; end",
+}
 # What the judge itself finds by rows and accounts, and not what processes wrote down as their errors.
 ANY = r"^(request |\(|\[|\d+: (place|session|stage)).*(lost|goes back|told|no word|no payload|nobody meant|came to|was run|can't be|showed)"
 EXPECTED = r"stages are left|the run had no"  # of a run that isn't ended

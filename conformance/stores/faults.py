@@ -46,8 +46,22 @@ class Run:
     judge, program, between = Judge, "worker.py", (0.05, 0.2)
     bound = 1800  # seconds for the end: on a busy machine workers get little of it
 
-    def __init__(self, engine, folder, kills, workers=8, breaks=0.0, cut=0.0, pauses=0.0, lax=False, seed=1, most_breaks=None, environment=None,
-                 address=None, seconds=None):
+    def __init__(
+        self,
+        engine,
+        folder,
+        kills,
+        workers=8,
+        breaks=0.0,
+        cut=0.0,
+        pauses=0.0,
+        lax=False,
+        seed=1,
+        most_breaks=None,
+        environment=None,
+        address=None,
+        seconds=None,
+    ):
         self.engine, self.folder, self.kills, self.many = engine, str(folder), kills, workers
         self.breaks, self.pauses, self.lax, self.rng = breaks, pauses, lax, random.Random(seed)
         self.most_breaks, self.environment, self.seconds = most_breaks, environment or {}, seconds or float("inf")
@@ -89,7 +103,9 @@ class Run:
             first = self.rng.randrange(len(nodes))
             where = "etcd://" + ",".join(nodes[first:] + nodes[:first])
         with open(f"{self.folder}/stderr", "a") as errors:
-            return subprocess.Popen([*self.command(k), where, self.folder, str(self.rng.randrange(1 << 30))], stderr=errors, env=self.environment_of(k))
+            return subprocess.Popen(
+                [*self.command(k), where, self.folder, str(self.rng.randrange(1 << 30))], stderr=errors, env=self.environment_of(k)
+            )
 
     def break_server(self):
         """Breaks it now and then, each time while words flow: the break of a server that nobody asks shows nothing."""

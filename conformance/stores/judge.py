@@ -90,8 +90,10 @@ class Judge:
         """Judges one request, and gives its account."""
         entries, plan, payloads = self.row(name)
         room = sum(word >> 56 == ATTACH for word, _ in entries)
-        stages = [shape(FORMS.index(it["form"]), tuple(it.get("of", ())), k if it["form"] not in ("source", "allOf", "anyOf") else None)
-                  for k, it in enumerate(plan["stages"])]
+        stages = [
+            shape(FORMS.index(it["form"]), tuple(it.get("of", ())), k if it["form"] not in ("source", "allOf", "anyOf") else None)
+            for k, it in enumerate(plan["stages"])
+        ]
         plan = {"cf": 2, "room": room, "stages": stages}
         graph, replies, states, granted = Graph(plan), [None], [], set()
         self.graph = graph
@@ -105,8 +107,7 @@ class Judge:
         self.count["words"] += len(entries)
         self.left(entries, states, len(stages))
         callers = self.callers(name, entries, replies, states, granted)
-        return json.dumps({"plan": plan, "events": [str(word) for word, _ in entries], "callers": callers, "functions": 4096,
-                           "outcomes": states[-1]})
+        return json.dumps({"plan": plan, "events": [str(word) for word, _ in entries], "callers": callers, "functions": 4096, "outcomes": states[-1]})
 
     def left(self, entries, states, planned):
         """Counts the stages that aren't settled. Who sees that all are says that nothing is left; a stage that was attached behind that by a process

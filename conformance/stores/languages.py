@@ -40,6 +40,7 @@ class Client(mixed.Client):
         def told(it, token):
             answer = call(it, token)
             return answer if answer is None else answer != spoils("answers")
+
         super().means(request, stage, told, token)
 
     def shown(self, said, told):

@@ -12,7 +12,16 @@ from cf.store import Functions
 functions = Functions()
 note = print  # the process's own log
 BELOW = 1 << 32
-ONE = [("give", 1), ("next", 1), ("next", 2), ("list", 1), ("wait", 1), ("fail", 1), ("give", 1), ("list", 1)]  # of one value, as often as it is taken
+ONE = [
+    ("give", 1),
+    ("next", 1),
+    ("next", 2),
+    ("list", 1),
+    ("wait", 1),
+    ("fail", 1),
+    ("give", 1),
+    ("list", 1),
+]  # of one value, as often as it is taken
 
 
 def number_of(value):
@@ -50,7 +59,8 @@ RESULTS = {
     ("told", 1): lambda value, error: ([number_of(value), *fields(error)], None),
     ("rescue", 1): lambda error: (fields(error), None),
     ("cf.gather", 1): lambda it: ([it], None),
-    ("cf.add", 1): lambda one, other: (one + other, None) if isinstance(one, list) and isinstance(other, list) else (None, ANY)}
+    ("cf.add", 1): lambda one, other: (one + other, None) if isinstance(one, list) and isinstance(other, list) else (None, ANY),
+}
 
 
 def registered(name, version):
@@ -65,6 +75,7 @@ def registered(name, version):
         if error:
             raise ValueError(error["text"])
         return "another" if spoils("gives") else value
+
     called.__qualname__ = name
     return called
 

@@ -17,9 +17,16 @@ from cf.service.words import CANCEL
 LANGUAGES = ("python", "rust", "java")
 RARE = ["abandoned", "further tries that ran", "late finishes"]  # wanted where a run has MANY kills
 MANY = 20
-WANTED = ["calls that complete", "calls that attach", "calls that cancel", "timers fired", "outcomes shown", "stages run in another language",
-          "requests of all languages",
-          *(f"{what}, {it}" for it in LANGUAGES for what in ("requests", "words", "answers judged", "functions run"))]
+WANTED = [
+    "calls that complete",
+    "calls that attach",
+    "calls that cancel",
+    "timers fired",
+    "outcomes shown",
+    "stages run in another language",
+    "requests of all languages",
+    *(f"{what}, {it}" for it in LANGUAGES for what in ("requests", "words", "answers judged", "functions run")),
+]
 
 
 def label_of(name, version, args):
@@ -84,7 +91,7 @@ class LanguagesJudge(MixedJudge):
             self.count["calls that complete"] += did is True
             if did is not None and (stage, token) in self.put_at:
                 self.replied[self.put_at[stage, token]] = "true" if did else "false"
-        for stage, in self.told[("attached", *self.key)]:
+        for (stage,) in self.told[("attached", *self.key)]:
             self.count["calls that attach"] += 1
             if stage >= len(self.came):
                 self.count["lost words"] += 1

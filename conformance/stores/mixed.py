@@ -70,8 +70,18 @@ class Client(Process):
         self.arm()
         stores = [self.connected(address) for _ in range(1 + (self.rng.random() < 0.4))]
         shared_service.RowView, mixed_functions.note = NotedView, self.note
-        self.services = [DurableService(store, self.rng.choice([1, 2, 3]), functions=self.functions, lease=GONE, takes_all=not k or self.rng.random() < 0.5,
-                                        groups=self.rng.random() < 0.3, note=self.note) for k, store in enumerate(stores)]
+        self.services = [
+            DurableService(
+                store,
+                self.rng.choice([1, 2, 3]),
+                functions=self.functions,
+                lease=GONE,
+                takes_all=not k or self.rng.random() < 0.5,
+                groups=self.rng.random() < 0.3,
+                note=self.note,
+            )
+            for k, store in enumerate(stores)
+        ]
         logging.getLogger("cf.store").addHandler(Errors(self.note))
         logging.getLogger("cf.store").propagate = False
         self.store, self.kinds = stores[0], kinds_of(stores[0].is_transactional)
@@ -116,7 +126,7 @@ class Client(Process):
         if not self.is_flow(number):
             return service.request(name)
         flow = self.flow(number, f"{rng.getrandbits(32):x}")
-        given = [{"token": self.token()} for _ in flow._promises][:rng.randint(0, 2)]
+        given = [{"token": self.token()} for _ in flow._promises][: rng.randint(0, 2)]
         for stage, it in zip(flow._promises, given):
             self.note("means", name, None, stage, it["token"])
         try:
@@ -159,8 +169,7 @@ class Client(Process):
         if rng.random() < 0.5:
             self.means(request, stage, lambda it, token: it.or_timeout(seconds) and None, f"{seconds} s")
         else:
-            self.means(request, stage, lambda it, token: it.complete_on_timeout({"token": token}, seconds) and None,
-                       f"timer {self.token()}")
+            self.means(request, stage, lambda it, token: it.complete_on_timeout({"token": token}, seconds) and None, f"timer {self.token()}")
         self.note("timer", request.name, self.number_of(request), stage)
 
     def attach(self, request, rng):
@@ -211,6 +220,7 @@ class Client(Process):
                     self.note("error", request.name, repr(refused))
             except BaseException as error:
                 self.note("error", request.name, repr(error))
+
         request[stage].add_done_callback(called)
 
     def shown(self, said, told):

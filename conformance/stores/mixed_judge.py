@@ -28,30 +28,43 @@ from cf.service.words import ATTACH, CANCEL, CLAIM, COMPLETE, FAIL, FAIL_AS, FIN
 from cf.store import Broken
 
 KEPT = {  # what keeps the rows of requests that are dropped
-    "sqlite": ["create table kept_request (id integer, name text, plan text)",
-               "create table kept_word (request integer, at integer, word integer, token integer, payload blob)",
-               "create table kept_large (request integer, place integer, payload blob)",
-               "create trigger keep_request before delete on cf_request begin insert into kept_request values (old.id, old.name, old.plan); end",
-               "create trigger keep_word before delete on cf_word begin "
-               "insert into kept_word values (old.request, old.at, old.word, old.token, old.payload); end",
-               "create trigger keep_large before delete on cf_large begin insert into kept_large values (old.request, old.place, old.payload); end"],
-    "postgres": ["create table kept_request (id bigint, name text, plan text)",
-                 "create table kept_word (request bigint, at int, word bigint, token bigint, payload bytea)",
-                 "create function keep_request() returns trigger language plpgsql as "
-                 "'begin insert into kept_request values (old.id, old.name, old.plan); return old; end'",
-                 "create function keep_word() returns trigger language plpgsql as "
-                 "'begin insert into kept_word values (old.request, old.at, old.word, old.token, old.payload); return old; end'",
-                 "create trigger keep_request before delete on cf_request for each row execute function keep_request()",
-                 "create trigger keep_word before delete on cf_word for each row execute function keep_word()"]}
+    "sqlite": [
+        "create table kept_request (id integer, name text, plan text)",
+        "create table kept_word (request integer, at integer, word integer, token integer, payload blob)",
+        "create table kept_large (request integer, place integer, payload blob)",
+        "create trigger keep_request before delete on cf_request begin insert into kept_request values (old.id, old.name, old.plan); end",
+        "create trigger keep_word before delete on cf_word begin "
+        "insert into kept_word values (old.request, old.at, old.word, old.token, old.payload); end",
+        "create trigger keep_large before delete on cf_large begin insert into kept_large values (old.request, old.place, old.payload); end",
+    ],
+    "postgres": [
+        "create table kept_request (id bigint, name text, plan text)",
+        "create table kept_word (request bigint, at int, word bigint, token bigint, payload bytea)",
+        "create function keep_request() returns trigger language plpgsql as "
+        "'begin insert into kept_request values (old.id, old.name, old.plan); return old; end'",
+        "create function keep_word() returns trigger language plpgsql as "
+        "'begin insert into kept_word values (old.request, old.at, old.word, old.token, old.payload); return old; end'",
+        "create trigger keep_request before delete on cf_request for each row execute function keep_request()",
+        "create trigger keep_word before delete on cf_word for each row execute function keep_word()",
+    ],
+}
 LEFT_BEHIND = "select request, count(*) from cf_word where request not in (select id from cf_request) group by request"
 KINDS = ("transactional", "tried again", "once", "timed", "called back", "opened again", "shared")  # what may stand in one request
 WANTED = [  # what each run has to have had, but for transactions where the engine has none
     *(f"{kind}, {where}" for kind in ("transactional", "tried again", "once") for where in ("first", "in the middle", "last")),
     *(f"{what} a {kind} stage" for what in ("timers of", "callbacks of") for kind in ("transactional", "tried again", "once", "promised")),
     *(f"callbacks that {what}" for what in ("complete", "attach", "put elsewhere", "set a timer")),
-    "transactional, another ready or claimed", "effects in transactions", "timers fired", "outcomes shown", "histories",
-    "opened again by the same process, closed before", "opened again by the same process, open", "closed ones that were attached to",
-    "names that were begun anew", "requests of all kinds"]
+    "transactional, another ready or claimed",
+    "effects in transactions",
+    "timers fired",
+    "outcomes shown",
+    "histories",
+    "opened again by the same process, closed before",
+    "opened again by the same process, open",
+    "closed ones that were attached to",
+    "names that were begun anew",
+    "requests of all kinds",
+]
 
 
 class MixedJudge(Judge):
@@ -412,8 +425,10 @@ class MixedJudge(Judge):
         for many, words, values in self.told[("history", *self.key)]:
             self.count["histories"] += 1
             entries = self.entries[:many]
-            said = [None] + [self.thing(place) if word >> 56 in (COMPLETE, FINISH) and word >> 32 & 0xF == 1 else None
-                             for place, (word, _) in enumerate(entries, 1)]
+            said = [None] + [
+                self.thing(place) if word >> 56 in (COMPLETE, FINISH) and word >> 32 & 0xF == 1 else None
+                for place, (word, _) in enumerate(entries, 1)
+            ]
             if len(entries) < many or zlib.crc32(json.dumps([word for word, _ in entries]).encode()) != words:
                 self.wrong.append(f"{self.key}: a history of {many} words is another's")
             elif zlib.crc32(json.dumps(said).encode()) != values:
@@ -434,7 +449,7 @@ class MixedJudge(Judge):
             self.count["closed behind an attach"] += 1
             if self.is_left(stage, words):
                 self.wrong.append(f"{self.key}: was closed at {words} words with stage {stage} left, which was attached before")
-        for words, in self.told[("closed", *self.key)]:
+        for (words,) in self.told[("closed", *self.key)]:
             left = [stage for stage in range(len(self.came)) if self.is_left(stage, words)]
             kept = [stage for stage in left if self.came[stage][1] in self.ended | {None}]
             self.wrong += [f"{self.key}: was closed at {words} words with stage {stage} left, of which nobody was killed" for stage in kept[:1]]

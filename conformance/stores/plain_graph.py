@@ -5,8 +5,10 @@ An outcome is ("value", v) or ("fault", cause, wrapped), a cause is its text. A 
 import heapq
 
 COMPLETE, FAIL, CANCEL, CLAIM, FINISH, TICK, ATTACH, FAIL_AS = range(1, 9)
-FORMS = ("source supply runAsync apply accept thenRun combine acceptBoth runBoth applyEither acceptEither runEither compose handle "
-         "whenComplete exceptionally allOf anyOf exceptionallyCompose").split()
+FORMS = (
+    "source supply runAsync apply accept thenRun combine acceptBoth runBoth applyEither acceptEither runEither compose handle "
+    "whenComplete exceptionally allOf anyOf exceptionallyCompose"
+).split()
 
 NO_SOURCE = {"source", "supply", "runAsync"}
 EITHERS = {"applyEither", "acceptEither", "runEither", "anyOf"}
@@ -55,8 +57,17 @@ class Graph:
 
     def _add(self, form, of, fn):
         k = len(self.form)
-        for rows, item in ((self.form, form), (self.of, list(of)), (self.fn, fn), (self.state, "pending"), (self.args, None),
-                           (self.told, None), (self.open, None), (self.link, None), (self.dependents, [])):
+        for rows, item in (
+            (self.form, form),
+            (self.of, list(of)),
+            (self.fn, fn),
+            (self.state, "pending"),
+            (self.args, None),
+            (self.told, None),
+            (self.open, None),
+            (self.link, None),
+            (self.dependents, []),
+        ):
             rows.append(item)
         for source in of:
             self.dependents[source].append(k)

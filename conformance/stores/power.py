@@ -189,7 +189,9 @@ def run(folder, times=3):
             bad = any(kept < 0 for _, kept in done)
             is_right = is_right and not bad and (lost > 0 if lax else lost == 0 and answered > 0)
             by = "" if language == "python" else f" by {language}"
-            told.append(f"{engine}{by}{' without syncs' if lax else ''}: {answered} answered, {lost} lost" + (", and the row is broken" if bad else ""))
+            told.append(
+                f"{engine}{by}{' without syncs' if lax else ''}: {answered} answered, {lost} lost" + (", and the row is broken" if bad else "")
+            )
     return is_right, "; ".join(told)
 
 
@@ -197,6 +199,7 @@ if __name__ == "__main__":
     if sys.argv[1:2] == ["write"]:
         write(*sys.argv[2:])
     import tempfile
+
     with tempfile.TemporaryDirectory() as made:
         os.chmod(made, 0o755)
         print(*run(made))

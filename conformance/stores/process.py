@@ -45,8 +45,10 @@ def database_of(address):
     """The engine's own connection to SQLite, or a cursor of PostgreSQL, each statement of which stands by itself."""
     if address.startswith("sqlite"):
         import sqlite3
-        return sqlite3.connect(address[len("sqlite:///"):], timeout=60, isolation_level=None)
+
+        return sqlite3.connect(address[len("sqlite:///") :], timeout=60, isolation_level=None)
     import psycopg2
+
     connection = psycopg2.connect(address)
     connection.autocommit = True
     return connection.cursor()

@@ -43,4 +43,5 @@ async def main():
     server.close()
     print(cuts)
 
+
 asyncio.run(main())

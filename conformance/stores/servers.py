@@ -42,8 +42,10 @@ class Postgres:
         if anew:
             self._make()
         with open(f"{self.folder}/postgresql.conf", "a") as conf:
-            conf.write(f"\nlisten_addresses='127.0.0.1'\nport={self.port}\nunix_socket_directories=''\nmax_connections=300\n"
-                       f"shared_buffers=128MB\n{options}\n")
+            conf.write(
+                f"\nlisten_addresses='127.0.0.1'\nport={self.port}\nunix_socket_directories=''\nmax_connections=300\n"
+                f"shared_buffers=128MB\n{options}\n"
+            )
         self._do("pg_ctl", "-D", self.folder, "-w", "-l", f"{self.folder}/log", "start")
         self.address = self.by(self.port)
 
@@ -121,10 +123,33 @@ class Etcd:
         client, peer = f"http://{self.hosts[k]}:{self.ports[k]}", f"http://{self.hosts[k]}:{self.peers[k]}"
         head = ["ip", "netns", "exec", f"cf{k}"] if self.spaces else []
         with open(f"{self.folder}/etcd{k}.log", "a") as log:
-            return subprocess.Popen([*head, "etcd", "--name", f"n{k}", "--data-dir", f"{self.folder}/etcd{k}", "--listen-client-urls", client,
-                                     "--advertise-client-urls", client, "--listen-peer-urls", peer, "--initial-advertise-peer-urls", peer,
-                                     "--initial-cluster", self.cluster, "--initial-cluster-state", "new", "--snapshot-count", "100000",
-                                     *self.options], stdout=log, stderr=log)
+            return subprocess.Popen(
+                [
+                    *head,
+                    "etcd",
+                    "--name",
+                    f"n{k}",
+                    "--data-dir",
+                    f"{self.folder}/etcd{k}",
+                    "--listen-client-urls",
+                    client,
+                    "--advertise-client-urls",
+                    client,
+                    "--listen-peer-urls",
+                    peer,
+                    "--initial-advertise-peer-urls",
+                    peer,
+                    "--initial-cluster",
+                    self.cluster,
+                    "--initial-cluster-state",
+                    "new",
+                    "--snapshot-count",
+                    "100000",
+                    *self.options,
+                ],
+                stdout=log,
+                stderr=log,
+            )
 
     def _status(self, k):
         connection = http.client.HTTPConnection(self.hosts[k], self.ports[k], timeout=1)
@@ -181,8 +206,12 @@ class Etcd:
             self.cut(source, to)
         time.sleep(3)
         self.mend()
-        return ("the others don't hear the leader", "the leader doesn't hear the others", "one doesn't hear the leader",
-                "the leader doesn't hear one")[turn]
+        return (
+            "the others don't hear the leader",
+            "the leader doesn't hear the others",
+            "one doesn't hear the leader",
+            "the leader doesn't hear one",
+        )[turn]
 
     def proxied(self, chance):
         proxies = [Proxy(f"{host}:{port}", chance) for host, port in zip(self.hosts, self.ports)]
@@ -215,7 +244,7 @@ def by_ip(*words):
 
 def in_space(words):
     """Runs a command in a network and mounts of its own, which end with it."""
-    head = "mount --make-rprivate / && mount -t tmpfs tmpfs /run && ip link set lo up && exec \"$@\""
+    head = 'mount --make-rprivate / && mount -t tmpfs tmpfs /run && ip link set lo up && exec "$@"'
     return subprocess.run(["unshare", "--net", "--mount", "sh", "-c", head, "sh", *words]).returncode
 
 

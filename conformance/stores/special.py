@@ -19,6 +19,7 @@ SUPPLIES = json.dumps({"cf": 3, "flow": "", "stages": [{"form": "supply", "name"
 
 def work(address, name, sessions, granted, wrong, same=None):
     """Sessions by threads, each with a desk of its own, claim and finish all stages of one request."""
+
     def one():
         store = connect(address)
         desk = RowView(store, store.open(name, SUPPLIES), same or new_session())
@@ -29,6 +30,7 @@ def work(address, name, sessions, granted, wrong, same=None):
             def decide(desk):
                 chosen[:] = random.sample(sorted(desk.ready), min(1, len(desk.ready)))
                 return [(CLAIM << 56 | desk.who << 48 | stage << 36, None) for stage in chosen]
+
             done, _ = desk.act(decide)
             if done is None:
                 return
@@ -38,6 +40,7 @@ def work(address, name, sessions, granted, wrong, same=None):
                 done, _ = desk.act(lambda desk: [(FINISH << 56 | desk.who << 48 | chosen[0] << 36 | GIVES << 32 | desk.place, payload)])
                 if done[0].reply[0]:
                     wrong.append(f"stage {chosen[0]}: its finish was answered {done[0].reply[0]}")
+
     threads = [threading.Thread(target=one) for _ in range(sessions)]
     for thread in threads:
         thread.start()
@@ -103,6 +106,7 @@ def jumping_clock(address, folder):
         begun.set()
         time.sleep(1.5)
         return 1
+
     first = DurableService(connect(address), 1, functions=functions, lease=1)
     second = DurableService(connect(address), 1, functions=functions, lease=1, takes_all=True)
     try:
@@ -123,6 +127,7 @@ def jumping_clock(address, folder):
 def store_away(address, folder):
     """A store that can't be reached: an error that says so, within the patience; and it goes on later."""
     from servers import Postgres, missing
+
     if missing("postgres"):
         return None, missing("postgres")
     server = Postgres(folder)
@@ -147,6 +152,7 @@ def store_away(address, folder):
 def silent_network(address, folder):
     """A network lets nothing through any more: PostgreSQL's calls tell it within a minute, and go on once it does."""
     from servers import in_space, missing
+
     lacks = missing("postgres") or missing("space")
     if lacks:
         return None, lacks
@@ -176,6 +182,7 @@ def many_timers(address, folder):
 def unsafe_servers(address, folder):
     """PostgreSQL with a setting that loses words is refused, with the setting's name."""
     from servers import Postgres, missing
+
     if missing("postgres"):
         return None, missing("postgres")
     told = []
@@ -195,6 +202,7 @@ def unsafe_servers(address, folder):
 def loss_of_power(address, folder):
     """What was answered is on the disk, in each engine; without syncs it isn't, which the control has to find."""
     from power import run as cut_power
+
     return cut_power(folder)
 
 
@@ -214,8 +222,19 @@ def many_open(address, folder):
     return len(ends) == 3000 and told == {"7": 1, "another": 0}, f"all in {1000 * whole:.1f} ms, what changed in {1000 * few:.2f} ms"
 
 
-ALL = [many_sessions, one_session_twice, full_disk, jumping_clock, store_away, silent_network, stale_reads, many_timers, many_open, unsafe_servers,
-       loss_of_power]
+ALL = [
+    many_sessions,
+    one_session_twice,
+    full_disk,
+    jumping_clock,
+    store_away,
+    silent_network,
+    stale_reads,
+    many_timers,
+    many_open,
+    unsafe_servers,
+    loss_of_power,
+]
 
 
 def run(folder):

@@ -11,7 +11,7 @@ import random
 import threading
 import time
 
-import process  # noqa: F401 (for the path)
+import process as the_path  # noqa: F401 (it sets sys.path)
 import servers
 
 from cf.service.words import CLAIM, FINISH, GIVES
@@ -40,6 +40,7 @@ def insert(store, address):
         def put(*it):
             cursor.execute("execute bare(%s, %s, %s, %s, %s)", it)
             return cursor.rowcount
+
         return put
     return etcd_insert(address)
 
@@ -51,14 +52,22 @@ def etcd_insert(address):
         key = base64.b64encode(b"bare/%012d/%06d" % (request, at)).decode()
         puts = [{"request_put": {"key": key, "value": base64.b64encode(b"%x %x" % (word, token)).decode()}}]
         if payload is not None:
-            puts.append({"request_put": {"key": base64.b64encode(b"barep/%012d/%06d" % (request, at + 1)).decode(),
-                                         "value": base64.b64encode(payload).decode()}})
+            puts.append(
+                {
+                    "request_put": {
+                        "key": base64.b64encode(b"barep/%012d/%06d" % (request, at + 1)).decode(),
+                        "value": base64.b64encode(payload).decode(),
+                    }
+                }
+            )
         connection.request("POST", "/v3/kv/txn", json.dumps({"compare": [{"key": key, "target": "VERSION", "version": 0}], "success": puts}))
         return json.loads(connection.getresponse().read()).get("succeeded", False)
+
     return put
 
 
 # A way is a generator that is handed the moment until which it goes on, and adds the seconds of each word to `told`.
+
 
 def bare(store, address, told, one, k, base):
     """The same insert in a loop: own rows, or the next place of one row, which goes on where it is taken."""
@@ -77,6 +86,7 @@ def bare(store, address, told, one, k, base):
 
 def desk(group):
     """Claims and finishes, each in a put of its own, or a finish with the next claims. It opens a request after each 200 words."""
+
     def way(store, address, told, one, k, base):
         session, until, number = new_session(), (yield), 0
         while True:
@@ -92,8 +102,9 @@ def desk(group):
                 done, stages = step(it, held, group)
                 if done is None:
                     break
-                held = [stage for stage, claim in zip(stages, done[len(held):]) if not claim.reply[0]]
+                held = [stage for stage, claim in zip(stages, done[len(held) :]) if not claim.reply[0]]
                 told.extend([time.perf_counter() - began] * len(done))
+
     return way
 
 
@@ -103,8 +114,9 @@ def step(it, held, group):
 
     def decide(desk):
         made = [(FINISH << 56 | desk.who << 48 | stage << 36 | GIVES << 32 | desk.place + n, PAYLOAD) for n, stage in enumerate(held)]
-        stages[:] = [] if group == 1 and held else sorted(desk.ready)[:max(group // 2, 1)]
+        stages[:] = [] if group == 1 and held else sorted(desk.ready)[: max(group // 2, 1)]
         return made + [(CLAIM << 56 | desk.who << 48 | stage << 36, None) for stage in stages]
+
     return it.act(decide)[0], stages
 
 
@@ -144,7 +156,7 @@ def process(address, ways, one, barrier, out, k, base):
             began = time.perf_counter()
             it.send(began + SLICE)
             took[way] += time.perf_counter() - began
-    out.put(({way: len(it) for way, it in told.items()}, {way: sorted(it)[::max(1, len(it) // 1000)] for way, it in told.items()}, took))
+    out.put(({way: len(it) for way, it in told.items()}, {way: sorted(it)[:: max(1, len(it) // 1000)] for way, it in told.items()}, took))
 
 
 def rates(address, ways, count, one):
@@ -158,8 +170,16 @@ def rates(address, ways, count, one):
         it.join()
     rate = {way: sum(many_[way] / took[way] for many_, _, took in got) for way in ways}
     waits = {way: sorted(wait for _, told, _ in got for wait in told[way]) for way in ways}
-    return {way: {"words/s": round(rate[way]), "of bare": round(rate[way] / (rate["bare"] or 1), 2),
-                  "p50 ms": round(1000 * waits[way][len(waits[way]) // 2], 2), "p99 ms": round(1000 * waits[way][int(len(waits[way]) * .99)], 2)} for way in ways if waits[way]}
+    return {
+        way: {
+            "words/s": round(rate[way]),
+            "of bare": round(rate[way] / (rate["bare"] or 1), 2),
+            "p50 ms": round(1000 * waits[way][len(waits[way]) // 2], 2),
+            "p99 ms": round(1000 * waits[way][int(len(waits[way]) * 0.99)], 2),
+        }
+        for way in ways
+        if waits[way]
+    }
 
 
 def waking(address):
@@ -174,6 +194,7 @@ def waking(address):
             time.sleep(0.02 + random.random() * 0.05)
             writer.append(Put("waking", at, [(1, at + 1)], {}))
             put.append(time.perf_counter())
+
         thread = threading.Thread(target=puts)
         thread.start()
         waiter.wait("waking", at, 5)
@@ -204,8 +225,10 @@ def measure(engine, folder):
     try:
         store = connect(address)
         if engine == "sqlite":
-            store._db.execute("create table cf_bare (n integer primary key, request integer, at integer, word integer not null, "
-                              "token integer not null, payload blob, unique (request, at))")
+            store._db.execute(
+                "create table cf_bare (n integer primary key, request integer, at integer, word integer not null, "
+                "token integer not null, payload blob, unique (request, at))"
+            )
         elif engine == "postgres":
             store._ask("create table cf_bare (like cf_word including all)")
         store.close()

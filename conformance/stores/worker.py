@@ -12,8 +12,7 @@ import time
 from plans import plan_of
 from process import Process, sure
 
-from cf.service.words import (ATTACH, CANCEL, CLAIM, COMPLETE, FAIL, FAIL_AS, FINISH, FORMS, GIVES, LINKS, THROWS, THROWN,
-                              TICK, VALUE)
+from cf.service.words import ATTACH, CANCEL, CLAIM, COMPLETE, FAIL, FAIL_AS, FINISH, FORMS, GIVES, LINKS, THROWS, THROWN, TICK, VALUE
 from cf.store import Put, RowView, StoreError, Unknown, Watcher, connect, new_session
 
 WINDOW = int(os.environ.get("WINDOW", "12"))
@@ -58,8 +57,16 @@ class Worker(Process):
     def payloads(self, desk, reply):
         """The objects that a claim's arguments name: they have to be there."""
         kind, first_some, first, second_some, second, got, _, code, some, number = reply[2:12]
-        named = [it for is_there, it in ((kind in (1, 2) and first_some, first), (kind == 2 and second_some, second),
-                                         (kind == 3 and got == VALUE and some, number), (kind == 3 and got == THROWN, code)) if is_there]
+        named = [
+            it
+            for is_there, it in (
+                (kind in (1, 2) and first_some, first),
+                (kind == 2 and second_some, second),
+                (kind == 3 and got == VALUE and some, number),
+                (kind == 3 and got == THROWN, code),
+            )
+            if is_there
+        ]
         for it in named:
             told = json.loads(desk.payload(it))
             assert told["at"] == it, (desk.name, it, told)
@@ -81,6 +88,7 @@ class Worker(Process):
             if pick < 0.15:
                 return word(FINISH, desk, stage), None
             return word(FINISH, desk, stage, GIVES << 32 | desk.place), payload
+
         return finish
 
     def work(self, desk):
@@ -93,6 +101,7 @@ class Worker(Process):
                 made = [finish(desk)] if finish else []
                 claimed[:] = sorted(desk.ready)[:1]
                 return made + [(word(CLAIM, desk, stage), None) for stage in claimed]
+
             done, _ = desk.act(decide)
             if not done or not claimed or done[-1].reply[0]:
                 return
@@ -106,6 +115,7 @@ class Worker(Process):
 
         def put(kind, stage, said, tag=0):
             desk.act(lambda desk: [(word(kind, desk, stage, tag << 32 | desk.place), json.dumps({"at": desk.place, **said}).encode())])
+
         sources = [k for k in range(many) if not desk.forms[k][0] and not desk.is_settled(k)]
         if sources and pick < 0.6:
             stage = rng.choice(sources)
@@ -138,11 +148,13 @@ class Worker(Process):
         self.work(desk)
         for stage, session in desk.open_claims().items():
             if session != self.session and self.watcher.is_gone(session):
+
                 def decide(desk, stage=stage, session=session):
                     fails = desk.abandoned(session, stage)
                     if fails is not None:
                         return [(fails, json.dumps({"at": desk.place, "abandoned": session}).encode())]
                     return None
+
                 if desk.act(decide)[0]:
                     self.note("abandoned", desk.name, stage, session)
 

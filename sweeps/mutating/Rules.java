@@ -3,6 +3,7 @@ import com.sun.source.util.JavacTask;
 import com.sun.source.util.SourcePositions;
 import com.sun.source.util.TreePath;
 import com.sun.source.util.TreePathScanner;
+import com.sun.source.util.TreeScanner;
 import com.sun.source.util.Trees;
 import java.io.BufferedReader;
 import java.io.IOException;
@@ -18,6 +19,7 @@ import java.util.Arrays;
 import java.util.HashMap;
 import java.util.List;
 import java.util.Map;
+import java.util.TreeMap;
 import java.util.regex.Matcher;
 import java.util.regex.Pattern;
 import javax.lang.model.element.Modifier;
@@ -31,7 +33,8 @@ import javax.tools.StandardJavaFileManager;
 import javax.tools.ToolProvider;
 
 /**
- * The rules for Java, over the tree that javac makes, with the types that it finds; and the compiler of mutants, all in one process.
+ * The rules for Java, over the tree that javac makes, with the types that it finds; the compiler of mutants, all in one process; and what tells which
+ * statements a test reaches.
  *
  * <pre>
  *     java Rules.java --places SOURCES FILE .. for each place a line: the file, the rule, start, end, and what replaces it, parted by tabs;
@@ -39,6 +42,8 @@ import javax.tools.ToolProvider;
  *     java Rules.java --compile CLASSES MADE   compiles files against these classes; for each a line on standard input: a name, the file that
  *                                              stands for it and the file itself; its classes get into MADE/name; prints the name, and `built`
  *                                              or why not, parted by a tab
+ *     java Rules.java --reach FILE ..          has each statement of a block in these files say that it was reached, which changes the files; for
+ *                                              each a line: the file, its number, start and end before that; and so for methods, with `method`
  * </pre>
  *
  * Places are counted in units of UTF-16. In what replaces, a line's end, a tab and a backslash are written as \n, \t and \\.
@@ -80,6 +85,8 @@ final class Rules extends TreePathScanner<Void, Void> {
         PrintStream out = new PrintStream(System.out, true, "UTF-8");
         if (words[0].equals("--places")) {
             places(words[1], Arrays.asList(words).subList(2, words.length), out);
+        } else if (words[0].equals("--reach")) {
+            reach(Arrays.asList(words).subList(1, words.length), out);
         } else {
             compile(words[1], Paths.get(words[2]), out);
         }
@@ -95,6 +102,72 @@ final class Rules extends TreePathScanner<Void, Void> {
         task.analyze();
         for (CompilationUnitTree unit : units) {
             new Rules(unit, task, out).scan(unit, null);
+        }
+    }
+
+    private static void reach(List<String> files, PrintStream out) throws IOException {
+        JavaCompiler compiler = ToolProvider.getSystemJavaCompiler();
+        StandardJavaFileManager manager = compiler.getStandardFileManager(null, null, StandardCharsets.UTF_8);
+        JavacTask task = (JavacTask) compiler.getTask(null, manager, it -> {}, Arrays.asList("-proc:none"), null,
+                manager.getJavaFileObjectsFromStrings(files));
+        Reach reach = new Reach(Trees.instance(task).getSourcePositions(), out);
+        for (CompilationUnitTree unit : task.parse()) {
+            reach.into(unit);
+        }
+    }
+
+    /** Puts a call before each statement of a block, but for a constructor's own first call. */
+    private static final class Reach extends TreeScanner<Void, CompilationUnitTree> {
+        private final SourcePositions positions;
+        private final PrintStream out;
+        private int count;
+        private TreeMap<Integer, Integer> places;
+        private String file;
+
+        Reach(SourcePositions positions, PrintStream out) {
+            this.positions = positions;
+            this.out = out;
+        }
+
+        void into(CompilationUnitTree unit) throws IOException {
+            places = new TreeMap<>();
+            Path path = Paths.get(unit.getSourceFile().toUri());
+            file = path.toString();
+            scan(unit, unit);
+            StringBuilder text = new StringBuilder(unit.getSourceFile().getCharContent(true));
+            places.descendingMap().forEach((at, number) -> text.insert(at, "cf.internal.Reached.at(" + number + "); "));
+            Files.write(path, text.toString().getBytes(StandardCharsets.UTF_8));
+        }
+
+        private void tell(Object number, Tree tree, CompilationUnitTree unit) {
+            out.println(file + "\t" + number + "\t" + positions.getStartPosition(unit, tree) + "\t" + positions.getEndPosition(unit, tree));
+        }
+
+        private void statements(List<? extends StatementTree> all, CompilationUnitTree unit) {
+            for (StatementTree each : all) {
+                if (!each.toString().matches("(?s)(this|super)\\(.*")) {
+                    places.put((int) positions.getStartPosition(unit, each), count);
+                    tell(count++, each, unit);
+                }
+            }
+        }
+
+        @Override
+        public Void visitBlock(BlockTree node, CompilationUnitTree unit) {
+            statements(node.getStatements(), unit);
+            return super.visitBlock(node, unit);
+        }
+
+        @Override
+        public Void visitCase(CaseTree node, CompilationUnitTree unit) {
+            statements(node.getStatements(), unit);
+            return super.visitCase(node, unit);
+        }
+
+        @Override
+        public Void visitMethod(MethodTree node, CompilationUnitTree unit) {
+            tell("method", node, unit);
+            return super.visitMethod(node, unit);
         }
     }
 

@@ -2,7 +2,7 @@
 import re
 import subprocess
 from pathlib import Path
-from typing import Dict, Iterable, List, NamedTuple, Sequence
+from typing import Dict, Iterable, List, NamedTuple, Sequence, Set
 
 from mutating import of_python, of_tokens
 from mutating.mutant import Mutant, Place, mutants_of
@@ -10,6 +10,7 @@ from mutating.mutant import Mutant, Place, mutants_of
 TOP = Path(__file__).resolve().parent.parent.parent
 RULES_OF_JAVA = Path(__file__).resolve().parent / "Rules.java"
 JAVA = ["java", "-Xmx512m", "-XX:TieredStopAtLevel=1"]  # which is quicker than more of a compiler where a process is short
+TEST_MODULE = re.compile(r"#\[cfg\((?:test\)|all\(test,[^\]]*)\]\s+(?:pub(?:\(\w+\))? )?mod (\w+);")  # one of Rust's that is for tests alone
 ESCAPED = {r"\\": "\\", r"\n": "\n", r"\t": "\t"}
 
 
@@ -23,16 +24,30 @@ class Language(NamedTuple):
         return TOP / "clients" / self.client
 
     def files(self) -> List[str]:
-        return sorted(str(path.relative_to(self.folder)) for pattern in self.sources for path in self.folder.glob(pattern)
-                      if "stand-ins" not in path.parts and "target" not in path.parts)
+        found = {
+            path for pattern in self.sources for path in self.folder.glob(pattern) if "stand-ins" not in path.parts and "target" not in path.parts
+        }
+        return sorted(str(path.relative_to(self.folder)) for path in found - test_modules(found))
 
 
-LANGUAGES = {it.name: it for it in [
-    Language("python", "python", ["cf/**/*.py"]),
-    Language("c", "python", ["native/*.c"]),
-    Language("java", "java", ["src/cf/**/*.java"]),
-    Language("rust", "rust", ["*/src/**/*.rs"]),
-]}
+LANGUAGES = {
+    it.name: it
+    for it in [
+        Language("python", "python", ["cf/**/*.py"]),
+        Language("c", "python", ["native/*.c"]),
+        Language("java", "java", ["src/cf/**/*.java"]),
+        Language("rust", "rust", ["*/src/**/*.rs"]),
+    ]
+}
+
+
+def test_modules(paths: Iterable[Path]) -> Set[Path]:
+    """The files of Rust's modules that are for tests alone."""
+    found = set()
+    for path in [it for it in paths if it.suffix == ".rs"]:
+        folder = path.parent if path.stem in ("lib", "mod") else path.parent / path.stem
+        found |= {folder / f"{name}.rs" for name in TEST_MODULE.findall(path.read_text(encoding="utf-8"))}
+    return found
 
 
 def places_of_java(folder: Path, paths: Sequence[Path]) -> Dict[str, List[Place]]:
@@ -73,15 +88,3 @@ def mutants(language: Language, wanted: Sequence[str] = ()) -> List[Mutant]:
     files = [it for it in every if it in wanted] if wanted else every
     found = places(language.name, language.folder, files, [it for it in every if it not in files])
     return [it for file in files for it in mutants_of(file, (language.folder / file).read_text(encoding="utf-8"), found[file])]
-
-
-def closure(first: Iterable[str], follow: Dict[str, List[str]]) -> List[str]:
-    """All that can be reached from the first ones."""
-    found: Dict[str, None] = {}
-    left = list(first)
-    while left:
-        it = left.pop()
-        if it not in found:
-            found[it] = None
-            left += follow.get(it, [])
-    return list(found)

@@ -1,13 +1,11 @@
 """The test programs of each client, which files each of them may reach, and which stand nearest to a file."""
 import re
 from pathlib import Path
-from typing import Dict, List, NamedTuple, Sequence
-
-from mutating.languages import closure
+from typing import List, NamedTuple, Sequence
 
 
 class Program(NamedTuple):
-    """A test program: a file of tests in Python, a class of tests in Java, a program of cargo's in Rust."""
+    """A test program: a file of tests in Python, a program of cargo's in Rust."""
 
     name: str
     words: Sequence[str]  # by which it is run
@@ -40,33 +38,14 @@ def programs_of_python(folder: Path, is_c: bool) -> List[Program]:
     return [Program(str(path.relative_to(folder)), [], str(path.relative_to(folder)), path.read_text(encoding="utf-8"), []) for path in paths]
 
 
-# Java
-
-COMMENT = re.compile(r"/\*.*?\*/|//.*?$", re.M | re.S)
-
-
-def programs_of_java(folder: Path, has_junit: bool) -> List[Program]:
-    """The tests that AllTests lists, by their classes; each has a process of its own."""
-    sources = {path.stem: path for part in ["src", "test"] for path in (folder / part).rglob("*.java") if path.stem != "AllTests"}
-    if has_junit:
-        sources.update((path.stem, path) for path in (folder / "junit").rglob("*.java"))
-    texts = {name: COMMENT.sub("", path.read_text(encoding="utf-8")) for name, path in sources.items()}
-    follow = {name: [it for it in set(re.findall(r"\b[A-Z]\w+", text)) if it in texts] for name, text in texts.items()}
-    listed = (folder / "test/cf/service/AllTests.java").read_text(encoding="utf-8")
-    names: Dict[str, List[str]] = {}
-    for name, test in re.findall(r'(?:test|over)\((?:[\w.]+::new, )?"([^"]+)", (\w+)::\w+\);', listed):
-        names.setdefault(test, []).append(name)
-    words = {test: ["cf.service.AllTests", *its] for test, its in sorted(names.items())}
-    if has_junit:
-        words["EveryOrderTest"] = ["cf.service.junit.EveryOrderTest"]
-    paths = {name: str(path.relative_to(folder)) for name, path in sources.items()}
-    return [Program(test, its, paths[test], texts[test], [paths[it] for it in closure([test], follow)]) for test, its in words.items()]
-
-
 # Rust
 
-ABOVE = {"cf-sys": ["cf-sys", "cf-graph", "cf", "cf-store"], "cf-graph": ["cf-graph", "cf", "cf-store"], "cf": ["cf", "cf-store"],
-         "cf-store": ["cf-store"]}  # of each crate those whose tests may run it
+ABOVE = {
+    "cf-sys": ["cf-sys", "cf-graph", "cf", "cf-store"],
+    "cf-graph": ["cf-graph", "cf", "cf-store"],
+    "cf": ["cf", "cf-store"],
+    "cf-store": ["cf-store"],
+}  # of each crate those whose tests may run it
 
 
 def program_of_rust(folder: Path, crate: str, name: str, executable: str) -> Program:

@@ -60,16 +60,20 @@ def kept(name: str, total: str, over: str, write: Callable[[Path], None]) -> Lis
     if not path.exists():
         with tempfile.TemporaryDirectory() as made:
             write(Path(made))
-            facts = [[it.name, it.over, it.seconds, it.is_whole, {file: sorted(marks) for file, marks in it.reached.items()}]
-                     for it in tests_in(Path(made), over)]
+            facts = [
+                [it.name, it.over, it.seconds, it.is_whole, {file: sorted(marks) for file, marks in it.reached.items()}]
+                for it in tests_in(Path(made), over)
+            ]
         KEPT.mkdir(parents=True, exist_ok=True)
         for old in KEPT.glob(f"{name}-{'?' * len(total)}.json"):
             old.unlink()
         beside = Path(f"{path}.{os.getpid()}")
         beside.write_text(json.dumps(facts), encoding="utf-8")
         beside.replace(path)
-    return [Test(name, over, seconds, is_whole, {file: set(marks) for file, marks in reached.items()})
-            for name, over, seconds, is_whole, reached in json.loads(path.read_text(encoding="utf-8"))]
+    return [
+        Test(name, over, seconds, is_whole, {file: set(marks) for file, marks in reached.items()})
+        for name, over, seconds, is_whole, reached in json.loads(path.read_text(encoding="utf-8"))
+    ]
 
 
 # Python

@@ -116,6 +116,7 @@ def tests_of(file: str) -> Dict[str, unittest.TestCase]:
                 found[f"{file}:{it.id().partition('.')[2]}"] = it
             else:
                 walk(it)
+
     walk(unittest.defaultTestLoader.loadTestsFromModule(importlib.import_module(Path(file).stem)))
     return found
 
@@ -169,6 +170,7 @@ def record(file: str, into: Path) -> None:
                 out.writelines(reached)
             with marks.open("r+b") as out:
                 out.write(bytes(marks.stat().st_size))
+
     empty_store()
     found = tests_of(file)
     write_marks(0)

@@ -1,8 +1,9 @@
 """Many mutants of Rust in one build: a function that is mutated has its body once for each of its mutants, and a switch chooses one of them.
 
-    fn sum(..) -> u64 { if is_mutant(1) { a body } else if is_mutant(2) { another body } else { the body as it is } }
+    fn sum(..) -> u64 { if is_mutant(1, 0) { a body } else if is_mutant(2, 1) { another body } else { the body as it is } }
 
-The switch stands in each file, since some are parts of tests, too. It reads the variable CF_MUTANT once. Where rustc refuses one of the bodies, that mutant can't be built. Where it refuses something else
+The switch stands in each file, since some are parts of tests, too. It reads the variable CF_MUTANT once, and writes the number of each mutant whose
+function is called to the file that CF_REACHED names. Where rustc refuses one of the bodies, that mutant can't be built. Where it refuses something else
 of a function, as a `const fn` or bodies of several unnamed types, the function's mutants are built one at a time.
 """
 from typing import Any, Dict, Iterable, List, NamedTuple, Sequence, Tuple
@@ -12,8 +13,18 @@ from mutating.of_tokens import functions
 from mutating.tokens import Tokens
 
 SWITCH = """
-fn is_mutant(number: u32) -> bool {
+fn is_mutant(number: u32, place: usize) -> bool {
+    use std::sync::atomic::{AtomicBool, Ordering};
+    const NOT_YET: AtomicBool = AtomicBool::new(false);
+    static REACHED: [AtomicBool; MANY] = [NOT_YET; MANY];
+    static TELLS: std::sync::OnceLock<Option<std::ffi::OsString>> = std::sync::OnceLock::new();
     static CHOSEN: std::sync::OnceLock<u32> = std::sync::OnceLock::new();
+    if !REACHED[place].load(Ordering::Relaxed) && !REACHED[place].swap(true, Ordering::Relaxed) {
+        if let Some(file) = TELLS.get_or_init(|| std::env::var_os("CF_REACHED")) {
+            let mut told = std::fs::OpenOptions::new().append(true).create(true).open(file).unwrap();
+            std::io::Write::write_all(&mut told, format!("{number:08x}\\n").as_bytes()).unwrap();
+        }
+    }
     *CHOSEN.get_or_init(|| std::env::var("CF_MUTANT").ok().and_then(|it| it.parse().ok()).unwrap_or(0)) == number
 }
 """
@@ -48,7 +59,7 @@ def made(text: str, mutants: Sequence[Mutant]) -> Made:
         for it in within:
             body = text[first : it.place.start] + it.place.new + text[it.place.end : last]
             line = out.count("\n") + 1
-            out += f"if is_mutant(0x{it.number}) {body}\n"
+            out += f"if is_mutant(0x{it.number}, {len(arms)}) {body}\n"
             arms.append((line, out.count("\n"), it))
             out += "else "
         out += text[first:last] + " }"
@@ -69,7 +80,7 @@ def texts(files: Dict[str, str], mutants: Sequence[Mutant]) -> Dict[str, Made]:
         of_file = [it for it in mutants if it.file == file]
         if of_file:
             it = made(text, of_file)
-            found[file] = it._replace(text=it.text + SWITCH)
+            found[file] = it._replace(text=it.text + SWITCH.replace("MANY", str(len(it.arms))))
     return found
 
 

@@ -10,22 +10,33 @@ import sysconfig
 import tempfile
 import threading
 import time
+import zipfile
 from concurrent.futures import ThreadPoolExecutor
 from pathlib import Path
 from typing import Any, Callable, Dict, List, NamedTuple, Optional, Sequence, Set, Tuple
 
 from checking.tools import DEBIAN, junit
-from mutating import reached, schemata
+from mutating import reached, reaching_java, reaching_rust, schemata
 from mutating.languages import JAVA, RULES_OF_JAVA, TOP, Language
 from mutating.mutant import Mutant
-from mutating.programs import Program, is_of_crate, nearness, program_of_rust, programs_of_java, programs_of_python
+from mutating.programs import Program, is_of_crate, nearness, program_of_rust, programs_of_python
 
 BUILDING = 1200  # seconds
 FIRST = 60  # seconds for a test program over a mutant, as long as nobody knows what it takes
 LONGEST = 600  # seconds for a test program over the code as it is
 LONG = 1  # seconds of a test in Python that is long
 SQLITE_JDBC = "/usr/share/java/sqlite-jdbc.jar"  # of Debian's libxerial-sqlite-jdbc-java, for tests of stores
-FEATURES = ["cf/testing", "cf/tokio", "cf/rayon", "cf/serde", "cf/tracing", "cf-store/sqlite", "cf-store/postgres", "cf-store/etcd", "cf-store/testing"]
+FEATURES = [
+    "cf/testing",
+    "cf/tokio",
+    "cf/rayon",
+    "cf/serde",
+    "cf/tracing",
+    "cf-store/sqlite",
+    "cf-store/postgres",
+    "cf-store/etcd",
+    "cf-store/testing",
+]
 STARTS = threading.RLock()
 RUNNING: Set[int] = set()  # processes, each of which leads a group
 RUNNER = "sitecustomize.py"  # which each process of a copy finds where it is to write down what it reaches
@@ -66,8 +77,9 @@ def run(command: Sequence[str], folder: Path, environment: Dict[str, str], secon
     """Whether a command ends with status 0 in time, and what it printed. All that it started is ended."""
     with tempfile.TemporaryFile("w+", encoding="utf-8", errors="replace") as said:
         with STARTS:
-            done = subprocess.Popen(command, cwd=str(folder), env=environment, stdin=subprocess.DEVNULL, stdout=said, stderr=subprocess.STDOUT,
-                                    start_new_session=True)
+            done = subprocess.Popen(
+                command, cwd=str(folder), env=environment, stdin=subprocess.DEVNULL, stdout=said, stderr=subprocess.STDOUT, start_new_session=True
+            )
             RUNNING.add(done.pid)
         try:
             is_well = done.wait(seconds) == 0
@@ -197,12 +209,14 @@ class Python(Client):
 
     def recorded(self, program: Program, over: str, total: str) -> List[reached.Test]:
         """What the tests of a file reach."""
+
         def write(into: Path) -> None:
             self.say(f"writing down what {name} reaches, which is kept for the next time")
             more = {"CF_REACHED": str(into / "0"), "PYTHONPATH": str(self.folders[0]), **self.written_down(into)}
             is_well, said = self.run_tests(["record", program.source, str(into)], over, re.sub(r"\W", "_", name), self.folders[0], more, BUILDING)
             if not is_well:
                 self.say(f"left out a part of {name}: it fails over the code as it is\n{said[-2000:]}")
+
         name = f"{program.source} over {over}" if over else program.source
         total = reached.sum_of(total, [self.language.folder / program.source])
         return reached.kept(re.sub(r"\W", "_", f"{self.language.name}-{name}"), total, over, write)
@@ -321,8 +335,22 @@ class CModule(Python):
 
     def compiled(self, name: str, source: Path) -> bool:
         folder = os.environ["CF_LIBRARY_DIR"]
-        command = ["cc", "-O1", "-w", "-fPIC", "-shared", f"-I{sysconfig.get_paths()['include']}", f"-I{TOP}/crates/cf_c/include", str(source),
-                   "-Wl,--whole-archive", f"{folder}/libcf.a", "-Wl,--no-whole-archive", "-pthread", "-o", str(self.made / "modules" / name)]
+        command = [
+            "cc",
+            "-O1",
+            "-w",
+            "-fPIC",
+            "-shared",
+            f"-I{sysconfig.get_paths()['include']}",
+            f"-I{TOP}/crates/cf_c/include",
+            str(source),
+            "-Wl,--whole-archive",
+            f"{folder}/libcf.a",
+            "-Wl,--no-whole-archive",
+            "-pthread",
+            "-o",
+            str(self.made / "modules" / name),
+        ]
         return run(command, self.made, self.environment, BUILDING)[0]
 
     def build(self, mutants: Sequence[Mutant]) -> List[Mutant]:
@@ -341,7 +369,8 @@ class CModule(Python):
 
 
 class Java(Client):
-    """All mutants are compiled by one process. The classes of a mutant stand before all others on the class path."""
+    """All mutants are compiled by one process, and each stands in a jar of its own while it is tried. At first all tests run once, and say which
+    statements they reach. A mutant is tried with those that come by it, the quick ones first; several of them run in one process."""
 
     def __init__(self, language: Language, made: Path, say: Callable[[str], None], seats: int) -> None:
         super().__init__(language, made, say)
@@ -349,17 +378,58 @@ class Java(Client):
             raise Missing("no CF_LIBRARY_DIR")
         if not shutil.which("javac"):
             raise Missing("no javac")
-        libraries = junit() or ""
+        self.libraries = junit() or ""
+        self.environment["CF_JUNIT"] = self.libraries
         self.folder = self.copy("java")
-        self.environment["CF_JUNIT"] = libraries
-        jars, tests = made / "jars", made / "tests"
-        self.path = f"{jars}/cf-service.jar:{jars}/cf-service-junit.jar:{tests}:{libraries}:{SQLITE_JDBC}"
-        sources = [str(path) for part in ["test", "opentelemetry", *["junit/test"][: bool(libraries)]] for path in (self.folder / part).rglob("*.java")]
-        for command in [["sh", "build", "--quick", str(jars)], ["javac", "-nowarn", "-encoding", "UTF-8", "-cp", self.path, "-d", str(tests), *sources]]:
-            is_built, said = run(command, self.folder, self.environment, BUILDING)
+        self.jars = self.built(self.folder, made / "jars")
+        reach = self.copy("reach")
+        self.places = reaching_java.Places(reach)
+        key = reaching_java.key_of([language.folder, TOP / "crates/cf_c/include"])
+        tests = reaching_java.kept(key)
+        if tests is None:
+            began = time.monotonic()
+            tests = self.recorded(self.built(reach, made / "reach-jars"), seats)
+            reaching_java.keep(key, tests)
+            say(f"looked what {len(tests)} tests reach in {time.monotonic() - began:.0f} s")
+        self.tests: List[reaching_java.Test] = tests
+        self.sound: Dict[str, bool] = {}  # of tests that failed over a mutant, or that can't say what they reach: whether they pass otherwise
+
+    def built(self, folder: Path, jars: Path) -> Path:
+        """The jars of a copy, and the classes of its tests beside them."""
+        parts = ["test", "opentelemetry", *["junit/test"][: bool(self.libraries)]]
+        sources = [str(path) for part in parts for path in (folder / part).rglob("*.java")]
+        compiles = ["javac", "-nowarn", "-encoding", "UTF-8", "-cp", self.path(jars), "-d", str(jars / "tests"), *sources]
+        for command in [["sh", "build", "--quick", str(jars)], compiles]:
+            is_built, said = run(command, folder, self.environment, BUILDING)
             if not is_built:
                 raise Missing(f"the copy can't be built:\n{said}")
-        self.programs = programs_of_java(language.folder, bool(libraries))
+        return jars
+
+    def path(self, jars: Path, jar: str = "") -> str:
+        return f"{jar or jars / 'cf-service.jar'}:{jars}/cf-service-junit.jar:{jars}/tests:{self.libraries}:{SQLITE_JDBC}"
+
+    def java(self, path: str, words: Sequence[str]) -> List[str]:
+        return ["java", "-Xmx64m", "-XX:+UseSerialGC", "-XX:TieredStopAtLevel=1", "-Dtest.times=true", "-cp", path, *words]
+
+    def recorded(self, jars: Path, seats: int) -> List[reaching_java.Test]:
+        """Runs each test once over the copy that says what is reached."""
+        command = ["java", "-Dtest.list=true", "-cp", self.path(jars), reaching_java.ALL]
+        said = subprocess.run(command, cwd=str(TOP), env=self.environment, stdout=subprocess.PIPE, check=True).stdout.decode()
+        names = re.findall(r"^test: (.+)$", said, re.M) + [reaching_java.EVERY_ORDER][: bool(self.libraries)]
+
+        def one(place: int) -> reaching_java.Test:
+            file = self.made / f"reached-{place}"
+            file.write_bytes(bytes(self.places.count))
+            test, began = reaching_java.Test(names[place], place, 0.0, None), time.monotonic()
+            is_well, said = run(self.java(self.path(jars), test.words), TOP, dict(self.environment, CF_REACHED=str(file)), reaching_java.LONG)
+            if not is_well:
+                self.say(f"{test.name} fails where statements say that they are reached, so it isn't left out anywhere:\n{said[-600:]}")
+            reached = file.read_bytes() if is_well else None
+            file.unlink()
+            return test._replace(seconds=time.monotonic() - began, reached=reached)
+
+        with ThreadPoolExecutor(seats) as pool:
+            return list(pool.map(one, range(len(names))))
 
     def build(self, mutants: Sequence[Mutant]) -> List[Mutant]:
         made = self.made / "mutants"
@@ -368,20 +438,66 @@ class Java(Client):
         for it in mutants:
             (made / (it.number + ".java")).write_text(it.put_into(self.text(it.file)), encoding="utf-8")
             asked.append(f"{it.number}\t{made}/{it.number}.java\t{it.file}\n")
-        command = [*JAVA, str(RULES_OF_JAVA), "--compile", self.path, str(made)]
+        command = [*JAVA, str(RULES_OF_JAVA), "--compile", self.path(self.jars), str(made)]
         said = subprocess.run(command, input="".join(asked).encode(), stdout=subprocess.PIPE, check=True).stdout.decode()
         built = {line.partition("\t")[0] for line in said.splitlines() if line.endswith("\tbuilt")}
         return [it for it in mutants if it.number in built]
 
-    def command(self, program: Program, mutant: Optional[Mutant], seat: int) -> Tuple[List[str], Path, Dict[str, str]]:
-        path = f"{self.made}/mutants/{mutant.number}:{self.path}" if mutant else self.path
-        java = ["java", "-Xmx64m", "-XX:+UseSerialGC", "-XX:TieredStopAtLevel=1", "-cp", path]
-        return [*java, *program.words], TOP, self.environment
+    def put(self, mutant: Mutant, seat: int) -> None:
+        """A jar with the mutant's classes in place of those that it changes: tests look for others beside them."""
+        classes = self.made / "mutants" / mutant.number
+        changed = {str(path.relative_to(classes)): path for path in classes.rglob("*.class")}
+        with zipfile.ZipFile(self.jars / "cf-service.jar") as whole, zipfile.ZipFile(self.made / f"{mutant.number}.jar", "w") as jar:
+            for it in [it for it in whole.infolist() if it.filename not in changed]:
+                jar.writestr(it, whole.read(it))
+            for name, path in changed.items():
+                jar.write(path, name)
+
+    def take_back(self, mutant: Mutant, seat: int) -> None:
+        (self.made / f"{mutant.number}.jar").unlink()
+
+    def first_failed(self, tests: Sequence[reaching_java.Test], mutant: Optional[Mutant]) -> Optional[reaching_java.Test]:
+        """Runs tests in one process, over a mutant or over the code as it is; the one that failed, or ran when the time was over."""
+        path = self.path(self.jars, str(self.made / f"{mutant.number}.jar") if mutant else "")
+        words = [*tests[0].words, *[it.name for it in tests[1:]]]
+        is_well, said = run(self.java(path, words), TOP, self.environment, 20 + 4 * sum(it.seconds for it in tests))
+        if is_well:
+            return None
+        failed = re.search(r"^java\.lang\.AssertionError: (.+)$", said, re.M)
+        passed = set(re.findall(r"^ *\d+ ms  (.+)$", said, re.M))
+        left = [it for it in tests if it.name not in passed]
+        return next((it for it in left if failed and it.name == failed[1]), (left or tests)[0])
+
+    def is_well(self, test: reaching_java.Test) -> bool:
+        """Whether a test passes over the code as it is. It is asked once it has failed over a mutant."""
+        if test.name not in self.sound:
+            self.sound[test.name] = self.first_failed([test], None) is None
+            if not self.sound[test.name]:
+                self.say(f"left out {test.name}: it fails over the code as it is")
+        return self.sound[test.name]
+
+    def tried(self, mutant: Mutant, seat: int) -> Result:
+        began, places = time.monotonic(), self.places.of(mutant)
+        tests = [it for it in self.tests if reaching_java.reaches(it, places) and self.sound.get(it.name, True)]
+        self.put(mutant, seat)
+        try:
+            for batch in reaching_java.batches(tests):
+                left = batch
+                while left:
+                    failed = self.first_failed(left, mutant)
+                    if failed is None:
+                        break
+                    if self.first_failed([failed], mutant) is not None and self.is_well(failed):  # (else it was by chance)
+                        return Result(mutant, failed.name, time.monotonic() - began)
+                    left = [it for it in left if it.place > failed.place]
+            return Result(mutant, "", time.monotonic() - began)
+        finally:
+            self.take_back(mutant, seat)
 
 
 class Rust(Client):
     """The crates are built once with all mutants, of which a variable of the environment chooses one. One that can't stand beside the others
-    is built by itself."""
+    is built by itself. The others are tried by the tests that reach them."""
 
     def __init__(self, language: Language, made: Path, say: Callable[[str], None], seats: int) -> None:
         super().__init__(language, made, say)
@@ -393,11 +509,18 @@ class Rust(Client):
         self.made = target / "mutants"  # (always the same, so that cargo knows what it has built)
         shutil.rmtree(self.made, ignore_errors=True)
         self.folder = self.copy("rust")
-        self.environment.update(CARGO_TARGET_DIR=str(target), CARGO_PROFILE_DEV_DEBUG="0", RUSTFLAGS="--cap-lints allow",
-                                CF_HEADER=str(TOP / "crates/cf_c/include/cf.h"), CF_TOLD=str(TOP / "conformance/requests/told.json"),
-                                CF_PYTHON=str(TOP / "clients/python"))
+        self.environment.update(
+            CARGO_TARGET_DIR=str(target),
+            CARGO_PROFILE_DEV_DEBUG="0",
+            RUSTFLAGS="--cap-lints allow",
+            CF_HEADER=str(TOP / "crates/cf_c/include/cf.h"),
+            CF_TOLD=str(TOP / "conformance/requests/told.json"),
+            CF_PYTHON=str(TOP / "clients/python"),
+        )
         has_debians = bool(list(DEBIAN.glob("tokio-postgres-[0-9]*")))
         self.words = ["--offline", "--workspace", "--features", ",".join(FEATURES if has_debians else FEATURES[:1])]
+        self.seats, self.stores = seats, self.environment.pop("CF_STORES", "")
+        self.tests: List[reaching_rust.Test] = []
         if has_debians:
             self.words = ["--config", "debian.toml", *self.words]
         else:
@@ -432,6 +555,9 @@ class Rust(Client):
             if not blamed.arms and not blamed.functions:
                 raise Missing("the crates can't be built with mutants:\n" + "\n".join(schemata.errors(messages)))
         self.link()
+        shutil.rmtree(self.made / "reached", ignore_errors=True)
+        self.tests = reaching_rust.record(self.programs, self.stores, self.made / "reached", self.run_in, self.say, self.seats, LONGEST)
+        self.say(f"{len(self.tests)} tests take {sum(it.alone.seconds for it in self.tests):.0f} s over the code as it is")
         for it in [it for it in apart if self.is_built_apart(it)]:
             self.apart[it.number] = lambda it=it: self.build_apart(it)  # type: ignore[misc]
         return [it for it in mutants if it not in wrong and (it not in apart or it.number in self.apart)]
@@ -463,6 +589,33 @@ class Rust(Client):
     def command(self, program: Program, mutant: Optional[Mutant], seat: int) -> Tuple[List[str], Path, Dict[str, str]]:
         environment = dict(self.environment, CF_MUTANT=str(int(mutant.number, 16)) if mutant else "0")
         return list(program.words), self.folder / program.folder, environment
+
+    def run_in(self, words: Sequence[str], folder: str, variables: Dict[str, str], seconds: float) -> Tuple[bool, str]:
+        return run(words, self.folder / folder, dict(self.environment, **variables), seconds)
+
+    def fails(self, batch: reaching_rust.Batch, mutant: Mutant) -> List[str]:
+        """The tests of a batch that fail over a mutant, and pass over the code as it is; the whole batch where none says that it has failed."""
+        chosen = {"CF_MUTANT": str(int(mutant.number, 16))}
+        began = time.monotonic()
+        is_well, said = batch.run(self.run_in, chosen, batch.limit)
+        if is_well:
+            return []
+        is_late = time.monotonic() - began >= batch.limit
+        found = batch._replace(tests=reaching_rust.failed_in(said) or batch.tests)
+        if not found.run(self.run_in, {}, found.limit)[0]:
+            return []  # it is no mutant's fault
+        again = not is_late and found.run(self.run_in, chosen, found.limit)[0]
+        return [] if again else list(found.tests)
+
+    def tried(self, mutant: Mutant, seat: int) -> Result:
+        if mutant.number in self.apart:
+            return super().tried(mutant, seat)
+        began = time.monotonic()
+        for batch in reaching_rust.batches(self.tests, mutant.number, self.nearest(mutant.file)):
+            failed = self.fails(batch, mutant)
+            if failed:
+                return Result(mutant, f"{batch.program.name} {failed[0]}", time.monotonic() - began)
+        return Result(mutant, "", time.monotonic() - began)
 
 
 CLIENTS: Dict[str, Callable[[Language, Path, Callable[[str], None], int], Client]] = {"python": Python, "c": CModule, "java": Java, "rust": Rust}

@@ -1,7 +1,7 @@
-import cf.service.EtcdStore;
-import cf.service.JdbcStore;
-import cf.service.Store;
-import cf.service.StoreException;
+import cf.store.EtcdStore;
+import cf.store.JdbcStore;
+import cf.store.Store;
+import cf.store.StoreException;
 import java.net.URI;
 
 /** The address of a store of {@code conformance/stores/engines}, which has one form for all languages. */

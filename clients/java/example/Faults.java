@@ -1,11 +1,11 @@
-import cf.service.Functions;
-import cf.service.RemoteException;
 import cf.service.RequestFullException;
-import cf.service.Store;
-import cf.service.StoreException;
-import cf.service.StoreService;
-import cf.service.StoredRequest;
-import cf.service.StoredStage;
+import cf.store.Functions;
+import cf.store.RemoteException;
+import cf.store.Store;
+import cf.store.StoreException;
+import cf.store.StoreService;
+import cf.store.StoredRequest;
+import cf.store.StoredStage;
 import java.io.FileOutputStream;
 import java.io.IOException;
 import java.io.OutputStream;
@@ -47,7 +47,7 @@ import java.util.stream.Stream;
  * outlives a kill. With SPOILT it is a worker that the judge has to find, as the head of {@code cf-store/examples/faults.rs} says.
  */
 public final class Faults {
-    private static final Logger LIBRARY = Logger.getLogger("cf.service");
+    private static final Logger LIBRARY = Logger.getLogger("cf.store");
     /** How many requests are worked on at a time, how many stages one has at most, more or less, and after how many seconds a call hangs. */
     private static final int WINDOW = 8, MOST = 16, HANG = 60;
     private static final long BELOW = 1L << 32;

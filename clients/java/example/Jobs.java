@@ -1,5 +1,5 @@
-import cf.service.Functions;
-import cf.service.StoreService;
+import cf.store.Functions;
+import cf.store.StoreService;
 import java.sql.Connection;
 import java.sql.DriverManager;
 import java.sql.PreparedStatement;

@@ -1,8 +1,8 @@
-import cf.service.Functions;
-import cf.service.testing.Orders;
-import cf.service.testing.StoreProcess;
-import cf.service.testing.World;
-import cf.service.testing.WorldStore;
+import cf.store.Functions;
+import cf.testing.Orders;
+import cf.testing.StoreProcess;
+import cf.testing.World;
+import cf.testing.WorldStore;
 import java.util.ArrayList;
 import java.util.List;
 

@@ -1,7 +1,7 @@
 import cf.service.Stage;
-import cf.service.testing.Orders;
-import cf.service.testing.Report;
-import cf.service.testing.World;
+import cf.testing.Orders;
+import cf.testing.Report;
+import cf.testing.World;
 import java.util.ArrayList;
 import java.util.List;
 import java.util.concurrent.TimeUnit;

@@ -1,9 +1,8 @@
-import cf.service.Functions;
-import cf.service.JdbcStore;
-import cf.service.StoreService;
-import cf.service.StoredFlow;
-import cf.service.StoredRequest;
-import java.util.concurrent.TimeUnit;
+import cf.store.Functions;
+import cf.store.JdbcStore;
+import cf.store.StoreService;
+import cf.store.StoredFlow;
+import cf.store.StoredRequest;
 
 public class Order {
     static final StoredFlow FLOW = new StoredFlow("order");
@@ -17,8 +16,8 @@ public class Order {
 
     public static void main(String[] args) throws Exception {
         JdbcStore store = JdbcStore.open("jdbc:sqlite:" + args[0]);
-        if (args.length > 1) { // another process, which runs no functions
-            try (StoreService service = new StoreService(store, new Functions(), 0, 10, TimeUnit.SECONDS, false)) {
+        if (args.length > 1) { // another process, which has no functions
+            try (StoreService service = new StoreService(store, new Functions().elsewhere("charge", 1).elsewhere("ship", 1))) {
                 System.out.println(service.open("order 17").stage(APPROVAL).complete(args[1]) ? "approved" : "it was approved before");
             }
             return;

@@ -1,9 +1,9 @@
-import cf.service.EtcdStore;
-import cf.service.Functions;
-import cf.service.JdbcStore;
-import cf.service.Store;
-import cf.service.StoreService;
-import cf.service.StoredRequest;
+import cf.store.EtcdStore;
+import cf.store.Functions;
+import cf.store.JdbcStore;
+import cf.store.Store;
+import cf.store.StoreService;
+import cf.store.StoredRequest;
 import java.io.IOException;
 import java.io.InputStream;
 import java.io.OutputStream;

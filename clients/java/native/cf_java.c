@@ -1,4 +1,4 @@
-/* The library's requests as native methods of cf.service.Machine, and its plans and histories as those of cf.service.Native.
+/* The library's requests as native methods of cf.service.Machine, and its plans and histories as those of cf.internal.Native.
  *
  * A core is a request of the library (docs/REQUEST.md) with a block of memory that Java reads and writes by a direct buffer, so that one
  * crossing does some words and brings back the reply, the stages that were settled, and those whose functions are to be called. Its caller
@@ -34,8 +34,8 @@ enum { WORDS = 64, MOST = 4096, TOLD = 128, CLAIMED = 32, READY = 64, FEW = 12 }
 /* Lanes: a stage's function is called by the thread that made the stage ready, or by an executor. */
 enum { HERE = 0, BY_EXECUTOR = 1, LANES = 2 };
 
-/* In whose name a machine itself settles stages. */
-enum { OWN = 0 };
+/* In whose name a machine itself settles stages: CLOCK of Request.java. */
+enum { OWN = 1 };
 
 /* What Java reads and writes, in the machine's order of bytes; Machine.java has the places. */
 struct block {
@@ -47,16 +47,25 @@ struct block {
   int64_t due;      /* the moment of the next deadline */
   uint64_t words[WORDS];
   uint8_t lanes[WORDS];
-  struct { uint32_t what; int32_t number; } told[TOLD];
-  struct { uint32_t stage, kind; int32_t first, second; } claimed[CLAIMED];
+  struct {
+    uint32_t what;
+    int32_t number;
+  } told[TOLD];
+  struct {
+    uint32_t stage, kind;
+    int32_t first, second;
+  } claimed[CLAIMED];
   uint16_t ready[READY]; /* stages whose functions executors call */
 };
 _Static_assert(offsetof(struct block, args) == 16 && offsetof(struct block, due) == 56 && offsetof(struct block, words) == 64 &&
-               offsetof(struct block, lanes) == 576 && offsetof(struct block, told) == 640 && offsetof(struct block, claimed) == 1664 &&
-               offsetof(struct block, ready) == 2176, "the places in Machine.java");
+                   offsetof(struct block, lanes) == 576 && offsetof(struct block, told) == 640 && offsetof(struct block, claimed) == 1664 &&
+                   offsetof(struct block, ready) == 2176,
+    "the places in Machine.java");
 
 /* Of all cores, and of all plans, that aren't freed. It stands first in each. */
-struct link { struct link *before, *after; };
+struct link {
+  struct link *before, *after;
+};
 static struct link cores = {&cores, &cores}, plans = {&plans, &plans};
 static pthread_mutex_t links = PTHREAD_MUTEX_INITIALIZER;
 
@@ -64,10 +73,10 @@ struct core {
   struct link link;
   struct block block;
   cf_handle request;
-  const struct plan *plan; /* of which the request is */
+  const struct plan *plan;     /* of which the request is */
   bool has_executors, settles; /* whether a stage is of that lane; whether the machine may have settled one by itself */
-  size_t heard, within; /* up to which event, and which of its stages, what became ready for executors was told */
-  uint64_t *moments; /* by when events were done, in ticks, and in the lowest 8 bits how many since the moment before */
+  size_t heard, within;        /* up to which event, and which of its stages, what became ready for executors was told */
+  uint64_t *moments;           /* by when events were done, in ticks, and in the lowest 8 bits how many since the moment before */
   size_t most_moments, timed_events;
   uint64_t since; /* when the first word came that waits */
   bool timed;
@@ -96,7 +105,7 @@ struct crossing {
 #define PLAN(at) ((at) ? (struct plan *)(intptr_t)(at) : &empty)
 /* Each crossing has a copy of its own of these, which takes a fifth off what the binding does. */
 #define INLINE static inline __attribute__((always_inline))
-#define METHOD(type, name) JNIEXPORT type JNICALL Java_cf_service_Native_##name
+#define METHOD(type, name) JNIEXPORT type JNICALL Java_cf_internal_Native_##name
 #define CALL(type, name) JNIEXPORT type JNICALL Java_cf_service_Machine_##name
 
 static void enter(struct link *list, struct link *one) {
@@ -321,9 +330,7 @@ INLINE jlong end(struct crossing *it, uint32_t code, uint32_t answer) {
                  (uint64_t)it->more << 33);
 }
 
-INLINE void begin(struct crossing *it, jlong at) {
-  it->core = CORE(at), it->n = it->claimed = it->ready = 0, it->more = false;
-}
+INLINE void begin(struct crossing *it, jlong at) { it->core = CORE(at), it->n = it->claimed = it->ready = 0, it->more = false; }
 
 static void write_args(int32_t *to, const cf_args *args) {
   const cf_outcome *outcome = &args->outcome;
@@ -371,14 +378,16 @@ static uint32_t finish_late(struct crossing *it, uint8_t who, cf_task *task) {
   uint64_t tag = answer->kind == CF_THROW ? 2 : answer->value.kind == CF_INT ? 1 : 0;
   uint32_t given = tag == 2 ? answer->code : (uint32_t)answer->value.number;
   cf_applied did = {0};
-  uint32_t code = do_word(it, (uint64_t)5 << 56 | (uint64_t)(who & 63) << 48 | (uint64_t)(task->stage & 0xfff) << 36 | tag << 32 | given, HERE, &did);
+  uint32_t code =
+      do_word(it, (uint64_t)5 << 56 | (uint64_t)(who & 63) << 48 | (uint64_t)(task->stage & 0xfff) << 36 | tag << 32 | given, HERE, &did);
   task->finished = did.reply.answer;
   return code;
 }
 
 /* Finishes a stage that the caller has claimed, by a value's number, -1 for null, or by an exception's code. Then it claims as `apply` does.
  * Where this is the last finish, it also brings the words, if they are few: bit 34 of the reply says so. */
-CALL(jlong, finish)(JNIEnv *env, jobject machine, jlong at, jint waiting, jint stage, jboolean throws, jint number, jint who, jboolean last) {
+CALL(jlong, finish)
+(JNIEnv *env, jobject machine, jlong at, jint waiting, jint stage, jboolean throws, jint number, jint who, jboolean last) {
   (void)env, (void)machine;
   struct crossing it;
   begin(&it, at);
@@ -493,8 +502,7 @@ CALL(jint, ready)(JNIEnv *env, jobject machine, jlong at, jint from) {
   struct core *core = CORE(at);
   uint16_t stage;
   jint n = 0;
-  for (; n < READY && cf_ledger_ready(&core->request, (uint16_t)from, &stage) == CF_OK; from = stage + 1)
-    core->block.ready[n++] = stage;
+  for (; n < READY && cf_ledger_ready(&core->request, (uint16_t)from, &stage) == CF_OK; from = stage + 1) core->block.ready[n++] = stage;
   return n;
 }
 
@@ -574,7 +582,8 @@ CALL(jint, open)(JNIEnv *env, jobject machine, jlong at, jlong plan, jint room, 
   if (n < 0 || n > length) return CF_NO_WORD;
   uint32_t code = open_anew(core, PLAN(plan), room);
   if (!n || code != CF_OK) return (jint)code;
-  jlong *done = (*env)->GetLongArrayElements(env, kept, NULL), *own = done && bits ? (*env)->GetLongArrayElements(env, executors, NULL) : NULL;
+  jlong *done = (*env)->GetLongArrayElements(env, kept, NULL),
+        *own = done && bits ? (*env)->GetLongArrayElements(env, executors, NULL) : NULL;
   code = !done || (bits && !own) ? CF_NO_MEMORY : do_again(core, done, n, own, bits);
   if (code == CF_OK) {
     core->block.events = 0;
@@ -712,8 +721,9 @@ static uint32_t tell(JNIEnv *env, cf_handle *history, uint32_t kind, size_t room
 
 /* What words did to the plan of these rows, with so many nanoseconds for each word, or none, and with what is said, as say_all has it. The
  * one place of `told` gets the text. Where the heap has no room for that, an OutOfMemoryError is thrown. */
-METHOD(jint, tale)(JNIEnv *env, jclass class, jintArray rows, jint room, jlongArray words, jlongArray times, jbyteArray texts, jintArray lengths,
-                   jint kind, jobjectArray told) {
+METHOD(jint, tale)
+(JNIEnv *env, jclass class, jintArray rows, jint room, jlongArray words, jlongArray times, jbyteArray texts, jintArray lengths, jint kind,
+    jobjectArray told) {
   (void)class;
   cf_handle history = {0};
   if (room > MOST || room < 0) return CF_ROOM;
@@ -727,7 +737,8 @@ METHOD(jint, tale)(JNIEnv *env, jclass class, jintArray rows, jint room, jlongAr
   if (code == CF_OK) code = cf_history_new(&plan->handle, (uint16_t)room, (const uint64_t *)word, (size_t)n, &history);
   if (code == CF_OK) code = cf_history_times(&history, (const uint64_t *)time, (size_t)timed);
   if (code == CF_OK)
-    code = say_all(&history, (const uint8_t *)text, (size_t)(*env)->GetArrayLength(env, texts), length, (size_t)(*env)->GetArrayLength(env, lengths));
+    code = say_all(
+        &history, (const uint8_t *)text, (size_t)(*env)->GetArrayLength(env, texts), length, (size_t)(*env)->GetArrayLength(env, lengths));
   if (length) (*env)->ReleaseIntArrayElements(env, lengths, length, JNI_ABORT);
   if (text) (*env)->ReleaseByteArrayElements(env, texts, text, JNI_ABORT);
   if (time) (*env)->ReleaseLongArrayElements(env, times, time, JNI_ABORT);

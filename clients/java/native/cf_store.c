@@ -1,4 +1,4 @@
-/* The library's views of rows (docs/C.md, "A row in a store") as native methods of cf.service.Row, and the system's lock of cf.service.Line.
+/* The library's views of rows (docs/C.md, "A row in a store") as native methods of cf.store.Row, and the system's lock of cf.store.Line.
  *
  * What the library is owed, and where it is met: each view stands in a block of its own, which isn't moved; the lock of its request orders the
  * calls that have it (View.java); Row.java keeps it until it is closed, once, and makes no call then. Arrays of Java's are read within their
@@ -20,7 +20,7 @@ struct view {
 };
 
 #define VIEW(at) ((struct view *)(intptr_t)(at))
-#define CALL(type, name) JNIEXPORT type JNICALL Java_cf_service_Row_##name
+#define CALL(type, name) JNIEXPORT type JNICALL Java_cf_store_Row_##name
 
 /* Builds a plan of rows, as cf_java.c has them: form, function or -1, count of sources, sources. */
 static uint32_t build(cf_handle *plan, const jint *rows, jsize n) {
@@ -111,8 +111,8 @@ CALL(jintArray, saw)(JNIEnv *env, jclass self, jlong view, jlong word, jlong tok
   cf_reply reply = {0};
   size_t n = 0, place = 0;
   const uint32_t code = cf_row_saw(&it->row, &entry, &reply, it->news, room, &n);
-  jint numbers[TOLD] = {code == CF_OK ? (jint)reply.answer : -(jint)code, (jint)reply.number, (jint)reply.args.kind, (jint)reply.args.first.kind,
-                        reply.args.first.number, (jint)reply.args.second.kind, reply.args.second.number};
+  jint numbers[TOLD] = {code == CF_OK ? (jint)reply.answer : -(jint)code, (jint)reply.number, (jint)reply.args.kind,
+      (jint)reply.args.first.kind, reply.args.first.number, (jint)reply.args.second.kind, reply.args.second.number};
   outcome_out(numbers + 7, reply.args.outcome);
   (*env)->SetIntArrayRegion(env, told, 0, TOLD - 1, numbers);
   if (code != CF_OK || (*env)->ExceptionCheck(env)) return NULL;
@@ -199,7 +199,7 @@ CALL(jlong, abandon)(JNIEnv *env, jclass self, jlong view, jlong session, jint f
 
 /* The line in which who writes to a file of SQLite's stands. */
 
-#define LINE(type, name) JNIEXPORT type JNICALL Java_cf_service_Line_##name
+#define LINE(type, name) JNIEXPORT type JNICALL Java_cf_store_Line_##name
 
 /* A file, which is made if it isn't there; or the system's error, negated. */
 LINE(jint, open)(JNIEnv *env, jclass self, jbyteArray path) {

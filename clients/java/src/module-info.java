@@ -5,5 +5,6 @@ module cf.service {
     requires static jdk.jfr;
 
     exports cf.service;
-    exports cf.service.testing;
+    exports cf.store;
+    exports cf.testing;
 }

@@ -21,6 +21,7 @@ class Did:
 
     @property
     def event(self) -> Event:
+        """The event of the word."""
         return event_of(self.word)
 
 

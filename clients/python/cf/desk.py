@@ -136,7 +136,10 @@ class SharedFuture:
 
 
 class Desk:
-    """The callers of one desk, by their numbers. At the end of a `with` those that weren't given back are freed."""
+    """The callers of one desk, by their numbers: one for each thread. At the end of a `with` those that weren't given back
+    are freed. A call that has returned before another caller's call begins comes before it in the history; that is
+    tested, and not proved. It is proved that a caller's calls come after all that it has seen. Notices aren't there in
+    Python."""
 
     def __init__(self, plan: Plan, callers: int, log: int, calls: int, room: int = 0,
                  functions: Optional[int] = None) -> None:

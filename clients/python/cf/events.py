@@ -11,6 +11,8 @@ from .values import (Answer, Failure, Form, Reply, Value, answer_in, answer_out,
 
 @dataclass(frozen=True)
 class Complete:
+    """A caller settles a stage with a value."""
+
     who: int
     stage: int
     value: Value
@@ -18,6 +20,8 @@ class Complete:
 
 @dataclass(frozen=True)
 class Fail:
+    """A caller settles a stage with a thrown code."""
+
     who: int
     stage: int
     code: int
@@ -25,6 +29,8 @@ class Fail:
 
 @dataclass(frozen=True)
 class FailAs:
+    """A caller settles a stage as timed out, or with a bad answer."""
+
     who: int
     stage: int
     failure: Failure
@@ -32,18 +38,24 @@ class FailAs:
 
 @dataclass(frozen=True)
 class Cancel:
+    """A caller cancels a stage."""
+
     who: int
     stage: int
 
 
 @dataclass(frozen=True)
 class Claim:
+    """A caller takes a ready stage, whose function it will call."""
+
     who: int
     stage: int
 
 
 @dataclass(frozen=True)
 class Finish:
+    """A caller finishes a stage that it has claimed with what its function answered."""
+
     who: int
     stage: int
     answer: Answer
@@ -51,13 +63,15 @@ class Finish:
 
 @dataclass(frozen=True)
 class Tick:
+    """It is this moment: limits that are due fire."""
+
     who: int
     now: int
 
 
 @dataclass(frozen=True)
 class Attach:
-    """`function` is the number of the new stage's function, or None for a form without one."""
+    """A caller attaches a stage that waits for others. `function` is the number of the new stage's function, or None for a form without one."""
 
     who: int
     form: Form

@@ -1,3 +1,4 @@
+"""The order of killed.py with a bank that knows which orders it has charged: no order charges twice."""
 from cf.store import Functions
 from cf.testing import orders
 

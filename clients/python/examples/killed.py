@@ -1,3 +1,4 @@
+"""Finds an order in which a process is killed, and a card is charged twice. docs/TESTING.md shows it."""
 from cf.store import Functions
 from cf.testing import orders
 

@@ -1,4 +1,4 @@
-"""The same with the limit where it belongs: no order charges twice. docs/TESTING.md shows it."""
+"""The order of twice.py with the limit where it belongs: no order charges twice."""
 from cf.testing import orders
 
 

@@ -54,9 +54,12 @@ class Callers(DeskCase):
         self.assertEqual((self.one.number, self.other.number, self.other.seen()), (0, 1, 3))
 
     def test_a_stage_without_a_value(self):
-        for act, fault in [(lambda: self.one.complete(self.source, None), None), (lambda: self.one.fail(self.source, 9), cf.Thrown(9)),
-                           (lambda: self.one.cancel(self.source), cf.Cancelled()),
-                           (lambda: self.one.fail_as(self.source, cf.Failure.TIMED_OUT), cf.TimedOut())]:
+        for act, fault in [
+            (lambda: self.one.complete(self.source, None), None),
+            (lambda: self.one.fail(self.source, 9), cf.Thrown(9)),
+            (lambda: self.one.cancel(self.source), cf.Cancelled()),
+            (lambda: self.one.fail_as(self.source, cf.Failure.TIMED_OUT), cf.TimedOut()),
+        ]:
             with self.subTest(fault=fault):
                 self.setUp()
                 future = self.other.future(self.source)
@@ -93,6 +96,7 @@ class Callers(DeskCase):
                 self.one.seen()
             except cf.InUse as error:
                 refused.append(error)
+
         with self.one, self.one:
             thread = threading.Thread(target=calls)
             thread.start()
@@ -117,8 +121,7 @@ class Closing(DeskCase):
         self.other.read_now(self.last, 5)
         with self.desk.close() as closed:
             self.assertEqual(closed.records(0), [cf.Did(1, cf.word_of(Complete(0, 0, 3)), True)])
-            self.assertEqual(closed.records(1), [cf.Saw(1, 0, cf.Outcome(3, None)),
-                                                 cf.SawNow(1, 1, 5, cf.Now(cf.NowKind.ABSENT, 5, None))])
+            self.assertEqual(closed.records(1), [cf.Saw(1, 0, cf.Outcome(3, None)), cf.SawNow(1, 1, 5, cf.Now(cf.NowKind.ABSENT, 5, None))])
             self.assertEqual(closed.records(0)[0].event, Complete(0, 0, 3))
             self.assertEqual(closed.graph().outcome(0), cf.Outcome(3, None))
 
@@ -132,16 +135,28 @@ class Words(unittest.TestCase):
     def test_each_event_has_a_word_as_the_formats_say(self):
         head = 5 << 48 | 7 << 36
         for event, word in [
-                (Complete(5, 7, 9), 1 << 56 | head | 1 << 32 | 9), (Complete(5, 7, None), 1 << 56 | head),
-                (Complete(5, 7, -1), 1 << 56 | head | 1 << 32 | 0xFFFFFFFF), (Fail(5, 7, 9), 2 << 56 | head | 9), (Cancel(5, 7), 3 << 56 | head),
-                (Claim(5, 7), 4 << 56 | head), (Finish(5, 7, None), 5 << 56 | head), (Finish(5, 7, 9), 5 << 56 | head | 1 << 32 | 9),
-                (Finish(5, 7, cf.Thrown(9)), 5 << 56 | head | 2 << 32 | 9), (Finish(5, 7, cf.Link(9)), 5 << 56 | head | 3 << 32 | 9),
-                (Tick(5, 70), 6 << 56 | 5 << 48 | 70), (FailAs(5, 7, cf.Failure.TIMED_OUT), 8 << 56 | head),
-                (FailAs(5, 7, cf.Failure.BAD_ANSWER), 8 << 56 | head | 1 << 32)]:
+            (Complete(5, 7, 9), 1 << 56 | head | 1 << 32 | 9),
+            (Complete(5, 7, None), 1 << 56 | head),
+            (Complete(5, 7, -1), 1 << 56 | head | 1 << 32 | 0xFFFFFFFF),
+            (Fail(5, 7, 9), 2 << 56 | head | 9),
+            (Cancel(5, 7), 3 << 56 | head),
+            (Claim(5, 7), 4 << 56 | head),
+            (Finish(5, 7, None), 5 << 56 | head),
+            (Finish(5, 7, 9), 5 << 56 | head | 1 << 32 | 9),
+            (Finish(5, 7, cf.Thrown(9)), 5 << 56 | head | 2 << 32 | 9),
+            (Finish(5, 7, cf.Link(9)), 5 << 56 | head | 3 << 32 | 9),
+            (Tick(5, 70), 6 << 56 | 5 << 48 | 70),
+            (FailAs(5, 7, cf.Failure.TIMED_OUT), 8 << 56 | head),
+            (FailAs(5, 7, cf.Failure.BAD_ANSWER), 8 << 56 | head | 1 << 32),
+        ]:
             with self.subTest(event=event):
                 self.assertEqual((hex(cf.word_of(event)), cf.event_of(word)), (hex(word), event))
-        for event in (Attach(5, Form.APPLY, (7,), 9), Attach(5, Form.COMBINE, (7, 8), 9), Attach(5, Form.ALL_OF, (7, 8), None),
-                      Attach(5, Form.SOURCE, (), None)):
+        for event in (
+            Attach(5, Form.APPLY, (7,), 9),
+            Attach(5, Form.COMBINE, (7, 8), 9),
+            Attach(5, Form.ALL_OF, (7, 8), None),
+            Attach(5, Form.SOURCE, (), None),
+        ):
             self.assertEqual(cf.event_of(cf.word_of(event)), event)
         for wrong in (Complete(64, 7, 9), Complete(5, 4096, 9)):
             with self.assertRaises(cf.Refused) as told:

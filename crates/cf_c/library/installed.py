@@ -72,8 +72,11 @@ def as_shipped(prefix: Path, full: str) -> None:
     pages = {path.stem for path in (prefix / "share/man/man3").iterdir()}
     same("calls without a page", calls - pages, set())
     if shutil.which("groff"):
-        same("the manual", "".join(told(["groff", "-man", "-ww", "-z", str(path)]) for path in (prefix / "share/man/man3").iterdir()
-                                   if path.stat().st_size > 99), "")
+        same(
+            "the manual",
+            "".join(told(["groff", "-man", "-ww", "-z", str(path)]) for path in (prefix / "share/man/man3").iterdir() if path.stat().st_size > 99),
+            "",
+        )
 
 
 def by_cmake(prefix: Path, full: str) -> None:

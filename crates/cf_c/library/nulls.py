@@ -7,9 +7,9 @@
 
 The header is the only table: a function with a body, `static inline`, is passed over, and each other call gets a function of its name,
 which tests the pointers and calls the proved export under the name proved_NAME. A pointer that a count follows, `size_t n`,
-`size_t count` or `size_t room`, may be null where that is 0; no other may be. Where one is null the call answers CF_NULL, and a call without an answer does
-nothing. Calls that answer no code, but a text, a size or a bool, are facts.py's. It ends with status 1 where a declaration isn't
-understood.
+`size_t count` or `size_t room`, may be null where that is 0; no other may be. Where one is null the call answers CF_NULL, and a call
+without an answer does nothing. Calls that answer no code, but a text, a size or a bool, are facts.py's. It ends with status 1 where a
+declaration isn't understood.
 """
 import re
 import sys

@@ -71,7 +71,7 @@ TellsAfter Does IsDue (Request m) had (Err code) new has = IsDueAs machine_code 
 TellsAfter Does IsDue held had r new has = (r ≡ Err WrongKind) × (new ≡ held) × (has ≡ had)
 
 abbrev pub FollowsIn : ℕ → ℕ → Object → List CfTold × ℕ → Result (Unit {0}) Code → Object → List CfTold × ℕ → Type 0
-FollowsIn relay stage = TellsAfter (SetsFollow relay stage) (λ m. IsNoFollow relay stage (state_in m))
+FollowsIn relay stage = TellsAfter (SetsFollow relay stage) (IsNoFollow relay stage)
 
 abbrev pub PassesIn : ℕ → Object → List CfTold × ℕ → Result (Unit {0}) Code → Object → List CfTold × ℕ → Type 0
 PassesIn moment = TellsAfter (Passes moment) (IsNoPass moment)
@@ -170,7 +170,7 @@ RestsIn held step task = ⊥
 
 abbrev pub SetsDeadlineIn : Deadline → Object → Result (Unit {0}) Code → Object → Type 0
 SetsDeadlineIn d (Request m) (Ok done) new = (now : Machine) × SetsDeadline d m now × (new ≡ Request now)
-SetsDeadlineIn d (Request m) (Err code) new = IsDueAs machine_code (IsNoDeadline d (state_in m)) code × (new ≡ Request m)
+SetsDeadlineIn d (Request m) (Err code) new = IsDueAs machine_code (IsNoDeadline d m) code × (new ≡ Request m)
 SetsDeadlineIn d held r new = (r ≡ Err WrongKind) × (new ≡ held)
 
 -- there is room for more stages, or it is refused for a fault that is due

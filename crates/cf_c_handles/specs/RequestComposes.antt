@@ -3,7 +3,7 @@ use Rattle.std.specs.Prelude.{◌≡◌, ℕ, ◌==◌, Option, Some, None, Resu
 use Rattle.cf_ledger.specs.declared.step.Finish.{Finish}
 use Rattle.cf_ledger.specs.declared.step.Held.{Held}
 use Rattle.cf_request.specs.Composing.{Composes, Links, IsNoCompose, IsNoLink}
-use Rattle.cf_request.specs.Machines.{Machine, state_in}
+use Rattle.cf_request.specs.Machines.{Machine}
 use Rattle.cf_request.specs.declared.composing.Composed.{Composed}
 use Rattle.cf_request.specs.declared.composing.Composing.{Composing}
 use Rattle.cf_request.specs.declared.composing.Composing.TheVariants.{Compose, ExceptionallyCompose}
@@ -74,7 +74,7 @@ pub record HasLinked (old : Machine) (new : Object) (had has : CfRequestLinking 
 -- or nothing is done, for a fault that is due
 abbrev pub LinksOrNot : Machine → CfRequestLinking × CfTask × List CfTold → Result (Unit {0}) Code → Object → CfRequestLinking × CfTask × List CfTold → Type 0
 LinksOrNot m had (Ok done) new has = HasLinked m new had has
-LinksOrNot m had (Err code) new has = IsDueAs step_code (IsNoLink had.0.who (composed_of had.0 had.1) had.0.stage (state_in m)) code × StaysButFinds m new × (has ≡ had)
+LinksOrNot m had (Err code) new has = IsDueAs step_code (IsNoLink had.0.who (composed_of had.0 had.1) had.0.stage m) code × StaysButFinds m new × (has ≡ had)
 
 -- exactly where the task holds nothing, C is told that, and nothing changes
 abbrev pub LinksBy : Option Held → Machine → CfRequestLinking × CfTask × List CfTold → Result (Unit {0}) Code → Object → CfRequestLinking × CfTask × List CfTold → Type 0

@@ -1,7 +1,7 @@
 -- Several calls of a request in one, as a row.
 use Rattle.std.specs.Prelude.{◌≡◌, ◌⊎◌, ℕ, ◌<◌, ◌≤◌, ◌==◌, Option, Some, None, Result, Ok, Err, List, [], ◌∷◌, drop, take, if◌then◌else◌}
 use Rattle.cf_model.specs.declared.events.Reply.{Reply}
-use Rattle.cf_request.specs.Machines.{AppliesWord, CancelsAll, GoesOn, IsNoCancel, IsNoDeadline, IsNoFollow, IsNoNext, IsNoPass, IsNoWord, Machine, OnlyFinds, Passes, Refuses, SetsDeadline, SetsFollow, state_in}
+use Rattle.cf_request.specs.Machines.{AppliesWord, CancelsAll, GoesOn, IsNoCancel, IsNoDeadline, IsNoFollow, IsNoNext, IsNoPass, IsNoWord, Machine, OnlyFinds, Passes, Refuses, SetsDeadline, SetsFollow}
 use Rattle.cf_request.specs.declared.deadlines.Deadline.{Deadline}
 use Rattle.cf_request.specs.declared.machine.Next.{Next}
 use Rattle.cf_c_handles.specs.Building.{kind_of}
@@ -67,8 +67,8 @@ InLane m had r new has Goes = ((lanes_in m ≤ had.lane) × (r ≡ Err NoLane) �
 abbrev pub DoesAs : Option Call → Machine → CfRequestCall → Result (Unit {0}) Code → Machine → CfRequestCall → Type 0
 DoesAs (Some Apply) m had r new has = InLane m had r new has (DoesOr word_code HasReply (IsNoWord had.word m) m had r new has)
 DoesAs (Some TakeNext) m had r new has = InLane m had r new has (DoesOr step_code HasNext (IsNoNext had.who had.lane (held_by had.task) m) m had r new has)
-DoesAs (Some Follow) m had r new has = DoesOr machine_code (JustDoes (SetsFollow had.relay had.stage)) (IsNoFollow had.relay had.stage (state_in m)) m had r new has
-DoesAs (Some SetDeadline) m had r new has = DoesOr machine_code (JustDoes (SetsDeadline (deadline_of had))) (IsNoDeadline (deadline_of had) (state_in m)) m had r new has
+DoesAs (Some Follow) m had r new has = DoesOr machine_code (JustDoes (SetsFollow had.relay had.stage)) (IsNoFollow had.relay had.stage m) m had r new has
+DoesAs (Some SetDeadline) m had r new has = DoesOr machine_code (JustDoes (SetsDeadline (deadline_of had))) (IsNoDeadline (deadline_of had) m) m had r new has
 DoesAs (Some Pass) m had r new has = DoesOr machine_code (JustDoes (Passes had.moment)) (IsNoPass had.moment m) m had r new has
 DoesAs (Some Refuse) m had r new has = InLane m had r new has (DoesOr machine_code (JustDoes (Refuses had.lane had.code)) (IsNoRefusal m) m had r new has)
 DoesAs (Some CancelAll) m had r new has = DoesOr step_code (JustDoes (CancelsAll had.who)) (IsNoCancel had.who m) m had r new has

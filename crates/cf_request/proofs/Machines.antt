@@ -1,8 +1,8 @@
 -- What a machine keeps.
-use Rattle.std.proofs.Common.{◌≡◌, ℕ, zero, suc, ◌+◌, ◌-◌, ◌<◌, ◌≤◌, Bool, true, false, arith, replicate, cond, inl, inr, Option, Some, None, List, [], ◌∷◌, ◌++◌, length, length-append, max, refl, ap, set, sym, ◌∙◌, subst}
+use Rattle.std.proofs.Common.{◌≡◌, ℕ, zero, suc, ◌+◌, ◌-◌, ◌<◌, ◌≤◌, Bool, true, false, arith, replicate, cond, inl, inr, Option, Some, None, List, [], ◌∷◌, ◌++◌, length, length-append, refl, ap, set, sym, ◌∙◌, subst}
 use Rattle.std.specs.Prelude.{◌==◌, ◌&&◌, Err, IfNone, IfOk, Ok, Result, is_some, not, slice_get, unwrap_or}
 use Rattle.std.specs.List.{filter}
-use Rattle.std.proofs.Math.Nat.{le-max_left, le-max_right, max-le}
+use Rattle.std.proofs.Math.Nat.{le-max_left}
 use Rattle.std.proofs.lemmas.Bool.{cases_lt, eq-eqb}
 use Rattle.std.proofs.lemmas.List.{length-replicate, length-set}
 use Rattle.std.proofs.lemmas.List.Elements.{All-nil, All-push, All-weaker}
@@ -25,7 +25,7 @@ use Rattle.cf_ledger.specs.declared.step.Held.{Held}
 use Rattle.cf_ledger.specs.declared.step.Taken.{Taken}
 use Rattle.cf_request.specs.Deadlines.{Forgets, Sets}
 use Rattle.cf_request.specs.Lanes.{FinishesHeld, IsIdle, NoneReadyIn, TakesIn, ready_below}
-use Rattle.cf_request.specs.Machines.{CancelsAll, CatchesUp, GoesOn, IsMachine, IsNoWord, Machine, OnlyFinds, Refuses, free_in, most_words, open_in, state_in}
+use Rattle.cf_request.specs.Machines.{CancelsAll, CatchesUp, GoesOn, IsMachine, IsNoWord, Machine, Refuses, open_in, state_in}
 use Rattle.cf_request.specs.Ready.{Lanes, lane_of}
 use Rattle.cf_request.specs.Refusals.{AllSettled, IsCancelled, IsRefused}
 use Rattle.cf_request.specs.Relays.{AreBehindBy, AreLookedAt, AreMarked, AreRelays, AreThere, IsRelayDue, IsRelayOr, NoneBehind, is_in_flags, waiting_of}
@@ -118,46 +118,6 @@ may_word words a r b word reply row follows deadlines own flags waiting seen row
 
 pub free_found : (words : ℕ) (a r : Teller) → r ≡ with_memory words a → a.ledger.free ≤ r.ledger.free
 free_found words a r is = let same = ap (λ (t : Teller). t.ledger.free) is in let more = le-max_left a.ledger.free words in omega (arith, same, more)
-
--- ---- memory is found, and nothing else is done
-
-pub finds_none : (m : Machine) → OnlyFinds m m
-finds_none m = record { found = omega arith; few = le-max_left (free_in m) (most_words m); same = refl }
-
-pub only_finds : (words : ℕ) (m : Machine) (r : Teller) → r ≡ with_memory words m.teller → words ≤ most_words m → OnlyFinds m (record m { teller = r })
-only_finds words m r is most =
-    let free : r.ledger.free ≡ max m.teller.ledger.free words = ap (λ (t : Teller). t.ledger.free) is in
-    let left = le-max_left (free_in m) (most_words m) in
-    let right = le-max_right (free_in m) (most_words m) in
-    record {
-      found = free_found words m.teller r is;
-      few = subst (λ (n : ℕ). n ≤ max (free_in m) (most_words m)) (sym free) (max-le left (omega (arith, most, right)));
-      same = ap (λ (t : Teller). let x : Machine = record m { teller = t } in x) is
-          ∙ sym (ap (λ (k : ℕ). let x : Machine = record m { teller = record m.teller { ledger = record m.teller.ledger { free = k } } } in x) free);
-    }
-
--- the same where a method returns
-pub same_view : (old now : Machine) (r : Teller) → old ≡ now → r ≡ old.teller → OnlyFinds now (record old { teller = r })
-same_view old now r view is =
-    subst (λ (m : Machine). OnlyFinds m (record old { teller = r })) view (subst (λ (t : Teller). OnlyFinds old (record old { teller = t })) (sym is) (finds_none old))
-
-pub found_view : (words : ℕ) (old now : Machine) (r : Teller) → old ≡ now → r ≡ with_memory words old.teller → words ≤ most_words old → OnlyFinds now (record old { teller = r })
-found_view words old now r view is most = subst (λ (m : Machine). OnlyFinds m (record old { teller = r })) view (only_finds words old r is most)
-
-most_same : (a b : Machine) → OnlyFinds a b → most_words b ≡ most_words a
-most_same a b h = ap most_words h.same
-
--- twice
-pub finds_then : (a b c : Machine) → OnlyFinds a b → OnlyFinds b c → OnlyFinds a c
-finds_then a b c h k =
-    let first = h.found in
-    let second = k.found in
-    let same = most_same a b h in
-    record {
-      found = omega (arith, first, second);
-      few = (let few = k.few in let most = h.few in let right = le-max_right (free_in a) (most_words a) in let top = max-le most (let le : most_words b ≤ max (free_in a) (most_words a) = omega (arith, same, right) in le) in omega (arith, few, top));
-      same = k.same ∙ ap (λ (m : Machine). let x : Machine = record m { teller = record m.teller { ledger = record m.teller.ledger { free = free_in c } } } in x) h.same;
-    }
 
 -- why a word isn't done, where no memory was found for it
 pub no_word : (words word : ℕ) (m : Machine) (r : Teller) (fault : LedgerFault) → r ≡ with_memory words m.teller → LedgerRefuses (state_of r.ledger) word fault → IsShort r.ledger.free fault → IsNoWord word m fault

@@ -1,5 +1,5 @@
 -- Composes with their relays, and composes that are finished with any stage.
-use Rattle.std.specs.Prelude.{◌≡◌, ◌≢◌, ℕ, ◌+◌, ◌<◌, ◌≤◌, None, Some, List, [], ◌∷◌, length}
+use Rattle.std.specs.Prelude.{◌≡◌, ◌≢◌, ◌⊎◌, ℕ, ◌+◌, ◌<◌, ◌≤◌, None, Some, List, [], ◌∷◌, length}
 use Rattle.cf_forms.specs.declared.forms.Answer.TheVariants.{Link}
 use Rattle.cf_forms.specs.declared.forms.Form.{Form}
 use Rattle.cf_forms.specs.declared.forms.Form.TheVariants as forms
@@ -16,7 +16,7 @@ use Rattle.cf_ledger.specs.declared.faults.StepFault.{StepFault}
 use Rattle.cf_ledger.specs.declared.faults.StepFault.TheVariants as steps
 use Rattle.cf_ledger.specs.declared.step.Finish.{Finish}
 use Rattle.cf_request.specs.Attaching.{TellsAttaches}
-use Rattle.cf_request.specs.Machines.{AppliesWord, Finds, Machine, SetsFollow, free_in, state_in, waiting_in}
+use Rattle.cf_request.specs.Machines.{AppliesWord, Finds, Machine, NoRelayFits, SetsFollow, free_in, state_in, waiting_in}
 use Rattle.cf_request.specs.Telling.{Teller}
 use Rattle.cf_request.specs.declared.composing.Composed.{Composed}
 use Rattle.cf_request.specs.declared.composing.Composing.{Composing}
@@ -107,7 +107,11 @@ MayNotLink who composed stage s steps.NoCaller = 63 < who
 MayNotLink who composed stage s steps.NoStage = (who ≤ 63) × ¬ AreStages composed stage s
 MayNotLink who composed stage s steps.NotHeld = (who ≤ 63) × AreStages composed stage s × (claim_at s composed.stage ≢ Some who)
 
--- and want of memory is the last: it is wanted for the words, and for the row of those that follow
-abbrev pub IsNoLink : ℕ → Composed → ℕ → State → StepFault → Type 0
-IsNoLink who composed stage s steps.NoMemory = MayLink who composed stage s
-IsNoLink who composed stage s fault = MayNotLink who composed stage s fault
+-- too little memory was found for the words, or there is no place for the relay
+abbrev pub IsShortToLink : Machine → Type 0
+IsShortToLink m = (free_in m < 2 + length m.follows) ⊎ NoRelayFits m
+
+-- and want of memory is the last
+abbrev pub IsNoLink : ℕ → Composed → ℕ → Machine → StepFault → Type 0
+IsNoLink who composed stage m steps.NoMemory = MayLink who composed stage (state_in m) × IsShortToLink m
+IsNoLink who composed stage m fault = MayNotLink who composed stage (state_in m) fault

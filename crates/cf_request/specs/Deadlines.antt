@@ -24,6 +24,10 @@ pub record AreSet (s : State) (deadlines : List Deadline) : Type 0 where
 abbrev pub NoneOpen : List Deadline → List Stage → Type 0
 NoneOpen deadlines stages = All (λ e. is_settled_in stages e.stage ≡ true) deadlines
 
+-- each stage that has one is open
+abbrev pub AllOpen : List Deadline → List Stage → Type 0
+AllOpen deadlines stages = All (λ e. is_settled_in stages e.stage ≡ false) deadlines
+
 -- the first of those whose stage is open
 pub record IsNextOpen (deadlines : List Deadline) (stages : List Stage) (d : Deadline) : Type 0 where
   pub front : List Deadline

@@ -9,7 +9,7 @@ use Rattle.cf_ledger.specs.declared.faults.LedgerFault.TheVariants.{NoMemory as 
 use Rattle.cf_ledger.specs.declared.faults.StepFault.{StepFault}
 use Rattle.cf_ledger.specs.declared.faults.StepFault.TheVariants.{NoMemory as NoMemoryForStep, NoCaller, NoStage as NoStageForStep, NotHeld}
 use Rattle.cf_ledger.specs.declared.step.Held.{Held}
-use Rattle.cf_request.specs.Deadlines.{AreCome, AreSet, Forgets, IsOverdue, NoneLeft, Sets, open_of}
+use Rattle.cf_request.specs.Deadlines.{AllOpen, AreCome, AreSet, Forgets, IsOverdue, NoneLeft, Sets, open_of}
 use Rattle.cf_request.specs.Lanes.{FinishesHeld, IsIdle, TakesIn}
 use Rattle.cf_request.specs.Ready.{with_lane}
 use Rattle.cf_request.specs.Refusals.{AllSettled, IsCancelled, IsRefused, NoneToRefuse, open_below}
@@ -22,13 +22,16 @@ use Rattle.cf_request.specs.declared.faults.MachineFault.TheVariants.{NoMemory, 
 use Rattle.cf_request.specs.declared.machine.Next.{Next}
 use Rattle.cf_request.specs.declared.relays.Follow.{Follow}
 
--- what is told of a ledger and who runs its stages, which stages follow which, the deadlines, the last moment, and the machine's own caller
+-- What is told of a ledger and who runs its stages, which stages follow which, the deadlines, the last moment, and the machine's own caller.
+-- Then for how many relays and for how many deadlines memory was found.
 pub record Machine : Type 0 where
   pub teller : Teller
   pub follows : List Follow
   pub deadlines : List Deadline
   pub moment : ℕ
   pub own : ℕ
+  pub relay_places : ℕ
+  pub deadline_places : ℕ
 
 -- the graph's state
 abbrev pub state_in : Machine → State
@@ -120,17 +123,24 @@ IsNoNext who lane held m fault = IsNoStep who held (state_in m) fault
 pub record SetsFollow (relay stage : ℕ) (old new : Machine) : Type 0 where
   pub there : (relay < length (state_in old).plan.stages) × (stage < length (state_in old).plan.stages)
   pub set : new.follows ≡ old.follows ++ (record { relay = relay; stage = stage }) ∷ []
+  pub fits : length new.follows ≤ new.relay_places
+  pub places : old.relay_places ≤ new.relay_places
   pub found : Teller
   pub finds : Finds (1 + waiting_in old) (1 + length old.follows) old.teller found
   pub catches_up : CatchesUp old.own new.follows found new.teller
-  pub same : new ≡ record old { teller = new.teller; follows = new.follows }
+  pub same : new ≡ record old { teller = new.teller; follows = new.follows; relay_places = new.relay_places }
 
--- memory is wanted for the words, and for the row of those that follow
-abbrev pub IsNoFollow : ℕ → ℕ → State → MachineFault → Type 0
-IsNoFollow relay stage s NoMemory = Unit {0}
-IsNoFollow relay stage s NoStage = ¬ ((relay < length s.plan.stages) × (stage < length s.plan.stages))
-IsNoFollow relay stage s Past = ⊥
-IsNoFollow relay stage s Full = ⊥
+-- there is a place for no relay more
+abbrev pub NoRelayFits : Machine → Type 0
+NoRelayFits m = m.relay_places ≤ length m.follows
+
+-- why no stage follows another: too little memory was found for the words, a stage isn't there, or there is no place for the relay
+abbrev pub IsNoFollow : ℕ → ℕ → Machine → MachineFault → Type 0
+IsNoFollow relay stage m NoMemory =
+    (free_in m < 1 + length m.follows) ⊎ ((relay < length (state_in m).plan.stages) × (stage < length (state_in m).plan.stages) × NoRelayFits m)
+IsNoFollow relay stage m NoStage = ¬ ((relay < length (state_in m).plan.stages) × (stage < length (state_in m).plan.stages))
+IsNoFollow relay stage m Past = ⊥
+IsNoFollow relay stage m Full = ⊥
 
 -- ---- deadlines
 
@@ -138,14 +148,20 @@ IsNoFollow relay stage s Full = ⊥
 pub record SetsDeadline (d : Deadline) (old new : Machine) : Type 0 where
   pub there : d.stage < length (state_in old).plan.stages
   pub sets : Sets (state_in old).stages d old.deadlines new.deadlines
-  pub same : new ≡ record old { deadlines = new.deadlines }
+  pub fits : length new.deadlines ≤ new.deadline_places
+  pub places : old.deadline_places ≤ new.deadline_places
+  pub same : new ≡ record old { deadlines = new.deadlines; deadline_places = new.deadline_places }
 
--- memory is wanted for the row of deadlines
-abbrev pub IsNoDeadline : Deadline → State → MachineFault → Type 0
-IsNoDeadline d s NoMemory = d.stage < length s.plan.stages
-IsNoDeadline d s NoStage = length s.plan.stages ≤ d.stage
-IsNoDeadline d s Past = ⊥
-IsNoDeadline d s Full = ⊥
+-- there is a place for no deadline more, and none may be forgotten
+abbrev pub NoDeadlineFits : Machine → Type 0
+NoDeadlineFits m = (m.deadline_places ≤ length m.deadlines) × AllOpen m.deadlines (state_in m).stages
+
+-- why no deadline is set: its stage isn't there, or else there is no place for it
+abbrev pub IsNoDeadline : Deadline → Machine → MachineFault → Type 0
+IsNoDeadline d m NoMemory = (d.stage < length (state_in m).plan.stages) × NoDeadlineFits m
+IsNoDeadline d m NoStage = length (state_in m).plan.stages ≤ d.stage
+IsNoDeadline d m Past = ⊥
+IsNoDeadline d m Full = ⊥
 
 -- stages whose moment had come are settled, and relays before them, until none is left
 pub record Passes (moment : ℕ) (old new : Machine) : Type 0 where
@@ -197,7 +213,7 @@ IsNoCancel who m NotHeld = ⊥
 -- ---- starting again
 
 -- It is as it was opened: nothing is done, follows or is due, and told is what is settled from the start. The plan with its room, the lanes of
--- the plan's stages, its own caller, and the memory that was found stay.
+-- the plan's stages, its own caller, and the memory that was found for words, relays and deadlines stay.
 pub record Restarts (old new : Machine) : Type 0 where
   pub ledger : new.teller.ledger ≡ record old.teller.ledger { events = [] }
   pub taken : new.teller.taken ≡ []
@@ -207,3 +223,5 @@ pub record Restarts (old new : Machine) : Type 0 where
   pub deadlines : new.deadlines ≡ []
   pub moment : new.moment ≡ 0
   pub own : new.own ≡ old.own
+  pub relay_places : new.relay_places ≡ old.relay_places
+  pub deadline_places : new.deadline_places ≡ old.deadline_places

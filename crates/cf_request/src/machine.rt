@@ -2,7 +2,7 @@
 ghost use Rattle.std.specs.Prelude.{◌≡◌, ◌≢◌, ◌+◌, ◌-◌, ◌^◌, ◌<◌, ◌≤◌, ◌++◌, ◌∷◌, [], All, IfErr, IfNone, IfOk, IfSome, None, OnErr, OnOk, Some, drop, length, replicate, take, true};
 ghost use Rattle.cf_forms.specs.Plans.{has_place, with_room};
 ghost use Rattle.cf_model.specs.States.{claim_at, start};
-ghost use Rattle.cf_request.specs.Composing.{Composes, FinishesClaimed, Links, IsNoCompose, IsNoLink, LinksFound, MayLink, composes};
+ghost use Rattle.cf_request.specs.Composing.{Composes, FinishesClaimed, Links, IsNoCompose, IsNoLink, IsShortToLink, LinksFound, MayLink, composes};
 ghost use Rattle.cf_request.specs.Deadlines.{AreInOrder, Forgets, IsNextDue, NoneOpen};
 ghost use Rattle.cf_request.specs.Gathering.{Gathers, IsNoGather, gathers, stages_for};
 ghost use Rattle.cf_request.specs.Growing.{Grows, IsNoGrowth};
@@ -46,7 +46,8 @@ const STAGES: u16 = 4096;
 /// A request of a service.
 ///
 /// A contract sees its teller with the lanes, which stages follow which, the deadlines in the order in which they come,
-/// the last moment, and the caller by whose words the machine settles stages itself.
+/// the last moment, the caller by whose words the machine settles stages itself, and for how many relays and deadlines
+/// memory was found.
 ///
 /// It also keeps the set of the stages that are followed, so that a call that settles none of them looks at no relay,
 /// and how many relays are open at most, for each of which a call finds memory.
@@ -69,6 +70,8 @@ impl Model for Machine {
 
     ghost Value = { Machine };
 
+    ghost use Rattle.std.specs.Prelude.{vec_capacity};
+    ghost use Rattle.std.specs.VecDeque.{deque_capacity};
     ghost use Rattle.cf_ledger.specs.Ledgers.{state_of};
     ghost use Rattle.cf_request.specs.Machines.{IsMachine};
     ghost use Rattle.cf_request.specs.Relays.{AreRelays, NoneBehind};
@@ -79,6 +82,8 @@ impl Model for Machine {
       deadlines = m.deadlines.items;
       moment = m.moment;
       own = m.own;
+      relay_places = vec_capacity m.follows;
+      deadline_places = deque_capacity m.deadlines;
     } };
 
     ghost invariant = { λ m. IsMachine m.teller m.follows.items m.deadlines.items m.own
@@ -211,7 +216,7 @@ impl Machine {
         ensures done { IfOk result (λ finish. Links who composed stage self.old finish self.new) }
         ensures calls { OnOk result (AreCalls self.old (nothing ∷ nothing ∷ nothing ∷ []) self.new) }
         ensures refused { OnErr result (OnlyFinds self.old self.new) }
-        ensures why { IfErr result (λ fault. IsNoLink who composed stage (state_in self.old) fault) }
+        ensures why { IfErr result (λ fault. IsNoLink who composed stage self.old fault) }
     {
         check_linking(&self.teller, who, composed, stage)?;
         self.find_two()?;
@@ -225,6 +230,7 @@ impl Machine {
         ensures enough { OnOk result (2 + waiting_in self.new ≤ free_in self.new) }
         ensures same { OnOk result (self.new ≡ record self.old { teller = self.new.teller }) }
         ensures refused { OnErr result (self.new ≡ self.old) }
+        ensures short { OnErr result (free_in self.old < 2 + length self.old.follows) }
     {
         self.teller.reserve(2 + self.waiting)?;
         Ok(())
@@ -237,6 +243,7 @@ impl Machine {
         ensures done { IfOk result (λ finish. LinksFound who composed stage self.old finish self.new) }
         ensures refused { OnErr result (OnlyFinds self.old self.new) }
         ensures why { IfErr result (λ fault. fault ≡ StepFault.NoMemory) }
+        ensures short { OnErr result (IsShortToLink self.old) }
     {
         match self.follow(composed.relay, stage) {
             Ok(()) => Ok(self.finish_claimed(who, composed)),
@@ -363,20 +370,20 @@ impl Machine {
     }
 
     /// A stage ends from now on as another does, if it is open when that one settles. It is refused for the first of:
-    /// memory, a stage that isn't there.
+    /// memory for words, a stage that isn't there, memory for one relay more.
     pub fn follow(&mut self, relay: u16, stage: u16) -> Result<(), MachineFault>
         ensures set { OnOk result (SetsFollow relay stage self.old self.new) }
         ensures refused { OnErr result (OnlyFinds self.old self.new) }
-        ensures why { IfErr result (λ fault. IsNoFollow relay stage (state_in self.old) fault) }
+        ensures why { IfErr result (λ fault. IsNoFollow relay stage self.old fault) }
         ensures found { IfErr result (λ fault.
             fault ≡ MachineFault.NoStage → 1 + waiting_in self.old ≤ free_in self.new) }
     {
         self.teller.reserve(1 + self.waiting)?;
-        self.follows.reserve(1)?;
         let stages = self.teller.stages();
         if relay >= stages || stage >= stages {
             return Err(MachineFault::NoStage);
         }
+        self.follows.reserve(1)?;
         self.follows.push_reserved(Follow { relay, stage });
         self.followed.insert(stage);
         self.waiting += 1;
@@ -396,7 +403,7 @@ impl Machine {
     pub fn deadline(&mut self, deadline: Deadline) -> Result<(), MachineFault>
         ensures set { OnOk result (SetsDeadline deadline self.old self.new) }
         ensures refused { OnErr result (self.new ≡ self.old) }
-        ensures why { IfErr result (λ fault. IsNoDeadline deadline (state_in self.old) fault) }
+        ensures why { IfErr result (λ fault. IsNoDeadline deadline self.old fault) }
     {
         if deadline.stage >= self.teller.stages() {
             return Err(MachineFault::NoStage);

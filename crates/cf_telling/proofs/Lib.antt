@@ -1,2 +1,3 @@
 mod Escapes
 mod Tales
+mod Texts

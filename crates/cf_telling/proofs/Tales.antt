@@ -16,7 +16,7 @@ use Rattle.cf_ledger.specs.Ledgers.{Does, HasRoomFor, Ledger, LedgerRefuses, sta
 use Rattle.cf_ledger.specs.declared.faults.LedgerFault.TheVariants.{NoRoom}
 use Rattle.cf_telling.specs.declared.tale.Entry.{Entry}
 use Rattle.cf_ledger.specs.declared.faults.LedgerFault.{LedgerFault}
-use Rattle.cf_telling.specs.Tales.{AreTold, AreToldOf, IsAdded, IsTold, TellsOne, events_in, words_in}
+use Rattle.cf_telling.specs.Tales.{AreTold, AreToldOf, IsAdded, IsTold, NoGraphDoes, TellsOne, events_in, words_in}
 
 pub told_more : (s : State) (es : List Entry) (e : Entry) → AreTold s es → IsTold (state_after s (events_in es)) e → AreTold s (es ++ e ∷ [])
 told_more s [] e told is = (is, tt)
@@ -68,15 +68,15 @@ count_of (e ∷ es) = ap suc (count_of es)
 
 -- what is told so far are the first words
 pub told_first : (s : State) (words : List ℕ) (k : ℕ) (entries : List Entry) (now : State) (why : LedgerFault) → k ≤ length words → HasTold s (take k words) entries now →
-    LedgerRefuses now (get_or words k 0) why → AreToldOf s words entries (Some why)
+    NoGraphDoes now (get_or words k 0) why → AreToldOf s words entries (Some why)
 told_first s words k entries now why within h refuses =
     let count : length entries ≡ k = sym (count_of entries) ∙ ap length h.are ∙ length-take-le k words within in
-    let there : LedgerRefuses (state_after s (events_in entries)) (get_or words k 0) why = subst (λ (t : State). LedgerRefuses t (get_or words k 0) why) h.left refuses in
+    let there : NoGraphDoes (state_after s (events_in entries)) (get_or words k 0) why = subst (λ (t : State). NoGraphDoes t (get_or words k 0) why) h.left refuses in
     record {
       told = h.told;
       first = h.are ∙ ap (λ n. take n words) (sym count);
       all = λ e. absurd cc;
-      stopped = subst (λ n. LedgerRefuses (state_after s (events_in entries)) (get_or words n 0) why) (sym count) there;
+      stopped = subst (λ n. NoGraphDoes (state_after s (events_in entries)) (get_or words n 0) why) (sym count) there;
     }
 
 pub told_all : (s : State) (words : List ℕ) (k : ℕ) (entries : List Entry) (now : State) → k ≡ length words → HasTold s (take k words) entries now → AreToldOf s words entries None

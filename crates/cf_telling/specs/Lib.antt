@@ -1,3 +1,4 @@
 pub mod Escapes
 pub mod Laws
 pub mod Tales
+pub mod Texts

@@ -8,6 +8,7 @@ use Rattle.cf_model.specs.declared.events.Reply.{Reply}
 use Rattle.cf_event.specs.Decoding.{event_of}
 use Rattle.cf_ledger.specs.Ledgers.{LedgerRefuses}
 use Rattle.cf_ledger.specs.declared.faults.LedgerFault.{LedgerFault}
+use Rattle.cf_ledger.specs.declared.faults.LedgerFault.TheVariants.{NoMemory, NoRoom}
 use Rattle.cf_telling.specs.declared.tale.Entry.{Entry}
 
 -- an entry has the event of its word, which names stages that are there, and the sequential graph's reply
@@ -27,12 +28,18 @@ words_in entries = map (λ (entry : Entry). entry.word) entries
 abbrev pub events_in : List Entry → List Event
 events_in entries = map (λ (entry : Entry). entry.event) entries
 
+-- no graph does a word: it is no event's, or its event names a stage that isn't there. So want of memory stops no tale, and want of room doesn't.
+abbrev pub NoGraphDoes : State → ℕ → LedgerFault → Type 0
+NoGraphDoes s word NoMemory = ⊥
+NoGraphDoes s word NoRoom = ⊥
+NoGraphDoes s word why = LedgerRefuses s word why
+
 -- these are told of the words from a state on, in their order: all of them, or those before the first that no graph does
 pub record AreToldOf (s : State) (words : List ℕ) (entries : List Entry) (stop : Option LedgerFault) : Type 0 where
   pub told : AreTold s entries
   pub first : words_in entries ≡ take (length entries) words
   pub all : stop ≡ None → words_in entries ≡ words
-  pub stopped : IfSome stop (λ why. LedgerRefuses (state_after s (events_in entries)) (get_or words (length entries) 0) why)
+  pub stopped : IfSome stop (λ why. NoGraphDoes (state_after s (events_in entries)) (get_or words (length entries) 0) why)
 
 -- one entry more, of this word and this event with this reply
 pub record IsAdded (word : ℕ) (event : Event) (reply : Reply) (old new : List Entry) : Type 0 where
@@ -53,4 +60,4 @@ pub record TellsOne (word : ℕ) (s : State) (old : List Entry) (now : State) (n
 -- a word is told, or no graph does it
 abbrev pub TellsWord : ℕ → State → List Entry → Option LedgerFault → State → List Entry → Type 0
 TellsWord word s old None now new = TellsOne word s old now new
-TellsWord word s old (Some why) now new = (new ≡ old) × LedgerRefuses s word why
+TellsWord word s old (Some why) now new = (new ≡ old) × NoGraphDoes s word why

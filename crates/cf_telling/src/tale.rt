@@ -145,7 +145,8 @@ fn tell_word(
         Ok(reply) => add(alloc, ledger, word, event, reply, entries, notes)?,
         Err(LedgerFault::NoRoom) => add_full(alloc, word, event, entries)?,
         Err(LedgerFault::NoMemory) => return Err(AllocError),
-        Err(fault) => return Ok(Some(fault)),
+        Err(LedgerFault::NoEvent) => return Ok(Some(LedgerFault::NoEvent)),
+        Err(LedgerFault::NoStage) => return Ok(Some(LedgerFault::NoStage)),
     }
     Ok(None)
 }

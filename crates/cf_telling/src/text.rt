@@ -1,7 +1,8 @@
 //! A text that is written piece by piece, and texts of others in it.
-ghost use Rattle.std.specs.Prelude.{◌≡◌, ◌<◌, [], ◌∷◌, ◌++◌, OnOk, encode_utf8_all, string_bytes};
+ghost use Rattle.std.specs.Prelude.{◌≡◌, ◌<◌, [], ◌∷◌, ◌++◌, IfOk, OnErr, OnOk, encode_utf8_all, false, string_bytes, true};
 ghost use Rattle.std.specs.Char.{digit_char};
 ghost use Rattle.cf_telling.specs.Escapes.{by_number, escape, is_special, written_as};
+ghost use Rattle.cf_telling.specs.Texts.{Adds, written};
 ghost use Rattle.cf_telling.specs.declared.text.Within.TheVariants.{Json, Lines};
 
 use cf_model::{Ask, Reply, Told};
@@ -9,6 +10,7 @@ use cf_outcome::Outcome;
 use cf_text::{is_shown, write_did, write_reply, write_saw, write_settled};
 use std::alloc::{AllocError, Global};
 use std::fmt::Display;
+use std::marker::Model;
 
 /// Where a text is read. That says which characters a text of others may not have there.
 #[derive(Clone, Copy)]
@@ -30,9 +32,25 @@ pub struct Text {
     is_short: bool,
 }
 
+impl Model for Text {
+    ghost use Rattle.cf_telling.specs.Texts.{Written};
+
+    ghost Value = { Written };
+
+    ghost use Rattle.std.specs.Prelude.{string_bytes};
+
+    ghost view = { λ t. record {
+      bytes = string_bytes t.text;
+      within = t.within;
+      is_short = t.is_short;
+    } };
+}
+
 impl Text {
     /// Of no piece.
-    pub fn new(alloc: Global, within: Within) -> Text {
+    pub fn new(alloc: Global, within: Within) -> Text
+        ensures { result ≡ record { bytes = []; within = within; is_short = false } }
+    {
         Text {
             text: String::new(alloc),
             within,
@@ -41,9 +59,15 @@ impl Text {
     }
 
     /// Adds a piece.
-    pub fn add(&mut self, piece: &str) {
-        if !self.is_short && self.text.push_str(piece).is_err() {
-            self.is_short = true;
+    pub fn add(&mut self, piece: &str)
+        ensures { Adds piece.now self.old self.new }
+    {
+        if self.is_short {
+            return;
+        }
+        match self.text.push_str(piece) {
+            Ok(()) => {}
+            Err(_) => self.is_short = true,
         }
     }
 
@@ -125,8 +149,10 @@ impl Text {
         self.add("\"");
     }
 
-    /// Adds a text of others.
-    pub fn add_inside(&mut self, said: &str) {
+    /// Adds a text of others. Each of its characters is written as one that may stand there.
+    pub fn add_inside(&mut self, said: &str)
+        ensures { Adds (written self.old.within said.now) self.old self.new }
+    {
         for c in said.chars() {
             self.add_char(c);
         }
@@ -144,9 +170,15 @@ impl Text {
     }
 
     /// Adds a character of a text of others.
-    fn add_char(&mut self, c: char) {
-        if !self.is_short && push_char(&mut self.text, self.within, c).is_err() {
-            self.is_short = true;
+    fn add_char(&mut self, c: char)
+        ensures { Adds (encode_utf8_all (written_as self.old.within c)) self.old self.new }
+    {
+        if self.is_short {
+            return;
+        }
+        match push_char(&mut self.text, self.within, c) {
+            Ok(()) => {}
+            Err(_) => self.is_short = true,
         }
     }
 
@@ -157,7 +189,10 @@ impl Text {
     }
 
     /// Fails where memory was refused for a piece.
-    pub fn check(&self) -> Result<(), AllocError> {
+    pub fn check(&self) -> Result<(), AllocError>
+        ensures whole { OnOk result (self.now.is_short ≡ false) }
+        ensures short { OnErr result (self.now.is_short ≡ true) }
+    {
         if self.is_short {
             Err(AllocError)
         } else {
@@ -166,7 +201,11 @@ impl Text {
     }
 
     /// All of it, unless memory was refused for a piece.
-    pub fn whole(self) -> Result<String, AllocError> {
+    pub fn whole(self) -> Result<String, AllocError>
+        ensures text { IfOk result (λ text. string_bytes text ≡ self.bytes) }
+        ensures whole { OnOk result (self.is_short ≡ false) }
+        ensures short { OnErr result (self.is_short ≡ true) }
+    {
         if self.is_short {
             Err(AllocError)
         } else {

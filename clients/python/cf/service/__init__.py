@@ -1,7 +1,29 @@
 """Futures that services use: any objects, exceptions, threads, `await` and timeouts, over a proved machine.
 
+A `Service` runs functions on threads, a `LoopService` on an event loop. `service.request(name)` opens a `Request`, whose
+stages are futures: `request.supply(fn)` calls a function, `request.promise()` waits for somebody to complete it, and
+`stage.then(fn)` calls a function with a stage's value. A `Flow` is a plan that many requests do.
+
+    with Service() as service:
+        request = service.request("order 17")
+        mail = request.supply(load_user, 3).then(address).recover(lambda error: "nobody").or_timeout(2)
+        print(mail.result())
+        print(request.history())
+
 Each request has one history of all that happened to it, which is proved to be one order, and can be judged (`cf_look
-check`), done again (`cf run`) and drawn (`cf_look dot`).
+check`), done again (`cf run`) and drawn (`cf_look dot`). clients/python/GUIDE.md leads through it by task.
+
+Java's names:
+
+    supplyAsync, new CompletableFuture              request.supply, request.promise
+    thenApply, thenAccept, thenRun                  then
+    thenCompose, thenCombine, applyToEither         compose, combine, either
+    handle, whenComplete                            handle, when_done
+    exceptionally, exceptionallyCompose             recover, recover_compose
+    complete, completeExceptionally, cancel         complete, fail, abandon
+    orTimeout, completeOnTimeout                    or_timeout, complete_on_timeout
+    allOf, anyOf                                    all_of, first_of
+    join, get                                       result, which raises the exception itself
 """
 from .flow import Flow, Step
 from .history import History, describe_all, describe_nothing, describe_types

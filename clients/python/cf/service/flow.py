@@ -46,7 +46,7 @@ class Step(Generic[T]):
         return self.flow._rows[self.number][3]
 
     def named(self, name: str) -> "Step[T]":
-        """Gives it a name. This step itself is given back."""
+        """Gives it a name, which histories use. This step itself is given back."""
         self.flow._rename(self.number, name)
         return self
 
@@ -131,7 +131,8 @@ class Flow:
         self._plan: Optional[PlanCore] = None
 
     def promise(self, name: str = "promise") -> "Step[Any]":
-        """A step without a function: `Service.start` and `run` take its value, or somebody settles its stage later."""
+        """A step without a function: `Service.start` and `run` take its value, or somebody settles its stage later, by
+        `request[step].complete(value)`."""
         step: Step[Any] = self._step(Form.SOURCE, (), None, name)
         self._promises.append(step.number)
         return step

@@ -102,6 +102,11 @@ class History:
     """The events of a request in their one order, with all that callers were told. It stays as it is while the request
     goes on.
 
+        history = request.history()
+        log.error(history.line())
+        folder.joinpath("account.json").write_text(history.account())
+        folder.joinpath("script.json").write_text(history.script())
+
     `print(history)` tells it in words, a line for each event, and `line()` sums it up in one line, for a log.
     `account()` is for `cf_look check`, `page()` for a browser, `script()` for `cf run` and `cf_look dot`. The library
     does the words again for these, and tells the same in each language.
@@ -142,7 +147,7 @@ class History:
         return self
 
     def entries(self) -> List[Entry]:
-        """All events. The library does the words again for these."""
+        """All events, as named tuples. The library does the words again for these."""
         if self._entries is None:
             first = self._times[0] if self._times else 0
             self._entries = [Entry(k + 1, (self._times[k] - first) / 1e9, word, event_of(word), reply, told)
@@ -177,31 +182,32 @@ class History:
         return self._as(Kind.LINES).rstrip("\n")
 
     def lines(self) -> List[str]:
-        """How much happened; then a line for each event, and below it one for each stage that was settled by it."""
+        """A line that says how much happened; then a line for each event, and below it one for each stage that the event
+        settled."""
         return str(self).split("\n")
 
     def line(self) -> str:
-        """How much happened, which stage failed first, and which one is open, in one line."""
+        """One line, for a log: how much happened, which stage failed first, and which one is open."""
         return self._as(Kind.LINE)
 
     def sentences(self) -> List[Tuple[str, List[str]]]:
-        """Of each event its line, and those of the stages that were settled by it."""
+        """For each event its line, and the lines of the stages that it settled."""
         lines = iter(self.lines()[1:])
         return [(next(lines), list(itertools.islice(lines, len(entry.told)))) for entry in self.entries()]
 
     def account(self) -> str:
-        """What `cf_look check` judges and `cf_look page` shows, as a line of JSON."""
+        """The events as a line of JSON, which `cf_look check` judges and `cf_look page` shows."""
         return self._as(Kind.ACCOUNT).rstrip("\n")
 
     def script(self, most: Optional[int] = None) -> str:
-        """What `cf run` does again and `cf_look dot` draws, as a line of JSON.
+        """The events as a line of JSON, which `cf run` does again, without your functions, and `cf_look dot` draws.
 
         Args:
             most: How many of the first events it has. By default all."""
         return self._as(Kind.SCRIPT, most).rstrip("\n")
 
     def report(self) -> str:
-        """What `cf run` prints of the script: the replies, and what stages hold in the end."""
+        """What `cf run` prints for the script: the replies, and what the stages end with."""
         return self._as(Kind.REPORT)
 
     def _as(self, kind: Kind, most: Optional[int] = None) -> str:
@@ -245,11 +251,11 @@ class History:
     # What things are called.
 
     def caller(self, who: int) -> str:
-        """What a caller is called."""
+        """The name of a caller, by its number."""
         return CALLERS.get(who, f"worker {who - FIRST_WORKER}")
 
     def error(self, code: int) -> str:
-        """What is told of an exception."""
+        """The text of an exception, by its code."""
         return escaped(self._text(self.errors[code]))
 
     def fault(self, told: Told) -> str:

@@ -77,8 +77,8 @@ class LoopService:
                            given)._describing(describe)
 
     def submit(self, fn: "Callable[P, T]", /, *args: "P.args", **kwargs: "P.kwargs") -> "Stage[T]":
-        """As `Service.submit`: has the loop call a function, or run a coroutine, in a request of one stage. Any thread
-        may."""
+        """As `Service.submit`: calls a function on the loop, or runs a coroutine, in a request of one stage. Any thread
+        may call it."""
         return self._kind(self._works, "", 1, self).supply(fn, *args, **kwargs)
 
 

@@ -148,7 +148,11 @@ R = TypeVar("R", bound="Request")
 
 class Request(RequestCore):
     """Stages that belong together, of which one history is kept. `Service.request` and `Service.start` open one. Any
-    thread may use it.
+    thread may use it; calls on one request wait for one another.
+
+        request = service.request("order 17")
+        user, price = request.supply(load_user, 3), request.supply(quote, "lamp")
+        print(user.combine(price, total).or_timeout(2).result())
 
     Each change is one event of the request. An event and what follows from it are shown in one step; callbacks
     and threads are told after that. Values and exceptions are kept until nobody has the request or one of its stages
@@ -171,7 +175,7 @@ class Request(RequestCore):
     # Stages.
 
     def supply(self, fn: "Callable[P, T]", /, *args: "P.args", **kwargs: "P.kwargs") -> "Stage[T]":
-        """Has a function called by one of the service's threads, or by the loop of a `LoopService`.
+        """Calls a function on one of the service's threads, or on the loop of a `LoopService`.
 
         Args:
             fn: Called with the other arguments.
@@ -185,15 +189,22 @@ class Request(RequestCore):
     def promise(self, name: str = "promise") -> "Stage[Any]":
         """A stage without a function, which somebody settles: by `complete`, `fail`, `cancel` or a time limit.
 
+            approval = request.promise("approval")
+            shipped = approval.then(ship)
+            ..
+            approval.complete("yes")
+
         Args:
             name: What histories call it.
 
         Returns:
-            The stage. Until it is settled, what is attached behind it waits."""
+            The stage. Until it is settled, the stages that depend on it wait."""
         return self._attach(Form.SOURCE, None, None, None, None, None, name)
 
     def adopt(self, future: "concurrent.futures.Future[T]") -> "Stage[T]":
-        """Makes a future a stage of this request, so that stages can be attached behind it.
+        """Makes a future a stage of this request, so that other stages can wait for it.
+
+            price = request.adopt(executor.submit(quote, "lamp")).then(with_tax)
 
         Args:
             future: Any future of `concurrent.futures`. It keeps the request alive until it or the returned stage is
@@ -218,7 +229,9 @@ class Request(RequestCore):
         return self._of_all(Form.ALL_OF, of, "all of")
 
     def first_of(self, *of: "concurrent.futures.Future[T]") -> "Stage[T]":
-        """Waits for the future that is settled first. The others go on.
+        """Waits for the future that is settled first, be it by an exception. The others go on.
+
+            quote = request.first_of(request.supply(ask, here), request.supply(ask, there))
 
         Args:
             of: Stages of this request, or any other futures, each of which takes a relay.
@@ -235,6 +248,8 @@ class Request(RequestCore):
 
     def gather(self, *of: "concurrent.futures.Future[T]") -> "Stage[List[T]]":
         """Waits for all futures, and collects their values.
+
+            prices = request.gather(*[request.supply(quote, item) for item in items])
 
         Args:
             of: As in `all_of`.
@@ -265,11 +280,16 @@ class Request(RequestCore):
                        self._facts())._described(getattr(self, "_describe", self._works.describe))
 
     def cancel(self) -> None:
-        """Cancels all stages that aren't settled, from the first on, as `abandon` does: also those whose functions run,
-        and those that the ones before them would have settled. What is attached later isn't cancelled. The history has
-        an event for each stage that was cancelled by itself."""
+        """Cancels all stages that aren't settled, as `abandon` does: also those whose functions run. It begins with the last
+        one, so no function that takes exceptions (`handle`, `recover`) is called for it. What is attached later isn't
+        cancelled. The history has an event for each stage.
+
+            try:
+                return await answer
+            finally:  # also if the client hangs up
+                request.cancel()"""
         first: Optional[BaseException] = None
-        for stage in map(self._stage, range(self._stages)):
+        for stage in map(self._stage, reversed(range(self._stages))):
             try:
                 if not stage.done():
                     stage.abandon()

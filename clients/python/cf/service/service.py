@@ -127,7 +127,7 @@ class Service(concurrent.futures.Executor):
                            given)._describing(describe)
 
     def submit(self, fn: "Callable[P, T]", /, *args: "P.args", **kwargs: "P.kwargs") -> "Stage[T]":
-        """Has a function called on one of the threads. It is a request of one stage.
+        """Calls a function on one of the threads, in a request of one stage.
 
         Args:
             fn: Called with the other arguments.

@@ -127,6 +127,10 @@ class SpanFile:
     """A hook for `on_end` that adds the spans of each request to a file: a line with the JSON of OpenTelemetry's
     protocol, as its collectors read it from files. It is written as `cf_look trace --spans` writes it.
 
+        with Service(on_end=SpanFile("spans.jsonl", "shop")) as service:
+            with service.request("order 17") as request:
+                request.supply(load, 17).then(charge)
+
     Args:
         path: The file. It is made if it isn't there.
         service: The name of the service whose requests these are."""
@@ -179,7 +183,7 @@ class Spans:
 
 
 def spans_to(path: "Union[str, os.PathLike[str]]", service: str = "cf") -> Hook:
-    """`Spans()` where `opentelemetry-api` is installed, else `SpanFile(path, service)`."""
+    """A hook for `on_end`: `Spans()` if `opentelemetry-api` is installed, else `SpanFile(path, service)`."""
     try:
         return Spans()
     except ImportError:

@@ -36,20 +36,21 @@ else:
 
 
 class Stage(_Future[T]):
-    """A `concurrent.futures.Future` that can have stages behind it, and that can be awaited.
+    """A `concurrent.futures.Future` that other stages can wait for, and that can be awaited.
 
-    The request's machine decides what happens to a stage. Reading a stage (`result`, `done`, ..) tells what the machine
-    has told of it. The head of request.py tells the design.
+    The request's machine decides what happens to a stage. `result`, `done` and the like tell what the machine has told
+    of it. The head of request.py tells the design.
 
-    Where functions run: on one of the service's threads, or on the loop of a `LoopService`, where they may be coroutine
-    functions.
+    Functions run on one of the service's threads, or on the loop of a `LoopService`, where they may be coroutine
+    functions. Callbacks (`add_done_callback`) run in the thread that settles the stage.
 
-    What a failure does: a stage fails with what its function raises. A stage behind a failed one fails with the same
-    exception, and a stage behind a cancelled one with `CancelledError`. Its own function isn't called then, unless it
-    takes exceptions (`handle`, `when_done`, `recover`, `recover_compose`).
+    A stage fails with what its function raises. A stage that waits for a failed one fails with the same exception, and a
+    stage that waits for a cancelled one with `CancelledError`. Its own function isn't called then, unless it takes
+    exceptions (`handle`, `when_done`, `recover`, `recover_compose`). However often an exception is raised by `result` or
+    `await`, its traceback begins as it was at first.
 
-    What attaching costs: one stage of the request and one event. `compose` and `recover_compose` take
-    two of each. A run is two more events, the claim and the finish.
+    Cost: a stage takes one of the 4,096 of its request, and one event of the history; `compose` and `recover_compose`
+    take two of each. A call of its function is two more events, the claim and the finish.
 
     Each method that attaches a stage returns the new stage, and raises
 
@@ -71,6 +72,8 @@ class Stage(_Future[T]):
     def compose(self, fn: "Callable[[T], concurrent.futures.Future[U]]") -> "Stage[U]":
         """Calls a function that returns a future, and waits for that future without holding a thread.
 
+            invoice = user.compose(lambda user: request.supply(bill, user).then(sign))
+
         Args:
             fn: Called with the value. It returns a stage of this request or of another one, or any other future of
                 `concurrent.futures`.
@@ -82,6 +85,8 @@ class Stage(_Future[T]):
 
     def combine(self, other: "concurrent.futures.Future[U]", fn: Callable[[T, U], V]) -> "Stage[V]":
         """Calls a function with two values, once both are there.
+
+            total = price.combine(shipping, lambda price, shipping: price + shipping)
 
         Args:
             other: A stage of this request, or any other future. For one that isn't of this request, a relay is
@@ -108,6 +113,8 @@ class Stage(_Future[T]):
     def handle(self, fn: Callable[[Optional[T], Optional[BaseException]], U]) -> "Stage[U]":
         """Calls a function with this stage's value or exception.
 
+            answer = paid.handle(lambda value, error: {"error": str(error)} if error else value)
+
         Args:
             fn: Called with `(value, None)` or `(None, exception)`, also where this stage was cancelled; the
                 exception is a `CancelledError` then.
@@ -130,6 +137,8 @@ class Stage(_Future[T]):
     def recover(self, fn: Callable[[BaseException], T]) -> "Stage[T]":
         """Calls a function with this stage's exception, if it has one.
 
+            name = user.then(name_of).recover(lambda error: "nobody")
+
         Args:
             fn: Called with the exception. It isn't called where this stage has a value.
 
@@ -139,6 +148,8 @@ class Stage(_Future[T]):
 
     def recover_compose(self, fn: "Callable[[BaseException], concurrent.futures.Future[T]]") -> "Stage[T]":
         """Calls a function that returns a future with this stage's exception, if it has one.
+
+            user = request.supply(ask, here).recover_compose(lambda error: request.supply(ask, elsewhere))
 
         Args:
             fn: Called with the exception. It returns a future, as in `compose`.
@@ -176,7 +187,7 @@ class Stage(_Future[T]):
         return self.request._change(FAIL, THIS_THREAD, self, error)
 
     def cancel(self) -> bool:
-        """Cancels the stage, unless it is settled or its function runs. The stages before it go on.
+        """Cancels the stage, unless it is settled or its function runs. The stages that it waits for go on.
 
         Returns:
             True if the stage is cancelled after the call, also where it was before."""
@@ -184,7 +195,7 @@ class Stage(_Future[T]):
 
     def abandon(self) -> bool:
         """Cancels the stage, unless it is settled, also while its function runs. A function on a thread goes on, and
-        its answer comes too late. A coroutine of a `LoopService` is cancelled.
+        its answer comes too late, as the history tells. A coroutine of a `LoopService` is cancelled.
 
         Returns:
             True if the stage is cancelled after the call, also where it was before."""
@@ -193,7 +204,8 @@ class Stage(_Future[T]):
     def or_timeout(self, seconds: float) -> "Stage[T]":
         """Sets a time limit, after which the stage fails with a `TimeoutError` unless it is settled. That goes for all
         who wait for the stage, unlike the timeout of `result`. A function that runs in a thread goes on, and its answer
-        comes too late.
+        comes too late; a coroutine of a `LoopService` is cancelled. The stages that it waits for go on. The stage's
+        callbacks then run on the clock's thread, or on the loop: a slow one delays all limits of the service.
 
         Args:
             seconds: From now on. With 0 or less it times out at once, with `math.inf` never.
@@ -206,7 +218,8 @@ class Stage(_Future[T]):
         return self.request._limited(self, seconds, None, False)
 
     def complete_on_timeout(self, value: T, seconds: float) -> "Stage[T]":
-        """Sets a time limit, after which the stage gets a value unless it is settled.
+        """Sets a time limit, after which the stage gets a value unless it is settled. No thread waits meanwhile, so a
+        promise with such a limit is a pause: `request.promise().complete_on_timeout(None, 2).then(fn)`.
 
         Args:
             value: What the stage is settled with at that time.
@@ -260,7 +273,9 @@ class Stage(_Future[T]):
         return self.request._name_of(self.number)
 
     def named(self, name: str) -> "Stage[T]":
-        """Gives the stage a name, which histories use.
+        """Gives the stage a name, which histories, `repr` and the tasks of a `LoopService` use from now on.
+
+            price = request.supply(quote, "lamp").named("price")
 
         Returns:
             This stage itself."""
@@ -272,7 +287,8 @@ class Stage(_Future[T]):
 
     def __await__(self) -> Generator[Any, None, T]:
         """Awaits the stage on the running loop. If the awaiting task is cancelled, `cancel` is called on the stage: it
-        cancels this stage alone, and not while its function runs. What has a value or an exception is given at once."""
+        cancels this stage alone, and not while its function runs. `await asyncio.shield(stage)` gives up this wait alone.
+        A settled stage is given at once."""
         if not self.done():
             yield from self._wait_on(asyncio.get_running_loop())
             error = None if self.cancelled() else self.exception()

@@ -25,7 +25,7 @@ T = TypeVar("T")
 
 
 class Watch(Protocol):
-    """Who runs a service, and is told what is done to its stages."""
+    """Runs a service in place of threads and a clock, and is told what is done to its stages."""
 
     @property
     def busy(self) -> bool:

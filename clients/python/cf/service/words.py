@@ -24,8 +24,7 @@ REPLY_NUMBERS = 12
 
 MOST_STAGES, MOST_EDGES = 4096, 16384
 
-# The callers in a history; a service's threads have the numbers from FIRST_WORKER on. THIS_THREAD is whichever this
-# thread is.
+# The callers in a history (docs/FORMATS.md, "Callers"). THIS_THREAD is whichever this thread is.
 THIS_THREAD, CLIENT, CLOCK, RELAY, FIRST_WORKER, MOST_CALLERS = -1, 0, 1, 2, 3, 64
 
 FORMS = ("source", "supply", "runAsync", "apply", "accept", "thenRun", "combine", "acceptBoth", "runBoth",

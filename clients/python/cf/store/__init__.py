@@ -1,6 +1,20 @@
 """Requests that outlive a process, and that machines share: their rows of words stand in SQLite, PostgreSQL or etcd.
 
 Each process replays a row's words on the proved graph. A word is put where nothing stands yet, so all see one order.
+
+    service = DurableService(connect("sqlite:///orders.db"))
+
+    @service.function("charge", version=1)
+    def charge(order):
+        return {**order, "cents": 4900}
+
+    flow = Flow("order")                            # of cf.service
+    paid = flow.promise("order").then(charge).again()
+    request = service.start(flow, {"number": 17}, name="order 17")
+    print(request[paid].result())
+
+A `Worker`, or `python3 -m cf.worker`, works on all requests of a store; `python3 -m cf.requests` lists them and serves a
+page. docs/STORES.md leads through it.
 """
 from .codec import Abandoned, Json, RemoteError
 from .contexts import Carrier, Trace, Variables

@@ -6,7 +6,8 @@ from typing import Any, Dict, Type
 
 
 class Abandoned(RuntimeError):
-    """A worker began a stage and is gone: its function may have run, and nobody runs it again."""
+    """The process that ran a stage's function is gone. The function may have had its effect or not; nobody calls it
+    again."""
 
 
 class RemoteError(RuntimeError):
@@ -42,12 +43,21 @@ class Json:
                                                        "CancelledError": CancelledError}
 
     def add(self, kind: Type[BaseException]) -> Type[BaseException]:
-        """Lets exceptions of a class come back as such. It returns the class, so it can be used as a decorator."""
+        """Lets exceptions of a class come back as this class, and not as `RemoteError`. It returns the class, so that it
+        can be a decorator.
+
+            codec = Json()
+
+            @codec.add
+            class Declined(Exception): ...
+
+            service = DurableService(connect("sqlite:///orders.db"), codec=codec)    # or: cf.worker --codec MODULE:codec
+        """
         self._kinds[kind.__name__] = kind
         return kind
 
     def write(self, value: Any) -> bytes:
-        """The bytes of a value."""
+        """Writes a value as bytes."""
         text = json_of(value, separators=(",", ":"), ensure_ascii=False)
         try:
             return text.encode()
@@ -55,11 +65,11 @@ class Json:
             return json_of(value, separators=(",", ":")).encode()
 
     def read(self, given: bytes) -> Any:
-        """The value of some bytes."""
+        """Reads a value from bytes."""
         return json.loads(given.decode())
 
     def write_error(self, error: BaseException) -> bytes:
-        """The bytes of an exception."""
+        """Writes an exception as bytes."""
         if isinstance(error, RemoteError):
             return self.write({"error": error.kind, "text": error.text})
         try:
@@ -76,7 +86,7 @@ class Json:
             return self.write(said)
 
     def read_error(self, given: bytes) -> BaseException:
-        """The exception of some bytes."""
+        """Reads an exception from bytes."""
         said = self.read(given)
         kind = self._kinds.get(said["error"]) or getattr(builtins, said["error"], None)
         if isinstance(kind, type) and issubclass(kind, BaseException):

@@ -22,8 +22,12 @@ class Carrier(abc.ABC):
 
 
 class Variables(Carrier):
-    """Context variables, each by a name that all processes know: `Variables(tenant=TENANT)`. Their values have to be
-    what JSON has. One that isn't set goes without."""
+    """Context variables, each by a name that all processes know. Their values have to be what JSON has. One that isn't
+    set goes without.
+
+        TENANT = ContextVar("tenant")
+        service = DurableService(connect("sqlite:///orders.db"), contexts=[Variables(tenant=TENANT), Trace()])
+    """
 
     def __init__(self, **variables: "contextvars.ContextVar[Any]") -> None:
         self._variables = variables

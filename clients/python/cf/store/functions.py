@@ -21,7 +21,15 @@ class Known(NamedTuple):
 
 
 class Functions:
-    """The functions that a process knows."""
+    """The functions that a process knows, by name and version. A module of functions has one, which `python3 -m cf.worker`
+    looks for:
+
+        functions = Functions()
+
+        @functions.function("charge", version=1)
+        def charge(order):
+            return {**order, "cents": 4900}
+    """
 
     def __init__(self) -> None:
         self._known: Dict[Tuple[str, int], Known] = {}
@@ -32,11 +40,17 @@ class Functions:
     def function(self, name: str = "", version: int = 1, transactional: bool = False) -> Callable[[F], F]:
         """A decorator that registers a function, so that other processes know it by name and version.
 
+            @functions.function("pay", transactional=True)
+            def pay(connection, order):
+                connection.execute("insert into paid values (?, ?)", (order["number"], order["cents"]))
+                return order
+
         Args:
             name: By default the function's own name.
             version: A changed meaning is a new version. The old one stays registered as long as requests have it.
             transactional: Whether the function gets the store's connection first, and what it does with that stands
-                exactly where its finish does. SQLite and PostgreSQL have such transactions.
+                exactly where its finish does. SQLite and PostgreSQL have such transactions. The connection has `execute`,
+                `executemany` and `cursor`. The function must be short, and call neither the service nor `commit`.
 
         Raises:
             ValueError: Another function is registered by this name and version."""
@@ -50,12 +64,12 @@ class Functions:
         return named
 
     def add(self, other: "Functions") -> None:
-        """Takes all that another has. `ValueError` where a name and version are another function's here."""
+        """Takes all functions of another one. `ValueError` if a name and version are another function's here."""
         for known in other._known.values():
             self.function(known.name, known.version, known.is_transactional)(known.call)
 
     def of(self, call: Callable[..., Any]) -> Known:
-        """What a function is registered as; `TypeError` where it isn't."""
+        """What a function is registered as; `TypeError` if it isn't."""
         found = self._names.get(call)
         if found is None:
             name = getattr(call, "__qualname__", repr(call))

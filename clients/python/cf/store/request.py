@@ -5,7 +5,7 @@ The design of `cf.store`, which this file leads through:
 A request is a row of words in a store. Each process that works on it replays the words on a graph of its own, so all
 have the same. To change something is to put a word at the end of the row that one has seen. Of two that put at the same
 place, the store takes one; the other reads what stands there, and decides again. So the row is the one order of all
-that happened, and the proved library says what follows from it. docs/SCALE.md says what that asks of a store.
+that happened, and the proved library says what follows from it. docs/ENGINES.md says what that asks of a store.
 
 What is kept where
     - A `Store` (rows.py) has rows, payloads, timers and the beats of sessions. A payload is what a word's number stands
@@ -164,6 +164,12 @@ class DurableStage(_Future[T]):
     def compose(self, fn: "Callable[[DurableRequest, T], DurableStage[U]]") -> "DurableStage[U]":
         """Has a function attach stages to this request, and waits for one of them without holding a thread.
 
+            @service.function("ship")
+            def ship(request, order):
+                return request.supply(pack, order).then(send)
+
+            shipped = paid.compose(ship)
+
         Args:
             fn: A registered function. It is called with the request, as the process has it that runs the function, and
                 with the value. It attaches stages to the request and returns one of them.
@@ -240,8 +246,8 @@ class DurableStage(_Future[T]):
             raise InvalidStateError(f"{self._state}: {self!r}")
 
     def __await__(self) -> Generator[Any, None, T]:
-        """Awaits it on the running loop. Who gives that up, as by `asyncio.wait_for`, leaves the stage as it is: others
-        may wait for it, also in other processes. `cancel` cancels it."""
+        """Awaits the stage on the running loop. Giving up the wait, as by `asyncio.wait_for`, leaves the stage as it is:
+        others may wait for it, also in other processes. `cancel` cancels it."""
         if not self.done():
             yield from self._waited_for(asyncio.get_running_loop())
         if self.cancelled():
@@ -361,7 +367,7 @@ class DurableRequest:
     # Stages.
 
     def supply(self, fn: "Callable[P, T]", /, *args: "P.args", **kwargs: "P.kwargs") -> "DurableStage[T]":
-        """Has a registered function called by any process that works on the request.
+        """Calls a registered function, in any process that works on the request.
 
         Args:
             fn: The function. It is called with the other arguments, which have to be what JSON has.
@@ -371,7 +377,7 @@ class DurableRequest:
         return self._attach(Form.SUPPLY, (), fn, args, kwargs)
 
     def promise(self, name: str = "promise") -> "DurableStage[Any]":
-        """A stage without a function, which somebody settles, in any process."""
+        """A stage without a function, which somebody settles, in any process: `request["approval"].complete("yes")`."""
         return self._attach(Form.SOURCE, (), None, name=name)
 
     def all_of(self, *of: "DurableStage[Any]") -> "DurableStage[None]":

@@ -24,8 +24,7 @@ HEAD = 400  # characters of a plan, in which the flow's name stands
 
 
 class Unknown(ConnectionError):
-    """The engine didn't answer, or can't write now. What was asked may have been done or not. The same may be asked
-    again."""
+    """The store didn't answer, or can't write now. What was asked may have been done or not, and may be asked again."""
 
 
 class StoreError(RuntimeError):
@@ -33,7 +32,8 @@ class StoreError(RuntimeError):
 
 
 class Broken(StoreError):
-    """A row that can't be gone on with.
+    """A request can't go on: a word or a payload of its row is missing or can't be read, it was begun with another plan,
+    or it was dropped. Other requests go on.
 
     Attributes:
         request: The request's name.

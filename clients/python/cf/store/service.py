@@ -104,7 +104,7 @@ class DurableService(concurrent.futures.Executor):
     It works on the requests that were begun, opened or resumed here. A child of `fork` may not use it.
 
     Args:
-        store: What `connect` gave. `shutdown` closes it.
+        store: What `connect` returned. `shutdown` closes it.
         max_workers: How many threads run functions. By default 4 more than there are processors, and at most 32. With 0
             this process runs none.
         functions: Registered functions, beside those that `function` registers here.
@@ -224,7 +224,9 @@ class DurableService(concurrent.futures.Executor):
         return request
 
     def open(self, name: str) -> DurableRequest:
-        """A request that stands in the store.
+        """A request that stands in the store, whichever process began it.
+
+            service.open("order 17")["approval"].complete("yes")
 
         Raises:
             KeyError: There is none of this name.
@@ -235,7 +237,7 @@ class DurableService(concurrent.futures.Executor):
         return self._kept(self._made(found))
 
     def submit(self, fn: "Callable[P, T]", /, *args: "P.args", **kwargs: "P.kwargs") -> "DurableStage[T]":
-        """Has a registered function called. It is a request of one stage, which is closed once that is settled.
+        """Calls a registered function, in a request of one stage, which is closed once that is settled.
 
         Args:
             fn: The function. It is called with the other arguments, which have to be what JSON has.
@@ -259,7 +261,7 @@ class DurableService(concurrent.futures.Executor):
         return [request for request in resumed if request is not None]
 
     def running(self) -> List[Running]:
-        """The functions that run here now, those first that have run for longest."""
+        """The functions that run in this process now, the one that has run for longest first."""
         now = self._host.monotonic()
         return sorted((Running(name, stage, function, now - since)
                        for (name, stage), (function, since) in list(self._runs.items())), key=lambda it: -it.seconds)

@@ -1,5 +1,5 @@
 """What may become of a call of a store: it is answered; or no answer comes, and it stands, never comes there, or is on
-its way. That is what an engine may do (docs/SCALE.md), and no more."""
+its way. That is what an engine may do (docs/ENGINES.md), and no more."""
 from typing import NamedTuple, Sequence, Tuple
 
 

@@ -25,6 +25,15 @@ def orders(test: Test, *, most: int = 100_000, seconds: float = 10.0, row: Optio
            ends: Optional[Callable[[World], Hashable]] = None) -> Report:
     """Runs a test in every order, until one fails.
 
+        def checkout(world):
+            charges = []
+            price = world.service.request("order 17").adopt(world.arrives(4900, "price"))
+            world.check(lambda: len(charges) <= 1, "charged at most once")
+            return price.then(charges.append).or_timeout(2).recover(charges.append)
+
+        for failure in orders(checkout).failed:
+            print(failure)
+
     Args:
         test: Called with a `World`, once for each order, and each time to do the same. What it returns, a future or a
             list of futures, has to be settled in the end.
@@ -96,6 +105,10 @@ def _all(runner: Runner, report: Report, most: int, until: float, failures: int,
 def every_order(test: Optional[Callable[..., Any]] = None, **options: Any) -> Any:
     """Makes a test of pytest or unittest that is run in every order, and fails with the story of the first order
     that fails.
+
+        @every_order(whole=True)
+        def test_checkout(world):
+            ..
 
     Args:
         test: A function whose last parameter is a `World`. What stands before it, such as `self` or fixtures of

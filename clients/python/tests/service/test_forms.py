@@ -67,7 +67,7 @@ class Forms(Case):
         wrong.close()
 
     def test_what_the_page_says_can_be_done(self):
-        """The lines of README's table of what is there, and what isn't."""
+        """What the guide says to write for limits, several stages and further tries."""
         request, error = self.service.request(), Oops("x")
         last, left = request.promise(), request.promise()
         last.or_timeout(0.01).add_done_callback(lambda _: request.cancel())

@@ -1,5 +1,5 @@
 #!/usr/bin/env python3
-"""Does what the README says to write instead of what isn't there do what is wanted?
+"""Does what the guide says to write do what is wanted?
 
     CF_LIBRARY=/path/to/libcf.so python3 clients/python/tests/service/test_instead.py [-v] [TEST ..]
 """
@@ -8,7 +8,8 @@ import contextlib
 import threading
 import unittest
 
-from case import Case, fails, inc, Oops
+from case import Case, fails, inc, Oops, until
+from cf.service import Service
 
 
 class Instead(Case):
@@ -65,14 +66,41 @@ class Instead(Case):
         self.assertEqual(self.request.promise().complete_on_timeout(1, 0.01).then(inc).result(20), 2)
 
     def test_a_further_try(self):
-        tries = iter([fails, fails, lambda: 7])
+        """The function of the guide, which ends well with the last try, or raises what that raised."""
+        def tried(request, call, tries=3, pause=0.01):
+            stage = request.supply(call)
+            if tries == 1:
+                return stage
+            return stage.recover_compose(lambda error: request.promise("pause").complete_on_timeout(None, pause).compose(
+                lambda _: tried(request, call, tries - 1, 2 * pause)))
 
-        def call():
-            return self.request.supply(lambda: next(tries)())
+        calls = iter([fails, fails, lambda: 7, fails, fails, fails, lambda: 8])
+        self.assertEqual(tried(self.request, lambda: next(calls)()).result(20), 7)
+        self.assertIsInstance(tried(self.request, lambda: next(calls)()).exception(20), Oops)
+        self.assertEqual(next(calls)(), 8)
 
-        def again(_error):
-            return self.request.promise().complete_on_timeout(None, 0.01).compose(lambda _: call())
-        self.assertEqual(call().recover_compose(again).recover_compose(again).result(20), 7)
+    def test_what_is_open(self):
+        opened = {}
+        with Service(on_end=lambda history: opened.pop(history.name, None)) as service:
+            for name in ("order 17", "order 18"):
+                opened[name] = service.request(name)
+                opened[name].promise("approval")
+                opened[name].end()
+            opened["order 17"].cancel()
+            self.assertTrue(until(lambda: len(opened) == 1))
+            self.assertTrue(opened["order 18"].history().line().endswith("; 1 open: 0 approval"))
+        self.assertEqual(opened, {})
+
+    def test_a_function_that_looks_whether_it_is_wanted(self):
+        begun, stop = threading.Event(), threading.Event()
+
+        def work():
+            begun.set()
+            return stop.wait(20)
+        stage = self.request.supply(work)
+        stage.add_done_callback(lambda _: stop.set())
+        self.assertTrue(begun.wait(20))
+        self.assertEqual((stage.cancel(), stage.abandon(), stop.is_set()), (False, True, True))
 
     def test_a_request_within_a_request(self):
         inner = self.service.request("inner")

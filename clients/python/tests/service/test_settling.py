@@ -45,6 +45,17 @@ class Settling(Case):
         self.service.shutdown()
         self.assertIn("too late", str(self.request.history()))
 
+    def test_a_request_is_cancelled_from_its_last_stage_on(self):
+        """No function that takes exceptions is called because of what the request's cancelling does."""
+        called = threading.Event()
+        first = self.request.promise("first")
+        first.handle(lambda value, error: called.set()).named("handled")
+        first.add_done_callback(lambda _: called.wait(0.5))  # as long as a thread of the service takes to call it
+        self.request.cancel()
+        self.service.shutdown()
+        self.assertFalse(called.is_set())
+        self.assertEqual([line.split(" ends: ")[0].split()[-1] for line in self.request.history().lines() if " ends: " in line], ["handled", "first"])
+
     def test_one_settles_in_every_order(self):
         """A function, a limit and three callers: the first settles the stage, and `cancel` does nothing while the
         function runs."""

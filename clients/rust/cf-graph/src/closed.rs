@@ -10,12 +10,35 @@ use cf_sys as sys;
 #[derive(Clone, Copy, PartialEq, Eq, Debug)]
 #[non_exhaustive]
 pub enum Record {
-    /// A changing call, which is the event at its place, and its reply.
-    Did { place: u32, event: Event, reply: Reply },
-    /// A read or a join, which saw so many events.
-    Saw { place: u32, stage: u16, outcome: Option<Outcome> },
-    /// A read of what the stage gives at present, `absent` where it isn't settled.
-    SawNow { place: u32, stage: u16, absent: Value, now: Now },
+    /// A changing call.
+    Did {
+        /// The place of its event in the history, from 1 on.
+        place: u32,
+        /// The event.
+        event: Event,
+        /// What it was answered.
+        reply: Reply,
+    },
+    /// A read or a join.
+    Saw {
+        /// How many events it saw.
+        place: u32,
+        /// The stage that it asked about.
+        stage: u16,
+        /// What that had ended in.
+        outcome: Option<Outcome>,
+    },
+    /// A read of what a stage gives at present.
+    SawNow {
+        /// How many events it saw.
+        place: u32,
+        /// The stage that it asked about.
+        stage: u16,
+        /// What was to be told if the stage wasn't settled.
+        absent: Value,
+        /// What it was told.
+        now: Now,
+    },
 }
 
 /// A desk that all its callers were given back to.

@@ -76,8 +76,11 @@ impl Desk {
 
 /// A desk that wasn't closed, and the callers that were handed in.
 pub struct NotClosed {
+    /// Why not.
     pub why: Refused,
+    /// The desk.
     pub desk: Desk,
+    /// The callers that were given to it.
     pub callers: Vec<Caller>,
 }
 

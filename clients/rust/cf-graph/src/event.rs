@@ -7,8 +7,11 @@ use cf_sys as sys;
 /// The sources of a stage that is attached.
 #[derive(Clone, Copy, PartialEq, Eq, Debug)]
 pub enum Of {
+    /// It has none.
     None,
+    /// The number of its source.
     One(u16),
+    /// The numbers of both.
     Two(u16, u16),
 }
 
@@ -16,20 +19,30 @@ pub enum Of {
 #[derive(Clone, Copy, PartialEq, Eq, Debug)]
 #[non_exhaustive]
 pub enum Call {
+    /// Settles a stage with a value, unless it is settled.
     Complete(u16, Value),
+    /// Settles a stage with the code of an exception, unless it is settled.
     Fail(u16, u32),
+    /// Lets a stage time out or have a bad answer, unless it is settled.
     FailAs(u16, Failure),
+    /// Cancels a stage, unless it is settled.
     Cancel(u16),
+    /// Takes the right to call the function of a ready stage.
     Claim(u16),
+    /// Gives what the function of a claimed stage answered.
     Finish(u16, Answer),
+    /// Hands in the moment, in the unit of the plan's limits.
     Tick(u32),
+    /// Adds a stage: its form, its sources, and the number of its function where the form has one.
     Attach(Form, Of, Option<u16>),
 }
 
 /// A changing call of a caller, 0 to 63 where it has a word.
 #[derive(Clone, Copy, PartialEq, Eq, Debug)]
 pub struct Event {
+    /// The caller.
     pub who: u8,
+    /// What it did.
     pub call: Call,
 }
 

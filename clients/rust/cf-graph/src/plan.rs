@@ -11,24 +11,43 @@ use cf_sys as sys;
 #[repr(u32)]
 #[non_exhaustive]
 pub enum Form {
+    /// A stage without a function, which somebody settles. No source.
     Source,
+    /// `supplyAsync`: its function gives a value. No source.
     Supply,
+    /// `runAsync`: its function gives nothing. No source.
     RunAsync,
+    /// `thenApply`: what the function gives of the value. One source.
     Apply,
+    /// `thenAccept`: the function takes the value and gives nothing. One source.
     Accept,
+    /// `thenRun`: the function takes and gives nothing. One source.
     ThenRun,
+    /// `thenCombine`: what the function gives of both values. Two sources.
     Combine,
+    /// `thenAcceptBoth`: the function takes both values and gives nothing. Two sources.
     AcceptBoth,
+    /// `runAfterBoth`: the function takes and gives nothing. Two sources.
     RunBoth,
+    /// `applyToEither`: what the function gives of the value that is there first. Two sources.
     ApplyEither,
+    /// `acceptEither`: the function takes the value that is there first and gives nothing. Two sources.
     AcceptEither,
+    /// `runAfterEither`: the function takes and gives nothing, once one has a value. Two sources.
     RunEither,
+    /// `thenCompose`: ends as the stage that the function names. One source.
     Compose,
+    /// `handle`: what the function gives of the value or the fault. One source.
     Handle,
+    /// `whenComplete`: ends as its source, once the function was called with that. One source.
     WhenComplete,
+    /// `exceptionally`: the value, or what the function gives of the fault. One source.
     Exceptionally,
+    /// `allOf`: nil once all have values, else the first fault by order, once all are settled. Any number of sources, no function.
     AllOf,
+    /// `anyOf`: what the first has that is settled. Any number of sources, no function.
     AnyOf,
+    /// `exceptionallyCompose`: the value, or what the stage ends in that the function names for the fault. One source.
     ExceptionallyCompose,
 }
 
@@ -63,7 +82,9 @@ pub(crate) fn form_out(number: u32) -> Form {
 #[derive(Clone, Copy, PartialEq, Eq, Debug)]
 #[non_exhaustive]
 pub enum Limit {
+    /// It times out.
     Timeout,
+    /// It gets this value.
     Give(Value),
 }
 

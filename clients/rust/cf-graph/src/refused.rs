@@ -52,41 +52,76 @@ const WORDS: [&str; 39] = [
 ];
 
 impl Refused {
+    /// The plan has 4,096 stages already.
     pub const TOO_MANY_STAGES: Refused = Refused(1);
+    /// A source isn't below the new stage's number.
     pub const SOURCE_NOT_LOWER: Refused = Refused(2);
+    /// The number of sources isn't the form's.
     pub const WRONG_SOURCE_COUNT: Refused = Refused(3);
+    /// The form has a function and none is given.
     pub const FUNCTION_MISSING: Refused = Refused(4);
+    /// The form has no function and one is given.
     pub const FUNCTION_UNWANTED: Refused = Refused(5);
+    /// There would be too many mentions of sources.
     pub const TOO_MANY_EDGES: Refused = Refused(6);
+    /// A limit names a stage that isn't in the plan yet.
     pub const NO_SUCH_STAGE: Refused = Refused(7);
+    /// Memory was refused.
     pub const NO_MEMORY: Refused = Refused(8);
+    /// The plan has 4,096 limits already.
     pub const TOO_MANY_LIMITS: Refused = Refused(9);
+    /// No form, no call of an event and no code has this number.
     pub const NO_SUCH_NUMBER: Refused = Refused(13);
+    /// A stage that the call names isn't there.
     pub const NO_STAGE: Refused = Refused(14);
+    /// An attached stage doesn't fit its form.
     pub const BAD_ATTACH: Refused = Refused(15);
+    /// There would be too many stages or edges with the room.
     pub const ROOM: Refused = Refused(16);
     pub(crate) const NOTHING: Refused = Refused(17);
+    /// A desk is to have no caller, or more than 64.
     pub const CALLERS: Refused = Refused(18);
+    /// A desk's log is to hold nothing.
     pub const LOG: Refused = Refused(19);
+    /// A desk's callers are to hold no record.
     pub const CALLS: Refused = Refused(20);
+    /// A function of the plan isn't below the number of functions.
     pub const FUNCTIONS: Refused = Refused(21);
+    /// The caller holds as many records as it may.
     pub const PASS_FULL: Refused = Refused(22);
+    /// The desk's log is full.
     pub const LOG_FULL: Refused = Refused(23);
+    /// The two callers aren't of one desk.
     pub const OTHER_DESK: Refused = Refused(24);
+    /// Callers of the desk weren't given back.
     pub const NOT_ALL: Refused = Refused(25);
+    /// The word is no event's, or the event has no word.
     pub const NO_WORD: Refused = Refused(26);
+    /// The script has a fault.
     pub const BAD_SCRIPT: Refused = Refused(27);
+    /// The desk is held all the same.
     pub const STILL_SHARED: Refused = Refused(28);
+    /// The caller hasn't claimed the stage.
     pub const NOT_HELD: Refused = Refused(29);
+    /// There is no room for the stage.
     pub const NO_ROOM: Refused = Refused(30);
+    /// Another caller claimed or settled the stage first.
     pub const LOST: Refused = Refused(31);
+    /// The sweep hasn't all stages behind it.
     pub const NOT_OVER: Refused = Refused(32);
+    /// A request has 1 to 16 lanes, and one for each stage of its plan.
     pub const LANES: Refused = Refused(33);
+    /// There is no such lane.
     pub const NO_LANE: Refused = Refused(34);
+    /// The moment is before the last one.
     pub const PAST_MOMENT: Refused = Refused(35);
+    /// A text ends before it begins or behind its bytes, or isn't UTF-8.
     pub const BAD_TEXT: Refused = Refused(36);
+    /// There are more texts or times than there can be.
     pub const TOO_MANY: Refused = Refused(37);
+    /// A put is under way.
     pub const UNDER_WAY: Refused = Refused(38);
+    /// A session has no such number, or too few tokens left.
     pub const NO_TOKENS: Refused = Refused(39);
     /// No code of the library: what is linked isn't the library that this crate was written for.
     pub const OTHER_LIBRARY: Refused = Refused(256);

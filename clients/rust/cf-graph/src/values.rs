@@ -4,7 +4,9 @@ use cf_sys as sys;
 /// Nothing, which is Java's null, or a number.
 #[derive(Clone, Copy, PartialEq, Eq, Debug)]
 pub enum Value {
+    /// Nothing.
     Nil,
+    /// A number, mostly the place of a value in a list of yours.
     Int(i32),
 }
 
@@ -12,9 +14,13 @@ pub enum Value {
 #[derive(Clone, Copy, PartialEq, Eq, Debug)]
 #[non_exhaustive]
 pub enum Cause {
+    /// Its function threw an exception of this code, or a caller failed it with the code.
     Thrown(u32),
+    /// It was cancelled.
     Cancelled,
+    /// A limit came, or a caller failed it so.
     TimedOut,
+    /// Its function answered what its form can't take.
     BadAnswer,
 }
 
@@ -31,24 +37,38 @@ pub enum Failure {
 /// What a stage is settled with. `wrapped`: the cause stands inside a `CompletionException`.
 #[derive(Clone, Copy, PartialEq, Eq, Debug)]
 pub enum Outcome {
+    /// A value.
     Value(Value),
-    Fault { cause: Cause, wrapped: bool },
+    /// No value.
+    Fault {
+        /// Why.
+        cause: Cause,
+        /// Whether the cause came from another stage, as Java has it inside a `CompletionException`.
+        wrapped: bool,
+    },
 }
 
 /// What a stage's function is called with.
 #[derive(Clone, Copy, PartialEq, Eq, Debug)]
 pub enum Args {
+    /// Nothing, as a `Supply`.
     None,
+    /// The value of a source, as an `Apply`.
     One(Value),
+    /// The values of both sources, as a `Combine`.
     Two(Value, Value),
+    /// The outcome of the source: any of a `Handle` or a `WhenComplete`, a fault of an `Exceptionally`.
     Got(Outcome),
 }
 
-/// What a stage's function answers. `Link`: of a composing form, the stage that it takes its outcome from.
+/// What a stage's function answers.
 #[derive(Clone, Copy, PartialEq, Eq, Debug)]
 pub enum Answer {
+    /// A value. Forms that give none, such as `Accept`, end as nil; a `WhenComplete` ends as its source.
     Give(Value),
+    /// An exception of this code. A `WhenComplete` whose source has a fault ends as that.
     Throw(u32),
+    /// Of a composing form: it ends as this stage does, which has a lower number.
     Link(u16),
 }
 
@@ -56,34 +76,49 @@ pub enum Answer {
 #[derive(Clone, Copy, PartialEq, Eq, Debug)]
 #[non_exhaustive]
 pub enum Now {
+    /// It isn't settled, and this was handed in for that case.
     Absent(Value),
+    /// Its value.
     Value(Value),
+    /// Its fault, as Java tells it by a `CompletionException`.
     Completion(Cause),
+    /// It was itself cancelled, for which Java throws a `CancellationException`.
     Cancellation,
 }
 
+/// How a claim went.
 #[derive(Clone, Copy, PartialEq, Eq, Debug)]
 #[non_exhaustive]
 pub enum Claimed {
+    /// The caller has it now, and calls its function with these.
     Granted(Args),
+    /// The stage is settled already.
     Settled,
+    /// Somebody has claimed it, or it waits for the stage that its function named.
     Taken,
+    /// It isn't ready yet.
     NotReady,
 }
 
+/// How a finish went.
 #[derive(Clone, Copy, PartialEq, Eq, Debug)]
 #[non_exhaustive]
 pub enum Finished {
+    /// The answer was taken.
     Won,
+    /// The stage was settled since its claim, and the answer is dropped.
     Late,
+    /// This caller has no open claim of the stage.
     NotYours,
 }
 
-/// How many limits settled their stage, or that a later moment was handed in before.
+/// How a tick went.
 #[derive(Clone, Copy, PartialEq, Eq, Debug)]
 #[non_exhaustive]
 pub enum Ticked {
+    /// It is this moment now, and so many limits settled their stage.
     Fired(u32),
+    /// A later moment was handed in before. Nothing has changed.
     Past,
 }
 
@@ -91,10 +126,13 @@ pub enum Ticked {
 #[derive(Clone, Copy, PartialEq, Eq, Debug)]
 #[non_exhaustive]
 pub enum Reply {
-    /// Of complete, fail, fail as and cancel.
+    /// Of complete, fail and fail as: whether it settled the stage. Of cancel: whether the stage is cancelled now.
     Flag(bool),
+    /// Of a claim.
     Claimed(Claimed),
+    /// Of a finish.
     Finished(Finished),
+    /// Of a tick.
     Ticked(Ticked),
     /// The number of the new stage, or None where no room was left.
     Attached(Option<u16>),

@@ -1,7 +1,7 @@
-//! An order that outlives its process: what happened stands in a file, and any process goes on with it. Run it twice: the second time nothing is
-//! called again.
-use cf_store::{Functions, SQLite, Service};
+//! An order that outlives its process. With the word `die` the process is killed in the midst of the charge; the next one goes on.
+use cf_store::{Flow, Functions, Options, SQLite, Service};
 use serde_json::{json, Value};
+use std::{env, process, time::Duration};
 
 fn reserve(mut order: Value) -> Result<Value, String> {
     println!("reserve is called");
@@ -11,24 +11,25 @@ fn reserve(mut order: Value) -> Result<Value, String> {
 
 fn charge(mut order: Value) -> Result<Value, String> {
     println!("charge is called");
+    if env::args().any(|word| word == "die") {
+        process::abort();
+    }
     order["cents"] = json!(4900);
     Ok(order)
 }
 
 fn main() -> Result<(), Box<dyn std::error::Error>> {
-    let file = std::env::args().nth(1).unwrap_or_else(|| "orders.db".into());
+    let mut flow = Flow::new("order");
+    let order = flow.promise("order");
+    let reserved = flow.then(order, "reserve");
+    let charged = flow.then(reserved, "charge");
+    let paid = flow.again(charged, 1); // a further try, if the process of the first one dies
+
     let functions = Functions::new().with("reserve", 1, reserve).with("charge", 1, charge);
-    let service = Service::new(SQLite::open(file)?, functions)?;
-    let request = service.request("order 17")?;
-    let paid = match request.named("charge")? {
-        Some(paid) => paid,
-        None => {
-            let order = request.promise("order")?;
-            let paid = order.then("reserve")?.then("charge")?;
-            order.complete(&json!({"number": 17}))?;
-            paid
-        }
-    };
-    println!("{}", paid.wait::<Value>()?);
+    let mut options = Options::default();
+    options.lease = Duration::from_secs(2); // a process that is silent for so long counts as dead
+    let service = Service::with(SQLite::open(env::args().nth(1).unwrap())?, functions, options)?;
+    let request = service.start(&flow, "order 17", &[json!({"number": 17})])?;
+    println!("{}", request.step(paid).unwrap().wait::<Value>()?);
     Ok(())
 }

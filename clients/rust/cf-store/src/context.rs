@@ -13,6 +13,29 @@ pub fn context() -> Map<String, Value> {
 }
 
 /// Has this go along, and nothing else, while `act` runs on this thread.
+///
+/// ```
+/// # #[cfg(feature = "sqlite")]
+/// # fn main() -> Result<(), Box<dyn std::error::Error>> {
+/// # let folder = std::env::temp_dir().join(format!("cf-store-within-{}", std::process::id()));
+/// # std::fs::create_dir_all(&folder)?;
+/// # let path = folder.join("orders.db");
+/// use cf_store::{context, within, Functions, SQLite, Service};
+/// use serde_json::{json, Value};
+///
+/// let who = || Ok::<Value, String>(context()["tenant"].clone());
+/// let service = Service::new(SQLite::open(path)?, Functions::new().with("who", 1, who))?;
+/// let request = service.request("order 17")?;
+/// let tenant = json!({"tenant": "ada"}).as_object().cloned().unwrap();
+/// let stage = within(tenant, || request.supply("who", &[]))?;
+/// assert_eq!(stage.wait::<String>()?, "ada");
+/// # drop(service);
+/// # std::fs::remove_dir_all(folder)?;
+/// # Ok(())
+/// # }
+/// # #[cfg(not(feature = "sqlite"))]
+/// # fn main() {}
+/// ```
 pub fn within<T>(context: Map<String, Value>, act: impl FnOnce() -> T) -> T {
     struct Before(Map<String, Value>);
     impl Drop for Before {

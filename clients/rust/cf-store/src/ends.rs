@@ -19,6 +19,31 @@ use std::time::Duration;
 /// [`context`](crate::context()) in which a flow's request was begun. That thread reads the history from the store. So the function delays no
 /// request, and if it panics, that ends neither the thread nor a request. While 2,048 requests wait for it, further ones aren't told; a line on
 /// standard error says so.
+///
+/// ```
+/// # #[cfg(feature = "sqlite")]
+/// # fn main() -> Result<(), Box<dyn std::error::Error>> {
+/// # let folder = std::env::temp_dir().join(format!("cf-store-ends-{}", std::process::id()));
+/// # std::fs::create_dir_all(&folder)?;
+/// # let path = folder.join("orders.db");
+/// use cf_store::{Ends, Functions, Options, SQLite, Service};
+/// use std::time::Duration;
+///
+/// let ends = Ends::new(|history| println!("{}", history.line().unwrap_or_else(|error| error.to_string())));
+/// let mut options = Options::default();
+/// options.on_end = Some(ends.clone());
+/// let service = Service::with(SQLite::open(path)?, Functions::new(), options)?;
+/// let request = service.request("order 17")?;
+/// request.promise("price")?.complete(&4900)?;
+/// request.end()?;
+/// assert!(ends.flush(Duration::from_secs(60)));
+/// # drop(service);
+/// # std::fs::remove_dir_all(folder)?;
+/// # Ok(())
+/// # }
+/// # #[cfg(not(feature = "sqlite"))]
+/// # fn main() {}
+/// ```
 #[derive(Clone, Debug)]
 pub struct Ends(Aside<Closed>);
 

@@ -31,6 +31,45 @@ pub(crate) struct Known {
 }
 
 /// The functions that a process knows. One that it doesn't know waits for a process that does.
+///
+/// ```
+/// # #[cfg(feature = "sqlite")]
+/// # fn main() -> Result<(), Box<dyn std::error::Error>> {
+/// # let folder = std::env::temp_dir().join(format!("cf-store-functions-{}", std::process::id()));
+/// # std::fs::create_dir_all(&folder)?;
+/// # let path = folder.join("orders.db");
+/// use cf_store::{Failed, Functions, Request, SQLite, Service};
+/// use serde_json::{json, Map};
+///
+/// let charge = |cents: u32, currency: String| match cents {
+///     0 => Err("nothing to charge"),
+///     _ => Ok(format!("{cents} {currency}")),
+/// };
+/// let write = |db: &mut rusqlite::Connection, name: String| db.execute("insert into paid values (?)", [&name]);
+/// let split = |request: &Request, cents: u32| request.supply("charge", &[json!(cents / 2), json!("EUR")]);
+/// let functions = Functions::new()
+///     .with("charge", 1, charge)
+///     .parameters("charge", 1, &["cents", "currency"])
+///     .transactional("write", 1, write)
+///     .composing("split", 1, split);
+///
+/// rusqlite::Connection::open(&path)?.execute("create table paid (name text)", [])?;
+/// let service = Service::new(SQLite::open(path)?, functions)?;
+/// let request = service.request("order 17")?;
+/// let named = json!({"currency": "EUR"}).as_object().cloned().unwrap();
+/// assert_eq!(request.supply_named("charge", &[json!(4900)], &named)?.wait::<String>()?, "4900 EUR");
+/// assert_eq!(request.supply("write", &[json!("Ada")])?.wait::<u32>()?, 1);
+/// let cents = request.promise("cents")?;
+/// let half = cents.compose("split")?;
+/// cents.complete(&4900)?;
+/// assert_eq!(half.wait::<String>()?, "2450 EUR");
+/// # drop(service);
+/// # std::fs::remove_dir_all(folder)?;
+/// # Ok(())
+/// # }
+/// # #[cfg(not(feature = "sqlite"))]
+/// # fn main() {}
+/// ```
 #[derive(Clone, Default)]
 pub struct Functions(BTreeMap<(String, u32), Known>);
 

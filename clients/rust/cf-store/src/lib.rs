@@ -6,25 +6,23 @@
 //! `cf.store` has the same rows: a request that it opened is gone on with here, and the other way round. Functions are known by name and
 //! version, and values are JSON.
 //!
-//! | File | What it has |
+//! # Calls
+//!
+//! | | |
 //! |---|---|
-//! | `store.rs` | what a store is asked: [`Store`] |
-//! | `sqlite.rs` | a file of SQLite's: `SQLite` |
-//! | `postgres.rs` | a database of PostgreSQL's: `Postgres` |
-//! | `etcd.rs`, `http.rs` | a cluster of etcd's: `Etcd`; and how its gateway is asked |
-//! | `plan.rs` | the text of a request's plan |
-//! | `flow.rs` | plans that are begun again and again: [`Flow`] |
-//! | `functions.rs` | functions by name and version: [`Functions`] |
-//! | `context.rs` | what goes along with functions: [`context`], [`within`] |
-//! | `history.rs` | what happened to a request, as texts: [`History`] |
-//! | `ends.rs` | who is told of requests that were closed: [`Ends`] |
-//! | `view.rs` | what this session knows of one row, and how it puts words there |
-//! | `request.rs` | what a program has of a request: [`Request`], [`Stage`] |
-//! | `host.rs` | time, threads and chance, in whose place a search of all orders has its own |
-//! | `sessions.rs` | which sessions are there |
-//! | `service.rs` | the threads that run functions, and the pump, which looks what is new: [`Service`] |
-//! | `testing` | a service's own code in every order, over rows in memory that processes share |
-//! | `error.rs` | how a stage ends without a value, and what a store refuses: [`Error`], [`StoreError`] |
+//! | functions | [`Functions::with`], [`composing`](Functions::composing), [`transactional`](Functions::transactional), [`parameters`](Functions::parameters) |
+//! | a service | [`Service::new`], [`with`](Service::with) and [`Options`] |
+//! | a request | [`request`](Service::request) opens it or goes on with it, [`start`](Service::start) by a [`Flow`]; [`open`](Service::open) finds one, [`resume`](Service::resume) all that are open; [`end`](Request::end) closes it |
+//! | its first stages | [`supply`](Request::supply), [`supply_named`](Request::supply_named), [`promise`](Request::promise), [`all_of`](Request::all_of), [`first_of`](Request::first_of), [`gather`](Request::gather) |
+//! | attach a stage behind one | [`then`](Stage::then), [`combine`](Stage::combine), [`either`](Stage::either), [`handle`](Stage::handle), [`when_done`](Stage::when_done), [`recover`](Stage::recover), [`compose`](Stage::compose), [`again`](Stage::again) |
+//! | find one | [`named`](Request::named), [`stage`](Request::stage), [`step`](Request::step) |
+//! | settle it, unless it is settled | [`complete`](Stage::complete), [`fail`](Stage::fail), [`cancel`](Stage::cancel), [`abandon`](Stage::abandon); by a timer [`or_timeout`](Stage::or_timeout), [`complete_on_timeout`](Stage::complete_on_timeout) |
+//! | what it ended with | [`wait`](Stage::wait), [`wait_timeout`](Stage::wait_timeout), [`peek`](Stage::peek) |
+//! | what happened | [`history`](Request::history), [`history_by`](Request::history_by), [`Options::on_end`] |
+//! | what goes along | [`within`], [`context`](context()) |
+//!
+//! Each call that changes something is in the store when it returns. It asks the store, so it holds its thread: in a task of tokio call it by
+//! `spawn_blocking`. docs/STORES.md says what holds of requests in all languages.
 //!
 //! ```no_run
 //! # #[cfg(feature = "sqlite")]
@@ -51,7 +49,8 @@
 //! ```
 #![cfg(feature = "json")]
 #![forbid(unsafe_code)]
-#![warn(missing_docs, missing_debug_implementations, unreachable_pub, rust_2018_idioms)]
+#![deny(missing_docs)]
+#![warn(missing_debug_implementations, unreachable_pub, rust_2018_idioms)]
 #[cfg(all(test, feature = "testing"))]
 mod by_hand;
 mod context;
@@ -93,4 +92,4 @@ pub use request::{Request, Stage};
 pub use service::{Options, Service};
 #[cfg(feature = "sqlite")]
 pub use sqlite::SQLite;
-pub use store::{Mark, Opened, Put, Store, Timer, Transaction};
+pub use store::{Mark, News, Opened, Put, Store, Timer, Transaction};

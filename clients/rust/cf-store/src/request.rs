@@ -15,7 +15,7 @@ use serde_json::{json, Map, Value as Json};
 use std::cell::{Cell, RefCell};
 use std::collections::{BTreeMap, BTreeSet};
 use std::fmt;
-use std::sync::atomic::{AtomicBool, AtomicUsize, Ordering};
+use std::sync::atomic::{AtomicBool, AtomicU64, AtomicUsize, Ordering};
 use std::sync::{Arc, Condvar, Mutex, MutexGuard, PoisonError, TryLockError};
 use std::thread;
 use std::time::{Duration, Instant};
@@ -83,10 +83,10 @@ pub(crate) struct Inner {
     pub(crate) told: AtomicUsize,
     /// Whether a thread is to look what is to do.
     pub(crate) is_queued: AtomicBool,
-    /// Whether it is closed in the store, as far as is known.
-    pub(crate) is_closed: AtomicBool,
-    /// Whether that has yet to be taken back.
-    pub(crate) reopens: AtomicBool,
+    /// The number of the last time that the service was asked to go on with it.
+    pub(crate) kept: AtomicU64,
+    /// Whether it is being let go.
+    pub(crate) is_leaving: AtomicBool,
     /// Why it can't be gone on with.
     fault: Mutex<Option<StoreError>>,
     /// The stages that somebody was given.
@@ -109,8 +109,8 @@ impl Inner {
             changed: Condvar::new(),
             reads: Mutex::default(),
             is_queued: AtomicBool::new(false),
-            is_closed: AtomicBool::new(false),
-            reopens: AtomicBool::new(false),
+            kept: AtomicU64::new(0),
+            is_leaving: AtomicBool::new(false),
             fault: Mutex::new(None),
             #[cfg(feature = "testing")]
             given: Mutex::default(),
@@ -209,13 +209,18 @@ impl Inner {
 
     /// Puts words: what they did, which is nothing where none was wanted.
     pub(crate) fn act(&self, decide: impl FnMut(&mut View) -> Result<Vec<Wanted>, StoreError>) -> Result<Vec<Done>, StoreError> {
+        self.acts(false, decide)
+    }
+
+    /// The same, with which the request is open, also where it was closed.
+    fn acts(&self, opens: bool, decide: impl FnMut(&mut View) -> Result<Vec<Wanted>, StoreError>) -> Result<Vec<Done>, StoreError> {
         if TRANSACTS.with(Cell::get) == self as *const Inner as usize {
             let why = "its transactional function can't put to it: that takes the place of its finish";
             return Err(StoreError::Refused(format!("request {:?}: {why}", self.name)));
         }
         let _writes = self.writing();
         let mut view = self.view();
-        let told = view.act(decide);
+        let told = view.act(opens, decide);
         self.show(view);
         told.map(|(done, _)| done)
     }
@@ -340,6 +345,32 @@ impl Request {
     }
 
     /// The first stage of a name, if there is one.
+    ///
+    /// ```
+    /// # #[cfg(feature = "sqlite")]
+    /// # fn main() -> Result<(), Box<dyn std::error::Error>> {
+    /// # let folder = std::env::temp_dir().join(format!("cf-store-named-{}", std::process::id()));
+    /// # std::fs::create_dir_all(&folder)?;
+    /// # let path = folder.join("orders.db");
+    /// use cf_store::{Functions, SQLite, Service};
+    ///
+    /// let service = Service::new(SQLite::open(&path)?, Functions::new())?;
+    /// let approved = service.request("order 17")?.promise("approved")?;
+    ///
+    /// // In another process:
+    /// let other = Service::new(SQLite::open(&path)?, Functions::new())?;
+    /// let found = other.open("order 17")?.named("approved")?.expect("the request has this promise");
+    /// assert!(found.complete("Ada")?);
+    ///
+    /// assert_eq!(approved.wait::<String>()?, "Ada");
+    /// # drop(other);
+    /// # drop(service);
+    /// # std::fs::remove_dir_all(folder)?;
+    /// # Ok(())
+    /// # }
+    /// # #[cfg(not(feature = "sqlite"))]
+    /// # fn main() {}
+    /// ```
     pub fn named(&self, name: &str) -> Result<Option<Stage>, StoreError> {
         self.inner.catch_up()?;
         let mut view = self.inner.view();
@@ -362,6 +393,30 @@ impl Request {
     }
 
     /// The same, of which `tells` says what is told of a value or an error: less than all, where a history is to hold no secrets.
+    ///
+    /// ```
+    /// # #[cfg(feature = "sqlite")]
+    /// # fn main() -> Result<(), Box<dyn std::error::Error>> {
+    /// # let folder = std::env::temp_dir().join(format!("cf-store-history-{}", std::process::id()));
+    /// # std::fs::create_dir_all(&folder)?;
+    /// # let path = folder.join("orders.db");
+    /// use cf_store::{Functions, SQLite, Service, What};
+    ///
+    /// let service = Service::new(SQLite::open(path)?, Functions::new())?;
+    /// let request = service.request("login 3")?;
+    /// request.promise("token")?.complete("Bearer eyJhbGciOi")?;
+    /// let history = request.history_by(|what| match what {
+    ///     What::Error(failed) => failed.kind.clone(),
+    ///     _ => "a value".into(),
+    /// })?;
+    /// assert!(history.lines()?.contains("token ends: a value"));
+    /// # drop(service);
+    /// # std::fs::remove_dir_all(folder)?;
+    /// # Ok(())
+    /// # }
+    /// # #[cfg(not(feature = "sqlite"))]
+    /// # fn main() {}
+    /// ```
     pub fn history_by(&self, tells: impl Fn(What<'_>) -> String) -> Result<History, StoreError> {
         let opened = self.inner.view().opened.clone();
         History::new(&*self.service.store, &*self.service.host, opened, tells)
@@ -375,7 +430,6 @@ impl Request {
         if self.service.sure(|| self.service.store.end(&self.inner.name, self.inner.number, seen))? {
             self.service.tell_end(&self.inner);
         }
-        self.inner.is_closed.store(true, Ordering::Relaxed);
         Ok(())
     }
 
@@ -406,7 +460,7 @@ impl Request {
     }
 
     /// Puts words that attach stages, the last of which is of this form, and gives that; or the one that an earlier try of the function has attached
-    /// that runs on this thread.
+    /// that runs on this thread. A request that is closed in the store is opened again with that.
     fn attached(
         &self,
         form: Form,
@@ -429,16 +483,11 @@ impl Request {
             }
             words(view, &said)
         };
-        let may_be_closed = self.inner.view().is_planned() || self.inner.is_closed.load(Ordering::Relaxed);
-        if may_be_closed {
-            // (also where this call fails, a thread of the service does it)
-            self.inner.reopens.store(true, Ordering::Relaxed);
-            self.service.keep(&self.inner);
+        let done = self.inner.acts(true, decide);
+        if matches!(done, Ok(_) | Err(StoreError::Unknown(_))) {
+            self.service.keep(&self.inner); // (behind the put: who has seen it closed before doesn't let it go. Where no answer came it may stand)
         }
-        let done = self.inner.act(decide);
-        let reopened = if done.is_ok() { self.service.reopen(&self.inner) } else { Ok(()) };
         self.service.go_on(&self.inner);
-        reopened?;
         let number = match (found, done?.last().map(|it| it.reply)) {
             (Some(number), _) | (None, Some(Reply::Attached(Some(number)))) => number,
             _ => return Err(StoreError::Full),
@@ -538,6 +587,52 @@ impl Stage {
     /// Has a registered function attach stages to this request, and waits for one of them without holding a thread. The function is one that was
     /// registered by [`Functions::composing`](crate::Functions::composing). It is called with the request, as the process has it that runs the
     /// function, and with the value, and gives a stage of the request. The stage that is given back ends as that one does. It takes two stages.
+    ///
+    /// To try again what failed, a composing function attaches itself once more, behind a pause:
+    ///
+    /// ```
+    /// # #[cfg(feature = "sqlite")]
+    /// # fn main() -> Result<(), Box<dyn std::error::Error>> {
+    /// # let folder = std::env::temp_dir().join(format!("cf-store-compose-{}", std::process::id()));
+    /// # std::fs::create_dir_all(&folder)?;
+    /// # let path = folder.join("orders.db");
+    /// use cf_store::{Functions, Request, SQLite, Service, Stage, StoreError};
+    /// use std::time::Duration;
+    ///
+    /// /// Stands for a bank that is away twice.
+    /// fn bank(tried: u32) -> Result<&'static str, String> {
+    ///     if tried < 2 { Err("the bank is away".into()) } else { Ok("paid") }
+    /// }
+    ///
+    /// fn charge(request: &Request, tried: u32) -> Result<Stage, StoreError> {
+    ///     match bank(tried) {
+    ///         Ok(paid) => {
+    ///             let answer = request.promise("answer")?;
+    ///             answer.complete(paid)?;
+    ///             Ok(answer)
+    ///         }
+    ///         Err(error) if tried == 4 => Err(StoreError::Refused(error)),
+    ///         Err(_) => {
+    ///             let pause = request.promise("pause")?;
+    ///             pause.complete_on_timeout(&(tried + 1), Duration::from_millis(10))?;
+    ///             pause.compose("charge")
+    ///         }
+    ///     }
+    /// }
+    ///
+    /// let service = Service::new(SQLite::open(path)?, Functions::new().composing("charge", 1, charge))?;
+    /// let request = service.request("order 17")?;
+    /// let order = request.promise("order")?;
+    /// let paid = order.compose("charge")?;
+    /// order.complete(&0)?;
+    /// assert_eq!(paid.wait::<String>()?, "paid");
+    /// # drop(service);
+    /// # std::fs::remove_dir_all(folder)?;
+    /// # Ok(())
+    /// # }
+    /// # #[cfg(not(feature = "sqlite"))]
+    /// # fn main() {}
+    /// ```
     pub fn compose(&self, function: &str) -> Result<Stage, StoreError> {
         self.request.compose(Form::Compose, self.number, self.request.said(function)?)
     }
@@ -606,7 +701,29 @@ impl Stage {
     }
 
     /// Sets a timer in the store, by which the stage times out unless it is settled. Any process that works on the request fires it. A stage has one
-    /// timer; a second call replaces the first one's.
+    /// timer; a second call replaces the first one's. It gives no stage, as the store may refuse the timer: go on with this one. A function that runs
+    /// goes on, and its answer comes too late.
+    ///
+    /// ```
+    /// # #[cfg(feature = "sqlite")]
+    /// # fn main() -> Result<(), Box<dyn std::error::Error>> {
+    /// # let folder = std::env::temp_dir().join(format!("cf-store-timeout-{}", std::process::id()));
+    /// # std::fs::create_dir_all(&folder)?;
+    /// # let path = folder.join("orders.db");
+    /// use cf_store::{Error, Functions, SQLite, Service};
+    /// use std::time::Duration;
+    ///
+    /// let service = Service::new(SQLite::open(path)?, Functions::new())?;
+    /// let approved = service.request("order 17")?.promise("approved")?;
+    /// approved.or_timeout(Duration::from_millis(10))?;
+    /// assert!(matches!(approved.wait::<String>(), Err(Error::TimedOut(_))));
+    /// # drop(service);
+    /// # std::fs::remove_dir_all(folder)?;
+    /// # Ok(())
+    /// # }
+    /// # #[cfg(not(feature = "sqlite"))]
+    /// # fn main() {}
+    /// ```
     pub fn or_timeout(&self, wait: Duration) -> Result<(), StoreError> {
         let text = format!("{} took longer than {} s", self.name()?, wait.as_secs_f64());
         self.later(wait, b'E', &bytes_of(&Failed::new("TimeoutError", text)))
@@ -634,12 +751,39 @@ impl Stage {
 
     /// Waits until the stage is settled, also while the store doesn't answer, and gives its value. It holds its thread: within a task of tokio's call it
     /// by `spawn_blocking`, as each call that asks the store.
+    ///
+    /// # Errors
+    ///
+    /// What the stage failed with; [`Error::Unreadable`] where its value is of another type; [`Error::Store`] where the request can't be read, or the
+    /// service was dropped.
     pub fn wait<T: DeserializeOwned>(&self) -> Result<T, Error> {
         self.wait_until(None).and_then(|told| told.ok_or(Error::Cancelled))
     }
 
     /// The same, for so long at most: nothing where the stage isn't settled by then, or where the store hasn't given its value. That may take 0.2 s
     /// where less is asked for.
+    ///
+    /// ```
+    /// # #[cfg(feature = "sqlite")]
+    /// # fn main() -> Result<(), Box<dyn std::error::Error>> {
+    /// # let folder = std::env::temp_dir().join(format!("cf-store-wait-{}", std::process::id()));
+    /// # std::fs::create_dir_all(&folder)?;
+    /// # let path = folder.join("orders.db");
+    /// use cf_store::{Functions, SQLite, Service};
+    /// use std::time::Duration;
+    ///
+    /// let service = Service::new(SQLite::open(path)?, Functions::new())?;
+    /// let approved = service.request("order 17")?.promise("approved")?;
+    /// assert_eq!(approved.wait_timeout::<String>(Duration::from_millis(10))?, None); // not settled yet
+    /// approved.complete("Ada")?;
+    /// assert_eq!(approved.wait_timeout::<String>(Duration::from_secs(60))?.as_deref(), Some("Ada"));
+    /// # drop(service);
+    /// # std::fs::remove_dir_all(folder)?;
+    /// # Ok(())
+    /// # }
+    /// # #[cfg(not(feature = "sqlite"))]
+    /// # fn main() {}
+    /// ```
     pub fn wait_timeout<T: DeserializeOwned>(&self, wait: Duration) -> Result<Option<T>, Error> {
         self.wait_until(Some(self.request.service.host.now() + wait))
     }

@@ -41,7 +41,9 @@ fn part_of_c(said: &str) -> (String, String) {
     (said[begin..].to_owned(), of_c(&said[..begin]))
 }
 
+/// A row of parameters or fields, without the comments above these.
 fn parts_of_rust(said: &str) -> Vec<(String, String)> {
+    let said = said.lines().filter(|line| !line.trim_start().starts_with("///")).collect::<String>();
     let parts = said.split(',').map(str::trim).filter(|part| !part.is_empty());
     parts.map(|part| part.trim_start_matches("pub ").split_once(": ").unwrap()).map(|(name, kind)| (name.to_owned(), kind.to_owned())).collect()
 }
@@ -73,13 +75,13 @@ fn calls_of_c(header: &str) -> BTreeMap<String, Call> {
 
 fn calls_of_rust() -> BTreeMap<String, Call> {
     let block = DECLARED.split_once("extern \"C\" {").unwrap().1.split_once("\n}").unwrap().0;
-    let calls = block.lines().filter_map(|line| line.trim().strip_prefix("pub fn "));
-    let call = |line: &str| {
-        let (name, rest) = line.split_once('(').unwrap();
-        let (parts, kind) = rest.split_once(')').unwrap();
-        (name.to_owned(), (parts_of_rust(parts), kind.trim_end_matches(';').trim_start_matches(" -> ").to_owned()))
+    let call = |said: &str| {
+        let (name, rest) = said.split_once('(').unwrap();
+        let (parts, rest) = rest.split_once(')').unwrap();
+        let kind = rest.split_once(';').unwrap().0;
+        (name.to_owned(), (parts_of_rust(parts), kind.trim_start_matches(" -> ").to_owned()))
     };
-    calls.map(call).collect()
+    block.split("pub fn ").skip(1).map(call).collect()
 }
 
 #[test]

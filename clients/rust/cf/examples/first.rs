@@ -1,3 +1,4 @@
+//! An order whose card is declined, and the ends of its stages as the history tells them.
 use cf::{Pool, Request};
 use std::time::Duration;
 
@@ -16,7 +17,7 @@ fn main() {
         println!("sorry, {error}");
         0
     });
-    println!("paid {}", paid.wait().unwrap());
+    println!("paid {}", paid.named("paid").wait().unwrap());
     let history = request.history().to_string();
     history.lines().filter(|line| line.contains(" ends: ")).for_each(|line| println!("{}", line.trim()));
 }

@@ -37,7 +37,8 @@ pub enum Error {
     Cancelled,
     /// The stage, or one that it hangs on, wasn't settled so long after that was asked for.
     TimedOut(Duration),
-    /// A composing stage waits for a stage for which it can't.
+    /// The stage, or one that it hangs on, was failed with this. No call of this crate does so by itself: a composing stage waits for any stage that
+    /// its function gives, for good where that is itself.
     BadAnswer,
     /// The stage isn't part of its request, or no longer.
     Refused(Refusal),

@@ -24,11 +24,41 @@
 //! # }
 //! ```
 //!
+//! # Calls
+//!
+//! | | |
+//! |---|---|
+//! | a request | [`new`](Request::new), [`with_clock`](Request::with_clock), [`try_new`](Request::try_new); [`described`](Request::described), [`on_end`](Request::on_end), [`history`](Request::history) |
+//! | its first stages | [`supply`](Request::supply), [`try_supply`](Request::try_supply), [`spawn`](Request::spawn), [`promise`](Request::promise), [`adopt`](Request::adopt), [`all_of`](Request::all_of), [`first_of`](Request::first_of), [`gather`](Request::gather) |
+//! | attach a stage behind one | [`then`](Stage::then), [`and_then`](Stage::and_then), [`then_async`](Stage::then_async), [`compose`](Stage::compose), [`combine`](Stage::combine), [`either`](Stage::either), [`handle`](Stage::handle), [`inspect`](Stage::inspect), [`recover`](Stage::recover), [`recover_compose`](Stage::recover_compose) |
+//! | settle it, unless it is settled | [`complete`](Stage::complete), [`fail`](Stage::fail), [`cancel`](Stage::cancel), [`cancel_on_drop`](Stage::cancel_on_drop); all of a request [`cancel_all`](Request::cancel_all), [`Request::cancel_on_drop`] |
+//! | settle it by the clock | [`or_timeout`](Stage::or_timeout), [`complete_on_timeout`](Stage::complete_on_timeout) |
+//! | what it ended with | `await`, [`wait`](Stage::wait), [`wait_timeout`](Stage::wait_timeout), [`peek`](Stage::peek); for values that aren't `Clone` [`arc`](Stage::arc), [`wait_arc`](Stage::wait_arc), [`peek_arc`](Stage::peek_arc) |
+//!
 //! # Failing
 //!
 //! A stage without a value has an [`Error`]: what a function returned or panicked with, a cancellation, a timeout. What is attached behind it
 //! has the same error, without its function being called, up to a [`recover`](Stage::recover), a [`handle`](Stage::handle) or an
 //! [`inspect`](Stage::inspect). A panic is kept with its payload ([`Panic`]); it ends neither a worker nor the request.
+//!
+//! # Panics
+//!
+//! | What panics | What comes of it |
+//! |---|---|
+//! | a stage's function or future | its stage fails with [`Error::Panicked`], and so do those behind it. The worker and the request go on |
+//! | a waker, or the `Drop` of a value, a function or a future | all others are told first, and each stage is settled as it would have been. Then the panic goes on to the caller whose call settled the stage, also by `complete` or `cancel`, or on an executor of your own to whoever runs the job. If several panic, the first panic goes on |
+//! | the same, on a thread of a [`Pool`] or of [`SystemClock`] | it ends neither the thread nor the pool or the clock |
+//! | the same, within [`HandClock::turn`] | all timeouts that are due are told first. Then the first panic goes on to the caller |
+//! | the same, on a thread of rayon | rayon calls the pool's handler of panics. If the pool has none, rayon ends the process |
+//! | the same, in a job of `Tasks` or `Blocking` | it ends that task of tokio, as tokio has it for any task |
+//! | a value's `Drop`, as the last handle of a request goes | the panic goes on to whoever dropped that handle |
+//! | a waker or a `Drop`, in the drop of a [`Scope`], a [`CancelOnDrop`], a [`Job`], an [`Alarm`] or a last handle by a thread that unwinds | all others are told. The panic ends there, since a second one would end the process. Rust before 1.71 ends it nevertheless |
+//! | [`Spawn::spawn`] | all others are told first. Then the panic goes on to the caller. The job is dropped. If another job of the request is under way, it runs what was ready; if not, what was ready fails with [`Refusal::Closed`]. Later functions run |
+//! | [`Clock::now`] | the event has the time of the one before it |
+//!
+//! Where memory is refused for a new stage, that has failed with [`Refusal::NoLedger`]. Where it is refused for any other event, the call panics; what
+//! it did before that is told, and later calls go on. A stage whose function has ended by then stays open until it is settled otherwise. Where std is
+//! refused memory, it ends the process.
 //!
 //! # Who runs what
 //!
@@ -42,7 +72,8 @@
 //! thread runs any function of its executor, of the requests that it knows of, since each may be the one that completes it: don't hold a lock
 //! there that these take. A wait for a while runs nothing, since it couldn't end in time.
 //!
-//! A function that holds a handle of its own request keeps that alive until it was called or dropped, and a value that holds one for good.
+//! A function that holds a handle of its own request keeps that alive until it was called or dropped, and a value that holds one for good. A future
+//! keeps its request as long as somebody has its waker: one that awaits a pending stage of another request keeps both until that stage is settled.
 //!
 //! # What is told
 //!
@@ -69,11 +100,13 @@
 //! # Costs
 //!
 //! On four cores of 2.5 GHz: about 0.1 µs to attach a stage, 0.25 to claim, call and finish its function on one thread, and 0.2 to 0.5 a stage
-//! where eight threads run trivial functions. README.md says what takes the time, and what a stage takes in memory. Values, errors and the history
-//! are kept until nobody has the request or one of its stages any more.
+//! where eight threads run trivial functions. docs/PERFORMANCE.md says what takes the time. A settled stage takes 170 bytes beside its value; where
+//! all stages of a request of more than 64 are settled, 72. One that somebody has waited for takes 4 more, and so does each before it. Values, errors
+//! and the history are kept until nobody has the request or one of its stages any more.
 #![cfg_attr(docsrs, feature(doc_cfg))]
 #![forbid(unsafe_code)]
-#![warn(missing_docs, missing_debug_implementations, unreachable_pub, rust_2018_idioms)]
+#![deny(missing_docs)]
+#![warn(missing_debug_implementations, unreachable_pub, rust_2018_idioms)]
 
 mod aside;
 mod clock;

@@ -186,7 +186,7 @@ impl<S: Spawn + ?Sized> Spawn for Arc<S> {
     }
 }
 
-// Callers, by their numbers in a history.
+// Callers, by their numbers in a history (docs/FORMATS.md, "Callers").
 
 pub(crate) const CALLER: u8 = 0;
 pub(crate) const CLOCK: u8 = 1;

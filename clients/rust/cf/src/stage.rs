@@ -250,7 +250,9 @@ impl<T> Stage<T> {
         CancelOnDrop(self)
     }
 
-    /// Lets it fail with [`Error::TimedOut`], unless it is settled after this while, by the request's clock. The stage itself is given back.
+    /// Lets it fail with [`Error::TimedOut`], unless it is settled after this while, by the request's clock. The stage itself is given back, to be gone
+    /// on with. Of several limits of a stage the first that comes settles it. A function that runs goes on, and its answer comes too late; a future is
+    /// dropped.
     ///
     /// ```
     /// use std::time::Duration;

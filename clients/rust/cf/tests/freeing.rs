@@ -205,7 +205,7 @@ fn what_functions_gave_and_took_goes_with_their_request() {
         let held = Arc::clone(&alive);
         gate.clone().then(move |_| held)
     });
-    let behind = held.map(|held| held.then(|held| Arc::strong_count(held)));
+    let behind = held.map(|held| held.then(Arc::strong_count));
     gate.complete(1).unwrap();
     assert!(passed.is_settled() && behind.iter().all(Stage::is_settled));
     assert_eq!(Arc::strong_count(&alive), 3, "the two values");

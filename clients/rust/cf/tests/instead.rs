@@ -1,4 +1,4 @@
-//! What README.md says to write for what isn't there, row by row.
+//! What GUIDE.md says to write for what isn't there: a delayed start, further tries, a deadline for a whole request.
 use cf::{HandClock, Inline, Request, Stage};
 use std::sync::atomic::{AtomicU32, Ordering::SeqCst};
 use std::sync::Arc;
@@ -55,14 +55,13 @@ fn tries_with_longer_and_longer_waits() {
 /// What the answer waits for is cancelled with it.
 #[test]
 fn a_deadline_for_a_whole_request() {
-    let (request, clock) = request();
-    let backend = {
-        let scope = request.cancel_on_drop();
-        let backend = scope.promise::<u32>();
-        let answer = backend.clone().then(|cents| cents * 2).or_timeout(SECOND);
-        clock.turn(SECOND);
-        assert!(answer.wait().unwrap_err().is_timeout());
-        backend
-    };
+    let clock = HandClock::new();
+    let request = Request::with_clock("order 17", Arc::new(Inline), Arc::new(clock.clone()));
+    let scope = request.cancel_on_drop();
+    let backend = scope.promise::<u32>();
+    let answer = backend.clone().then(|cents| cents * 2).or_timeout(Duration::from_secs(60));
+    clock.turn(Duration::from_secs(60));
+    assert!(answer.wait().unwrap_err().is_timeout());
+    drop(scope);
     assert!(backend.wait().unwrap_err().is_cancelled());
 }

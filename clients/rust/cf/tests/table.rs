@@ -1,4 +1,4 @@
-//! What README.md says in its table "From futures and tokio", row by row.
+//! What README.md says in its table "Beside futures and tokio", and GUIDE.md of gathering and cancelling.
 #![cfg(feature = "tokio")]
 use cf::{Error, Pool, Request, Stage, Tasks};
 use futures::channel::oneshot;

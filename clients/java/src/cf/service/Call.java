@@ -1,5 +1,7 @@
 package cf.service;
 
+import cf.internal.Form;
+
 /** A function that was claimed, and what it is called with. Once it was called, it is used again for the next one. */
 final class Call {
     Request request;

@@ -1,5 +1,6 @@
 package cf.service;
 
+import cf.internal.Form;
 import java.util.concurrent.Executor;
 
 /** A function with the context that goes along with it. */

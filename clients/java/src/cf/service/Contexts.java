@@ -3,16 +3,23 @@ package cf.service;
 import java.util.concurrent.Executor;
 
 /**
- * What goes along with functions: whatever is there where a function is handed over, such as a thread's MDC or a span. {@link Service#carrying}
- * chooses it. This is that of OpenTelemetry, and that of SLF4J's MDC, whose {@code put} takes care of null and puts the old one back:
+ * Takes a context along with functions, such as a logger's MDC or a span: a function is called within that of the place where it was attached.
+ * {@link Service#carrying} chooses it. For OpenTelemetry there is {@code cf.service.opentelemetry.Spans.CONTEXTS}; this is the one for SLF4J's MDC:
  *
  * <pre>{@code
- * Contexts spans = () -> Context.current().wrap(Runnable::run);
  * Contexts mdc = () -> {
  *     Map<String, String> map = MDC.getCopyOfContextMap();
- *     return act -> put(map, act);
+ *     return act -> {
+ *         Map<String, String> old = MDC.getCopyOfContextMap();
+ *         MDC.setContextMap(map == null ? Map.of() : map);
+ *         try {
+ *             act.run();
+ *         } finally {
+ *             MDC.setContextMap(old == null ? Map.of() : old);
+ *         }
+ *     };
  * };
- * Service service = new Service(pool).carrying(spans.and(mdc));
+ * Service service = new Service(pool).carrying(Spans.CONTEXTS.and(mdc));
  * }</pre>
  */
 @FunctionalInterface
@@ -25,7 +32,7 @@ public interface Contexts {
      */
     Executor capture();
 
-    /** Both, the other one within this one. */
+    /** Takes both along, the other one within this one. */
     default Contexts and(Contexts other) {
         return () -> {
             Executor outer = capture(), inner = other.capture();

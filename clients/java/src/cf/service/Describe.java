@@ -1,13 +1,17 @@
 package cf.service;
 
+import cf.internal.Text;
 import java.lang.reflect.Array;
 import java.util.Collection;
 import java.util.Map;
 
 /**
- * What histories, the texts of stages and flight recordings tell of a value or an exception: {@link Service#describing} chooses it. None is
- * asked for null. What it gives is told with line breaks and the like escaped; where it throws, {@code ?} is told. It is called when a
- * history is taken or told, by whoever does so, and of a recording by the thread that settles the stage; never while a lock is held.
+ * Says what histories, the texts of stages and flight recordings tell of a value or an exception. {@link Service#describing} and
+ * {@link Service#request(String, Describe)} choose it. Names of requests, stages and threads are told whatever it says.
+ *
+ * <pre>{@code
+ * Describe safe = value -> value instanceof Card ? "a card" : Describe.TYPES.describe(value);
+ * }</pre>
  */
 @FunctionalInterface
 public interface Describe {
@@ -33,5 +37,13 @@ public interface Describe {
     /** Nothing: {@code -}. */
     Describe NOTHING = value -> "-";
 
+    /**
+     * What is told of a value or an exception. It isn't asked for null. If it throws, {@code ?} is told. Whoever takes a history or tells it calls
+     * this, and of a recording the thread that settles the stage; no lock is held. Control characters, line separators and characters that turn
+     * the direction of a text are escaped as in JSON, so no text can add a line to a history.
+     *
+     * @param value the value or the exception
+     * @return the text that is told
+     */
     String describe(Object value);
 }

@@ -1,5 +1,7 @@
 package cf.service;
 
+import cf.internal.Text;
+import cf.internal.Words;
 import jdk.jfr.Category;
 import jdk.jfr.Description;
 import jdk.jfr.Enabled;

@@ -1,5 +1,8 @@
 package cf.service;
 
+import cf.internal.Form;
+import cf.internal.Full;
+import cf.internal.Text;
 import java.util.ArrayList;
 import java.util.List;
 import java.util.Objects;
@@ -57,11 +60,15 @@ public final class Flow {
         }
     }
 
+    /** A plan without steps. Its requests are called by this name. */
     public Flow(String name) {
         this.name = Objects.requireNonNull(name);
     }
 
-    /** A stage of each request of the flow: {@link Request#stage} gives it. Its methods plan one more, as those of CompletionStage do. */
+    /**
+     * A stage of each request of the flow: {@link Request#stage} gives it. Its methods plan one more, as those of {@link CompletionStage} do. Without
+     * {@link #async()} its function is called by the thread that settles its source. A step has no limit: set one on the request's stage.
+     */
     public final class Step<T> {
         private final int number;
 
@@ -98,58 +105,72 @@ public final class Flow {
             return this;
         }
 
+        /** Plans a stage behind this one, as {@link CompletionStage#thenApply}. */
         public <U> Step<U> thenApply(Function<? super T, ? extends U> fn) {
             return step(Form.APPLY, fn, number);
         }
 
+        /** Plans a stage behind this one, as {@link CompletionStage#thenAccept}. */
         public Step<Void> thenAccept(Consumer<? super T> action) {
             return step(Form.ACCEPT, action, number);
         }
 
+        /** Plans a stage behind this one, as {@link CompletionStage#thenRun}. */
         public Step<Void> thenRun(Runnable action) {
             return step(Form.THEN_RUN, action, number);
         }
 
+        /** Plans a stage behind this one, as {@link CompletionStage#thenCompose}. It takes two stages. */
         public <U> Step<U> thenCompose(Function<? super T, ? extends CompletionStage<U>> fn) {
             return step(Form.COMPOSE, fn, number);
         }
 
+        /** Plans a stage behind this one, as {@link CompletionStage#handle}. */
         public <U> Step<U> handle(BiFunction<? super T, Throwable, ? extends U> fn) {
             return step(Form.HANDLE, fn, number);
         }
 
+        /** Plans a stage behind this one, as {@link CompletionStage#whenComplete}. */
         public Step<T> whenComplete(BiConsumer<? super T, ? super Throwable> action) {
             return step(Form.WHEN_COMPLETE, action, number);
         }
 
+        /** Plans a stage behind this one, as {@link CompletionStage#exceptionally}. */
         public Step<T> exceptionally(Function<Throwable, ? extends T> fn) {
             return step(Form.EXCEPTIONALLY, fn, number);
         }
 
+        /** Plans a stage behind this one, as {@link Stage#exceptionallyCompose}. It takes two stages. */
         public Step<T> exceptionallyCompose(Function<Throwable, ? extends CompletionStage<T>> fn) {
             return step(Form.EXCEPTIONALLY_COMPOSE, fn, number);
         }
 
+        /** Plans a stage behind this one, as {@link CompletionStage#thenCombine}. */
         public <U, V> Step<V> thenCombine(Step<? extends U> other, BiFunction<? super T, ? super U, ? extends V> fn) {
             return step(Form.COMBINE, fn, number, own(other));
         }
 
+        /** Plans a stage behind this one, as {@link CompletionStage#thenAcceptBoth}. */
         public <U> Step<Void> thenAcceptBoth(Step<? extends U> other, BiConsumer<? super T, ? super U> action) {
             return step(Form.ACCEPT_BOTH, action, number, own(other));
         }
 
+        /** Plans a stage behind this one, as {@link CompletionStage#runAfterBoth}. */
         public Step<Void> runAfterBoth(Step<?> other, Runnable action) {
             return step(Form.RUN_BOTH, action, number, own(other));
         }
 
+        /** Plans a stage behind this one, as {@link CompletionStage#applyToEither}. */
         public <U> Step<U> applyToEither(Step<? extends T> other, Function<? super T, U> fn) {
             return step(Form.APPLY_EITHER, fn, number, own(other));
         }
 
+        /** Plans a stage behind this one, as {@link CompletionStage#acceptEither}. */
         public Step<Void> acceptEither(Step<? extends T> other, Consumer<? super T> action) {
             return step(Form.ACCEPT_EITHER, action, number, own(other));
         }
 
+        /** Plans a stage behind this one, as {@link CompletionStage#runAfterEither}. */
         public Step<Void> runAfterEither(Step<?> other, Runnable action) {
             return step(Form.RUN_EITHER, action, number, own(other));
         }
@@ -162,24 +183,27 @@ public final class Flow {
         return step;
     }
 
+    /** A step without a source, whose function the service's executor calls. */
     public <U> Step<U> supplyAsync(Supplier<U> supplier) {
         return this.<U>step(Form.SUPPLY, supplier).async();
     }
 
+    /** A step without a source and without a value, whose function the service's executor calls. */
     public Step<Void> runAsync(Runnable runnable) {
         return this.<Void>step(Form.RUN_ASYNC, runnable).async();
     }
 
-    /** One step, of however many. */
+    /** As {@link Request#allOf}, in one stage, of however many steps. */
     public Step<Void> allOf(Step<?>... of) {
         return add(Form.ALL_OF, null, null, own(of));
     }
 
-    /** One step, of however many. */
+    /** As {@link Request#anyOf}, in one stage, of however many steps. */
     public Step<Object> anyOf(Step<?>... of) {
         return add(Form.ANY_OF, null, null, own(of));
     }
 
+    /** The name of its requests. */
     public String name() {
         return name;
     }
@@ -227,7 +251,7 @@ public final class Flow {
     private void open(int steps, int sources) {
         open();
         if (rows.size() + steps > Machine.MOST_STAGES || edges + sources > Machine.MOST_EDGES) {
-            throw new RequestFullException(name);
+            throw new RequestFullException(new Full(name));
         }
     }
 

@@ -1,5 +1,10 @@
 package cf.service;
 
+import cf.internal.Form;
+import cf.internal.Tale;
+import cf.internal.Telling;
+import cf.internal.Text;
+import cf.internal.Words;
 import java.util.Arrays;
 import java.util.List;
 
@@ -12,6 +17,8 @@ public final class History extends RequestHistory {
 
     private static final int[] NO_ROWS = {};
 
+    private final String name;
+    private final long[] words;
     private final Flow flow;
     private final long[] times;
     /** When its first event was, in nanoseconds since 1970. */
@@ -29,7 +36,8 @@ public final class History extends RequestHistory {
 
     /** Its request's lock is held. {@link #describe} is called once that is free. Where moments are null, they are the machine's. */
     History(String name, Flow flow, Machine machine, String[] names, Object[] values, Throwable[] errors, String[] threads, long[] moments) {
-        super(name, Arrays.copyOf(machine.kept(), machine.events()));
+        this.name = name;
+        words = Arrays.copyOf(machine.kept(), machine.events());
         this.flow = flow;
         long[] kept = machine.kept();
         times = moments != null ? moments : Machine.times(kept, words.length);
@@ -55,18 +63,21 @@ public final class History extends RequestHistory {
         return this;
     }
 
+    /** How many events there were: each is one word of 8 bytes. */
     public int events() {
         return words.length;
     }
 
+    /** How many stages the request had, relays included. */
     public int stages() {
         return stages;
     }
 
     /**
      * What happened as OpenTelemetry's spans: one for the request, and then within it one for each call of a function, in the order of their
-     * stages. Names and attributes are those of {@code cf_look trace --spans}. There are none where nothing happened. The request has failed where a
-     * stage has that no other one waits for; those that functions attached aren't looked at for that.
+     * stages, from its claim to its finish. Names and attributes are those of {@code cf_look trace --spans}. There are none if nothing happened. A
+     * thread claims all functions at once that one event made ready, so the spans of the later ones have the waiting for the earlier ones in them.
+     * The request has failed if a stage has that no other one waits for; stages that functions attached aren't looked at for that.
      */
     public List<Span> spans() {
         read();
@@ -154,9 +165,9 @@ public final class History extends RequestHistory {
         return names[stage] != null ? names[stage] : form.text;
     }
 
-    @Override
+    /** What a caller is called. */
     String who(int who) {
-        return who == Request.CLOCK ? "clock" : who == Request.RELAY ? "relay"
+        return who < Request.CLOCK ? "caller" : who == Request.CLOCK ? "clock" : who == Request.RELAY ? "relay"
                 : who == Request.OTHER_THREADS ? "some thread" : threads[who - Request.FIRST_THREAD];
     }
 
@@ -207,24 +218,35 @@ public final class History extends RequestHistory {
 
     /** What {@code cf run} prints of the script: the replies, and what the stages hold. */
     public String report() {
-        return as(Tale.Kind.REPORT);
+        return telling().as(Tale.Kind.REPORT);
     }
 
+    /** @hidden */
     @Override
-    Tale tale(Tale.Kind kind) {
-        Tale tale = new Tale(flow == null ? NO_ROWS : flow.plan().rows, stages - planned(), kind == Tale.Kind.LINES ? byRelays() : words);
-        if (times != null && kind != Tale.Kind.SCRIPT && kind != Tale.Kind.REPORT) {
-            tale.time(times);
-        }
-        return tale;
-    }
+    protected Telling telling() {
+        return new Telling(name, words) {
+            @Override
+            protected Tale tale(Tale.Kind kind) {
+                Tale tale = new Tale(flow == null ? NO_ROWS : flow.plan().rows, stages - planned(), kind == Tale.Kind.LINES ? byRelays() : words);
+                if (times != null && kind != Tale.Kind.SCRIPT && kind != Tale.Kind.REPORT) {
+                    tale.time(times);
+                }
+                return tale;
+            }
 
-    @Override
-    void says(Tale tale) {
-        tale.say(Tale.Said.STAGES, Arrays.stream(names).map(each -> each == null ? "" : each).toArray(String[]::new));
-        tale.say(Tale.Said.CALLERS, callers(tale.words));
-        tale.say(Tale.Said.VALUES, texts(values));
-        tale.say(Tale.Said.ERRORS, texts(errors));
+            @Override
+            protected void says(Tale tale) {
+                tale.say(Tale.Said.STAGES, Arrays.stream(names).map(each -> each == null ? "" : each).toArray(String[]::new));
+                tale.say(Tale.Said.CALLERS, callers(tale.words));
+                tale.say(Tale.Said.VALUES, texts(values));
+                tale.say(Tale.Said.ERRORS, texts(errors));
+            }
+
+            @Override
+            protected String who(int who) {
+                return History.this.who(who);
+            }
+        };
     }
 
     /** The words, with those as a relay's that settle one of this request, which the machine does as the clock. It stands right below a composing stage. */

@@ -1,7 +1,7 @@
 package cf.service;
 
+import cf.internal.Watch;
 import cf.service.Faults.Fault;
-import cf.service.watch.Watch;
 import java.util.concurrent.CompletableFuture;
 import java.util.concurrent.CompletionStage;
 import java.util.concurrent.atomic.AtomicReference;

@@ -1,5 +1,8 @@
 package cf.service;
 
+import cf.internal.Form;
+import cf.internal.Freed;
+import cf.internal.Native;
 import java.lang.ref.WeakReference;
 import java.nio.ByteBuffer;
 import java.nio.ByteOrder;
@@ -7,7 +10,6 @@ import java.util.ArrayList;
 import java.util.Arrays;
 import java.util.List;
 import java.util.concurrent.TimeUnit;
-import java.util.concurrent.atomic.AtomicInteger;
 import java.util.concurrent.atomic.AtomicReferenceArray;
 
 /**
@@ -44,7 +46,6 @@ final class Machine {
     private static final Pool NO_PLAN = new Pool(0);
     private static final long[] NONE = {}, ONE = {1};
     /** Cores that aren't freed, and how many of them there may be before each takes so many bytes in the heap for a moment. */
-    private static final AtomicInteger LIVE = new AtomicInteger();
     private static final int MANY = 8192, BYTES = 8192;
     private static byte[] ballast;
     /** Whether histories have what was told, which tests compare with what is told where the words are done again. */
@@ -100,7 +101,7 @@ final class Machine {
                 long freed = at;
                 at = 0;
                 if (freed != 0) {
-                    LIVE.getAndDecrement();
+                    Native.LIVE.getAndDecrement();
                     destroy(freed);
                 }
             }
@@ -111,7 +112,7 @@ final class Machine {
             Outside outside = new Outside(pool.self);
             freed = new Freed(this, outside);
             at = outside.at = created();
-            LIVE.getAndIncrement();
+            Native.LIVE.getAndIncrement();
             memory = outside.memory = memory(at).order(ByteOrder.nativeOrder());
             weigh();
         }
@@ -150,7 +151,7 @@ final class Machine {
          * saw it. What it has found goes to those who open the next ones. Nobody waits for it, and memory ends only where the system refuses it.
          */
         private static void weigh() {
-            if (LIVE.get() > MANY) {
+            if (Native.LIVE.get() > MANY) {
                 ballast = new byte[BYTES];
             }
         }
@@ -162,7 +163,7 @@ final class Machine {
                 made = create(TIMES);
             }
             if (made == 0) {
-                throw noMemory();
+                throw Native.noMemory();
             }
             return made;
         }
@@ -170,7 +171,7 @@ final class Machine {
 
     /** How many cores aren't freed. */
     static int live() {
-        return LIVE.get();
+        return Native.LIVE.get();
     }
 
     /** Cores of closed requests of one plan, whose requests start again. A thread looks first for one of those that it had opened. */
@@ -241,7 +242,7 @@ final class Machine {
         Plan(int[] rows, int stages, int edges) {
             long made = Native.plan(rows);
             if (made < 0) {
-                throw refusal((int) -made);
+                throw Native.refusal((int) -made);
             }
             at = made;
             this.rows = rows;
@@ -317,7 +318,7 @@ final class Machine {
         }
         if (code != Native.OK) {
             core.freed.now();
-            throw refusal(code);
+            throw Native.refusal(code);
         }
         boolean waits = isUnopened();
         if (waits) {
@@ -346,7 +347,7 @@ final class Machine {
         int code = (int) told & 0xff;
         if (code != Native.OK) {
             core.freed.now();
-            throw refusal(code);
+            throw Native.refusal(code);
         }
         this.core = core;
         done(told);
@@ -477,7 +478,7 @@ final class Machine {
             memory.putLong(WORDS + 8 * k, memory.getLong(WORDS + 8 * (k + done)));
             memory.put(LANES + k, memory.get(LANES + k + done));
         }
-        throw refusal(code);
+        throw Native.refusal(code);
     }
 
     private void witness() {
@@ -492,15 +493,6 @@ final class Machine {
     /** What was told until now; null where that isn't kept. */
     int[][] witnessed() {
         return witness == null ? null : witness.toArray(new int[0][]);
-    }
-
-    static Error refusal(int code) {
-        return code == Native.NO_MEMORY ? noMemory() : new AssertionError("the library refused with code " + code);
-    }
-
-    private static OutOfMemoryError noMemory() {
-        return new OutOfMemoryError("cf.service: the system refuses memory outside the heap, where " + LIVE.get() + " requests have some: close"
-                + " those that are done");
     }
 
     // What the last call brought, which stands in the core.
@@ -584,7 +576,7 @@ final class Machine {
 
     private static void check(int code) {
         if (code != Native.OK) {
-            throw refusal(code);
+            throw Native.refusal(code);
         }
     }
 

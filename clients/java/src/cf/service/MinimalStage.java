@@ -1,5 +1,6 @@
 package cf.service;
 
+import cf.internal.Form;
 import java.util.concurrent.Executor;
 import java.util.concurrent.TimeUnit;
 import java.util.function.Supplier;

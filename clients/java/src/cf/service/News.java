@@ -1,6 +1,6 @@
 package cf.service;
 
-import cf.service.watch.Watch;
+import cf.internal.Watch;
 
 /**
  * What is to be told once the lock is free: stages that were settled; that are ready, for executors; functions that this thread has claimed.

@@ -1,8 +1,12 @@
 package cf.service;
 
+import cf.internal.Form;
+import cf.internal.Full;
+import cf.internal.Native;
+import cf.internal.Watch;
+import cf.internal.Words;
 import cf.service.Faults.Fault;
 import cf.service.Waits.Alarm;
-import cf.service.watch.Watch;
 import java.util.ArrayList;
 import java.util.Arrays;
 import java.util.BitSet;
@@ -20,14 +24,16 @@ import java.util.function.Supplier;
 import java.util.stream.Collectors;
 
 /**
- * Stages that belong together, of which one history is kept. Any thread may use it.
+ * Stages that belong together, of which one history is kept. Its methods have the names of the static ones of {@link CompletableFuture}. Any thread
+ * may use it; calls on one request wait for one another at its lock, under which no function, callback or executor is called.
  *
- * <p>Its methods are named as the static ones of {@link CompletableFuture}. Each change is one word of the request, done by its machine under
- * the request's lock. Under the same lock the stages show what came of it, so nobody reads what is behind what he was told; whoever waits,
- * and functions, are called once the lock is free.
+ * <p>It is in the memory of its process. It keeps its values, exceptions and history as long as it, or one of its stages, can be reached, so use one
+ * for a thing that happens, and not for a cache. {@link #close} says what becomes of its memory outside the heap.
  *
- * <p>A request has at most 4,096 stages. One more throws {@link RequestFullException} and changes nothing; of a request that
- * {@link #goesOn() goes on} it goes to a further one, by relays.
+ * <p>A request has at most 4,096 stages. All methods that attach one more throw {@link RequestFullException}, and change nothing; if it
+ * {@link #goesOn() goes on}, the stage goes to a further request instead. Where the system refuses memory, an {@link OutOfMemoryError} is thrown.
+ *
+ * <p>{@code Thread.stop}, which Java has up to version 19, may leave the request unusable that it strikes; others go on.
  */
 public final class Request implements AutoCloseable {
     /*
@@ -118,7 +124,7 @@ public final class Request implements AutoCloseable {
      * before anything is done; one of a flow becomes one as it is claimed (`granted`). `closed` sees to it that a hook of the
      * service's is told of the request once, by `Ends`, as soon as the stages that it has then are settled.
      *
-     * Watches. A service may have a Watch, as cf.service.testing makes it, which takes the place of executors and the clock. It is told of each
+     * Watches. A service may have a Watch, as cf.testing makes it, which takes the place of executors and the clock. It is told of each
      * word under the lock, and has `tell` hand it the News, which it works off as a Turn, one function at a time. Tasks, limits and waits are the
      * watch's, and histories have its time and its callers.
      *
@@ -128,11 +134,8 @@ public final class Request implements AutoCloseable {
      * somebody's CompletionStage; and those that call Contexts: the constructors, `attach`, `started` and `oneCall`.
      */
 
-    /**
-     * Callers: the machine itself, which is the clock of histories; what settles relays of what is elsewhere; the threads in the order in which
-     * they came, and those for which there is no number.
-     */
-    static final int CLOCK = 0, RELAY = 1, FIRST_THREAD = 2, OTHER_THREADS = 63;
+    /** The callers of a history (docs/FORMATS.md, "Callers"): the machine itself is the clock. Nobody here is caller 0. */
+    static final int CLOCK = 1, RELAY = 2, FIRST_THREAD = 3, OTHER_THREADS = 63;
 
     /** Of how many stages a request that goes on gathers all at once. */
     private static final int MOST_GATHERED = 1024;
@@ -262,54 +265,67 @@ public final class Request implements AutoCloseable {
     // Stages.
 
     /**
-     * What the supplier gives, called by the service's executor.
+     * Attaches a stage whose function the service's executor calls.
      *
-     * @throws RequestFullException where there is no place; so do all methods that attach stages
+     * @throws RequestFullException there is no room for the stage; so do all methods that attach one
+     * @throws java.util.concurrent.RejectedExecutionException the executor refuses
      */
     public <U> Stage<U> supplyAsync(Supplier<U> supplier) {
         return supplyAsync(supplier, service.executor());
     }
 
+    /** Attaches a stage whose function this executor calls. */
     public <U> Stage<U> supplyAsync(Supplier<U> supplier, Executor executor) {
         return started(Form.SUPPLY, Objects.requireNonNull(supplier), Objects.requireNonNull(executor));
     }
 
+    /** Attaches a stage without a value, whose function the service's executor calls. */
     public Stage<Void> runAsync(Runnable runnable) {
         return runAsync(runnable, service.executor());
     }
 
+    /** Attaches a stage without a value, whose function this executor calls. */
     public Stage<Void> runAsync(Runnable runnable, Executor executor) {
         return started(Form.RUN_ASYNC, Objects.requireNonNull(runnable), Objects.requireNonNull(executor));
     }
 
-    /** The service's executor, which gets what it is handed after a time. */
+    /**
+     * An executor that hands each task to the service's executor after a time: for a later start, or a pause before a further try.
+     *
+     * <pre>{@code stage.exceptionallyCompose(error -> request.supplyAsync(ask, request.delayedExecutor(1, TimeUnit.SECONDS)))}</pre>
+     */
     public Executor delayedExecutor(long delay, TimeUnit unit) {
         return delayedExecutor(delay, unit, service.executor());
     }
 
+    /** An executor that hands each task to this one after a time. */
     public Executor delayedExecutor(long delay, TimeUnit unit, Executor executor) {
         return watch == null ? Service.delayedExecutor(delay, unit, executor)
                 : act -> watch.later(unit.toNanos(delay), () -> execute(executor, act));
     }
 
-    /** What somebody completes: what {@code new CompletableFuture<>()} is. */
+    /** Attaches a stage without a function, which somebody settles: it stands for {@code new CompletableFuture<>()}. */
     public <U> Stage<U> promise() {
         return attach(Form.SOURCE, null, null, null, null, false);
     }
 
+    /** Attaches a stage that is completed with this value. */
     public <U> Stage<U> completedFuture(U value) {
         return completed(this.<U>promise(), value);
     }
 
+    /** Attaches a stage that has failed with this exception. */
     public <U> Stage<U> failedFuture(Throwable error) {
         Objects.requireNonNull(error);
         return failed(this.<U>promise(), error);
     }
 
+    /** Attaches a stage that is completed with this value, and that has the methods of {@link CompletionStage} alone. */
     public <U> CompletionStage<U> completedStage(U value) {
         return completed(this.<U>minimal(), value);
     }
 
+    /** Attaches a stage that has failed with this exception, and that has the methods of {@link CompletionStage} alone. */
     public <U> CompletionStage<U> failedStage(Throwable error) {
         Objects.requireNonNull(error);
         return failed(this.<U>minimal(), error);
@@ -329,19 +345,37 @@ public final class Request implements AutoCloseable {
         return stage;
     }
 
-    /** As {@link CompletableFuture#allOf}; of n stages it takes n - 1. */
+    /**
+     * As {@link CompletableFuture#allOf}: it waits until all are settled, even if one has failed. If several have, it fails with the exception of the
+     * first one in the order of the arguments. Of n stages it takes n - 1 of this request, attached in one call; of stages of other requests also a
+     * relay each.
+     */
     public Stage<Void> allOf(CompletionStage<?>... of) {
         return gather(Form.ALL_OF, of);
     }
 
-    /** As {@link CompletableFuture#anyOf}; of n stages it takes n - 1. */
+    /**
+     * As {@link CompletableFuture#anyOf}: it ends as the first that is settled, be it by an exception. If several are settled by one event, it takes
+     * the first argument. Of n stages it takes n - 1 of this request, attached in one call; of stages of other requests also a relay each.
+     */
     public Stage<Object> anyOf(CompletionStage<?>... of) {
         return gather(Form.ANY_OF, of);
     }
 
     /**
-     * A stage of this request that ends as that one does, by a relay. One of this request is given back itself. The relay hangs on the other
-     * one until either is settled.
+     * Attaches a relay: a stage of this request that ends as that stage does, be it of another request, another future, or any other
+     * {@link CompletionStage}. A stage of this request is given back itself. Methods that take a second stage, or whose function gives one, make a
+     * relay by themselves.
+     *
+     * <p>The other stage holds the relay, and so keeps this request reachable, until the relay ends: cancel it if the other stage lives on. A
+     * relay that a method made is let go when the stage ends that needs it. If the relay is cancelled or times out, the other stage goes on; if the
+     * other stage times out, so does the relay. A stage that is no {@code CompletableFuture} is asked by its {@code whenComplete}, and keeps a small
+     * callback.
+     *
+     * <p>A stage behind one that timed out ends with a {@code CompletionException} around the {@code TimeoutException}. Its relay is told as timed
+     * out in the history, if it was made for a stage that wraps each exception, as one of {@code thenCombine} or {@code thenCompose}; a relay of this
+     * method is told as failed, with that {@code CompletionException}. If somebody failed the other stage with a {@code TimeoutException} by hand,
+     * the relay has failed with that.
      */
     @SuppressWarnings("unchecked")
     public <U> Stage<U> adopt(CompletionStage<U> of) {
@@ -371,7 +405,11 @@ public final class Request implements AutoCloseable {
         return relay;
     }
 
-    /** The stage of a step of the flow that this is a request of. */
+    /**
+     * The stage of a step of the flow that the request was started with.
+     *
+     * @throws IllegalArgumentException the step is of another flow
+     */
     @SuppressWarnings("unchecked")
     public <U> Stage<U> stage(Flow.Step<U> step) {
         if (step.flow() != flow) {
@@ -404,22 +442,32 @@ public final class Request implements AutoCloseable {
         return isSettled;
     }
 
-    /** Lets stages for which there is no place go to a further request, {@link #next}, instead of an exception. This one is given back. */
+    /**
+     * Lets stages for which there is no room go to a further request, {@link #next}, which has a history of its own, instead of throwing
+     * {@link RequestFullException}. This request keeps the further ones reachable, and not the other way round: whoever keeps nothing but
+     * {@link #next} lets the first one go, with its values and its history, once no pending stage waits for one of its stages.
+     *
+     * @return this request
+     */
     public Request goesOn() {
         goesOn = true;
         return this;
     }
 
-    /** The request to which stages went for which there was no place here, or null. */
+    /** The request to which stages went for which there was no room here, or null. Close it, too. */
     public Request next() {
         return next;
     }
 
+    /** The name by which it was opened. */
     public String name() {
         return name;
     }
 
-    /** All that happened until now. Each text of it costs the doing again of all words, some microseconds. */
+    /**
+     * All that happened until now. Each text of it takes some microseconds, by the number of events. In it the 62nd thread of a request and all
+     * later ones are one caller.
+     */
     public History history() {
         if (watch != null) {
             watch.looked(this);
@@ -443,8 +491,16 @@ public final class Request implements AutoCloseable {
     }
 
     /**
-     * Gives the memory outside the heap back to be used again. Stages may be used on: if need be all words are done again. The hook of its
-     * {@link Service#onEnd service} is told of it, once all stages are settled that it has now.
+     * Gives the memory outside the heap to the next request. It ends no stage and no function: stages can still be settled and attached, and limits
+     * come. If the request is needed again, all its events are done once more, and then it keeps its memory. Its history can be told as before. The
+     * hook of its {@link Service#onEnd service} is told of it once all stages are settled that it has now. A further request ({@link #next}) is
+     * closed by a call of its own.
+     *
+     * <p>A request that nobody closes gives this memory away by itself once all its stages are settled, and those of another request, too, that the
+     * same thread opened. Close a request that doesn't: one that was needed again, one with a stage that nobody settles, one of a flow that nobody
+     * asks for a stage, one with more than 512 stages that were attached. Otherwise its memory waits for the garbage collector, which nobody asks to
+     * run. If over 8,192 requests have such memory, each one whose memory wasn't given back also makes 8 KB of garbage, so that the collector comes
+     * as often as if it saw the memory outside.
      */
     @Override
     public void close() {
@@ -513,7 +569,7 @@ public final class Request implements AutoCloseable {
             }
             service.ends().tell(() -> history.described(describe), within);
         } catch (Throwable none) {
-            Ends.warn("the end of a request isn't told", none);
+            service.ends().warn("the end of a request isn't told", none);
         }
     }
 
@@ -668,7 +724,7 @@ public final class Request implements AutoCloseable {
         short[] numbers = new short[of.length];
         Stage<?>[] made = new Stage<?>[count];
         for (int k = 0; k < of.length; k++) {
-            numbers[k] = (short) of[k].number;
+            numbers[k] = of[k].number;
         }
         for (int k = watch != null || Recorder.hasStages() ? 0 : count - 1; k < count; k++) {
             made[k] = new Stage<>(this, first + k, form, null, null);
@@ -771,7 +827,7 @@ public final class Request implements AutoCloseable {
     private Request further() {
         synchronized (lock()) {
             if (!goesOn) {
-                throw new RequestFullException(name);
+                throw new RequestFullException(new Full(name));
             }
             if (next == null) {
                 next = new Request(service, name + ", further", null, 32, describe, within).goesOn();

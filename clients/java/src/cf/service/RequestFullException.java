@@ -1,10 +1,16 @@
 package cf.service;
 
-/** A request or a flow has 4,096 stages, or its stages 16,384 mentions of sources, which is the most that a graph has. Nothing was changed. */
+import cf.internal.Full;
+
+/**
+ * A stage finds no room: a request or a flow has at most 4,096 stages, which name other stages as their sources at most 16,384 times. Nothing was
+ * changed. {@link Request#goesOn} lets further stages go to a further request.
+ */
 public final class RequestFullException extends IllegalStateException {
     private static final long serialVersionUID = 1;
 
-    RequestFullException(String name) {
-        super("\"" + Text.escaped(name) + "\" has no place for the stage: a request may have 4,096");
+    /** @hidden A program makes none. */
+    public RequestFullException(Full full) {
+        super(full.text);
     }
 }

@@ -1,5 +1,7 @@
 package cf.service;
 
+import cf.internal.Tale;
+import cf.internal.Telling;
 import java.io.ByteArrayOutputStream;
 import java.io.IOException;
 import java.io.InputStream;
@@ -7,40 +9,38 @@ import java.io.InterruptedIOException;
 import java.nio.charset.StandardCharsets;
 import java.nio.file.Files;
 import java.nio.file.Path;
-import java.util.Arrays;
-import java.util.stream.IntStream;
 
 /**
- * What happened to a request, in memory or in a store: told in words, as an account that {@code cf_look check} judges, and as a script for
- * {@code cf run}. It stays as it is while the request goes on. The library does the words again for these texts, and tells the same in each
- * language. Each text takes time by the number of words.
+ * What happened to a request, in memory or in a store, up to the moment when the history was taken. Each text takes time by the number of events:
+ * the library does them once more, and tells the same in each language.
+ *
+ * <p>Values and exceptions are told by the request's {@link Describe}; names are always told. The words of {@link #toString} and {@link #line} are
+ * for people, and any version may change them: a program should read {@link #account} or {@link #script}, which are JSON on one line.
  */
 public abstract class RequestHistory {
-    final String name;
-    final long[] words;
+    /** @hidden */
+    protected RequestHistory() {}
 
-    RequestHistory(String name, long[] words) {
-        this.name = name;
-        this.words = words;
-    }
+    /** @hidden What tells it. */
+    protected abstract Telling telling();
 
-    /** The words of all events in their order. */
+    /** The events in their order, each as a word of 64 bits. */
     public long[] words() {
-        return words.clone();
+        return telling().words.clone();
     }
 
-    /** A line for each event, and one for each stage that it settled. Names and texts can't add a line: see {@link Describe}. */
+    /** A line for each event with its time, and one for each stage that it settled. Names and texts can't add a line: see {@link Describe}. */
     @Override
     public String toString() {
-        return as(Tale.Kind.LINES);
+        return telling().as(Tale.Kind.LINES);
     }
 
     /**
-     * The same in one line, for a log: the name, how much there was, which stage failed first, and which one is open. Between these parts
-     * stands a semicolon; one of a name or text is told as JSON's escape of it.
+     * A sum in one line, for a log: the name, how many events and stages there were, which stage failed first, and which one is open, with semicolons
+     * between. A semicolon of a name or a text is escaped as in JSON.
      */
     public String line() {
-        return as(Tale.Kind.LINE);
+        return telling().as(Tale.Kind.LINE);
     }
 
     /**
@@ -48,15 +48,15 @@ public abstract class RequestHistory {
      * What isn't judged are names, times in nanoseconds from the first event on, values and exceptions as texts.
      */
     public String account() {
-        return withoutEnd(as(Tale.Kind.ACCOUNT));
+        return withoutEnd(telling().as(Tale.Kind.ACCOUNT));
     }
 
     /**
-     * What {@code cf run} does again, and {@code cf_look} draws and makes a page of. It is of version 3 where an event times a stage out, and
-     * else of version 2. Functions give what they gave.
+     * A script that {@code cf run} does again, and that {@code cf_look} draws or makes a page of. None of your functions is called then: the script
+     * has what they returned or threw. It is of version 3 if an event times a stage out, else of version 2.
      */
     public String script() {
-        return withoutEnd(as(Tale.Kind.SCRIPT));
+        return withoutEnd(telling().as(Tale.Kind.SCRIPT));
     }
 
     /**
@@ -91,31 +91,6 @@ public abstract class RequestHistory {
             all.write(part, 0, n);
         }
         return all.toString("UTF-8");
-    }
-
-    /** What the library tells. */
-    final String as(Tale.Kind kind) {
-        Tale tale = tale(kind);
-        if (kind != Tale.Kind.SCRIPT && kind != Tale.Kind.REPORT) {
-            tale.say(Tale.Said.NAME, name);
-            says(tale);
-        }
-        return tale.text(kind);
-    }
-
-    /** The words as they are told. */
-    abstract Tale tale(Tale.Kind kind);
-
-    /** Says the names of stages and callers, values and exceptions. */
-    abstract void says(Tale tale);
-
-    /** What a caller is called. */
-    abstract String who(int who);
-
-    /** What the callers are called, up to the last one that did something. */
-    final String[] callers(long[] words) {
-        int count = Arrays.stream(words).mapToInt(Words::who).max().orElse(-1) + 1;
-        return IntStream.range(0, count).mapToObj(this::who).toArray(String[]::new);
     }
 
     private static String withoutEnd(String line) {

@@ -1,7 +1,8 @@
 package cf.service;
 
-import cf.service.watch.Watch;
-import cf.service.watch.Watched;
+import cf.internal.Ends;
+import cf.internal.Watch;
+import cf.internal.Watched;
 import java.util.Objects;
 import java.util.concurrent.CompletableFuture;
 import java.util.concurrent.Executor;
@@ -11,7 +12,12 @@ import java.util.concurrent.atomic.AtomicLong;
 import java.util.function.Consumer;
 import java.util.function.Supplier;
 
-/** Requests, and the executor that calls the functions of their Async stages where no other is given. Any thread may use it. */
+/**
+ * Opens requests. It has the executor that calls the functions of {@code Async} stages for which no other one is given, and says what all its
+ * requests tell of values, what goes along with their functions, and who is told of their ends. A process needs one. Any thread may use it.
+ *
+ * <p>It has no threads of its own, keeps no list of its requests, and needs no closing: shut the executor down yourself.
+ */
 public final class Service {
     /** For how many stages a request has room at first; more is made where it is needed. */
     private static final int ROOM = Math.max(0, Math.min(Integer.getInteger("cf.room", 32), Machine.MOST_STAGES));
@@ -32,11 +38,17 @@ public final class Service {
         Watched.madeBy((executor, watch) -> new Service(executor, Describe.ALL, null, null, new AtomicLong(), false, watch));
     }
 
-    /** With the executor that {@link CompletableFuture} has where none is given. */
+    /** With the executor that {@link CompletableFuture} uses if none is given: the common pool, or a thread for each task if that has one thread. */
     public Service() {
         this(usual());
     }
 
+    /**
+     * With this executor.
+     *
+     * @param executor calls the functions of {@code Async} stages. If it refuses one, {@code supplyAsync} and {@code runAsync} throw its
+     *        {@link java.util.concurrent.RejectedExecutionException}, and a stage that becomes ready later fails with that
+     */
     public Service(Executor executor) {
         this(Objects.requireNonNull(executor), Describe.ALL, null, null, new AtomicLong(), false, null);
     }
@@ -51,54 +63,64 @@ public final class Service {
         this.watch = watch;
     }
 
-    /** One with the same executor, of whose requests it is told by this function what their values and exceptions are. */
+    /** A service with the same executor, whose requests tell their values and exceptions by this function in histories, texts and recordings. */
     public Service describing(Describe describe) {
         return new Service(executor, Objects.requireNonNull(describe), contexts, ends, requests, goesOn, watch);
     }
 
     /**
-     * One with the same executor, with whose functions these contexts go along: those of the place where each was handed over, and with a flow's
-     * functions those of the place where the request was opened.
+     * A service with the same executor, whose functions are called within the context of the place where each was attached. A function of a flow is
+     * called within that of the place where its request was opened.
      */
     public Service carrying(Contexts contexts) {
         return new Service(executor, describe, Objects.requireNonNull(contexts), ends, requests, goesOn, watch);
     }
 
     /**
-     * One with the same executor, of whose requests this hook is told, each once: when it was closed, and the stages are settled that it had then.
-     * A request of one stage ({@link #supplyAsync}) ends by itself. The hook is called on a thread of its own, with the contexts of the place where
-     * the request was opened. What it throws is logged as a warning of {@code cf.service}.
+     * A service with the same executor, which hands the history of each request to this hook, once: when the request was closed, and the stages are
+     * settled that it had then. What is attached later isn't told. A request of one stage ({@link #supplyAsync}) is over once that is settled; if
+     * more stages were attached by then, close {@code stage.request()}.
+     *
+     * <p>The hook is called on the thread {@code cf-ends}, with one request after another, and within the context of the place where the request was
+     * opened. So it delays no request. What it throws is logged as a warning of {@code cf.service}. While 2,048 requests wait for it, further ones
+     * aren't told, and one warning says so. The thread is no daemon: the JVM waits for it, unless {@code System.exit} ends the JVM.
      */
     public Service onEnd(Consumer<? super History> hook) {
-        return new Service(executor, describe, contexts, new Ends<>(Objects.requireNonNull(hook)), requests, goesOn, watch);
+        return new Service(executor, describe, contexts, new Ends<>(Objects.requireNonNull(hook), "cf.service"), requests, goesOn, watch);
     }
 
-    /** One with the same executor, of whose requests each {@link Request#goesOn goes on}. */
+    /** A service with the same executor, each of whose requests {@link Request#goesOn goes on} if it is full. */
     public Service goesOn() {
         return new Service(executor, describe, contexts, ends, requests, true, watch);
     }
 
-    /** A request by this name, which histories tell. */
+    /**
+     * Opens a request.
+     *
+     * @param name what histories and logs call it, whatever is told of values: put no secret into it. Several requests may have one name
+     */
     public Request request(String name) {
         return request(name, describe);
     }
 
-    /** A request of which it is told by this function what its values and exceptions are. */
+    /** Opens a request that tells its values and exceptions by this function. */
     public Request request(String name, Describe describe) {
         return goingOn(new Request(this, Objects.requireNonNull(name), null, ROOM, Objects.requireNonNull(describe)));
     }
 
+    /** Opens a request that is named by a number, as {@code request 17}. */
     public Request request() {
         return request("request " + requests.getAndIncrement());
     }
 
-    /** A request of one stage, which is closed once that is settled. */
+    /** Opens a request of one stage, whose function the executor calls. The request is closed once that stage is settled. */
     public <T> Stage<T> supplyAsync(Supplier<T> supplier) {
         return Request.oneCall(this, supplier);
     }
 
     /**
-     * Does a flow once more: its promises are completed with these values, in their order.
+     * Opens a request with the stages of a flow, and completes its promises with these values, in their order. {@link Request#stage} gives the stage
+     * of a step. Promises for which there is no value stay open.
      *
      * @throws IllegalArgumentException where there are more values than promises
      */
@@ -115,7 +137,7 @@ public final class Service {
         return goesOn ? request.goesOn() : request;
     }
 
-    /** An executor that hands on after a time. */
+    /** An executor that hands each task to another one after a time, as {@link CompletableFuture}'s of that name. */
     public static Executor delayedExecutor(long delay, TimeUnit unit, Executor executor) {
         Objects.requireNonNull(unit);
         Objects.requireNonNull(executor);

@@ -1,5 +1,7 @@
 package cf.service;
 
+import cf.internal.Form;
+import cf.internal.Words;
 import java.util.Arrays;
 import java.util.BitSet;
 import java.util.function.IntPredicate;

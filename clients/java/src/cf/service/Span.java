@@ -7,7 +7,14 @@ import java.util.Map;
 /** What {@link History#spans} tells of a request, or of one call of a function, for OpenTelemetry. */
 public final class Span {
     /** How what it is about ended: it hasn't, with a value, or with an exception. */
-    public enum Status { UNSET, OK, ERROR }
+    public enum Status {
+        /** It isn't settled. */
+        UNSET,
+        /** It ended with a value. */
+        OK,
+        /** It failed or was cancelled. */
+        ERROR
+    }
 
     private final int stage;
     private final String name;
@@ -61,6 +68,7 @@ public final class Span {
         return sources;
     }
 
+    /** How it ended. */
     public Status status() {
         return status;
     }

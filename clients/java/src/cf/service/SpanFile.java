@@ -1,5 +1,6 @@
 package cf.service;
 
+import cf.internal.Text;
 import java.io.IOException;
 import java.io.UncheckedIOException;
 import java.nio.charset.StandardCharsets;

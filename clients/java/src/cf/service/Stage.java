@@ -1,5 +1,7 @@
 package cf.service;
 
+import cf.internal.Form;
+import cf.internal.Text;
 import cf.service.Faults.Fault;
 import java.util.List;
 import java.util.Objects;
@@ -18,10 +20,50 @@ import java.util.function.Function;
 import java.util.function.Supplier;
 
 /**
- * A {@link CompletableFuture} whose state the machine of a request decides: each method that changes something is a word of its history.
+ * A {@link CompletableFuture} of a request: each call that changes something is an event of the request's history. Its state is decided by the
+ * request's machine, which is proved. The part that it inherits of {@code CompletableFuture} is told what was decided, wakes those who wait, and
+ * serves what the JDK's classes attach by themselves.
  *
- * <p>It is a CompletableFuture, so that all that takes one takes it. The part that it inherits is told what the machine has decided, wakes
- * who waits, and serves what Java's own classes attach by themselves, as the static methods of CompletableFuture do; it decides nothing.
+ * <p>A function without {@code Async} is called by the thread that settles the stage's source, once all else is settled that follows from that
+ * event; if several are ready, that of the lowest stage comes first. If the source is settled, the attaching call calls it. Behind a stage that timed
+ * out it is called on a daemon thread named {@code cf-timeout}. A function whose stage is settled before its turn isn't called. No lock is held
+ * while a function is called. A function that runs is never stopped: if its stage is settled meanwhile, its answer comes too late, and the history
+ * says so.
+ *
+ * <p>Exceptions, their wrapping, interrupts and cancellation are as in {@code CompletableFuture}. A stage that is cancelled or times out has an
+ * exception of its own, and so has each stage right behind one that failed, which costs what an exception costs. A call that finds its stack
+ * nearly full throws {@link StackOverflowError} and changes nothing. What else differs from {@code CompletableFuture}:
+ *
+ * <table>
+ * <caption>Differences, and how many events of 8 bytes a stage takes until it is settled</caption>
+ * <tr><th>Methods</th><th>What differs</th><th>Events</th></tr>
+ * <tr><td>{@code supplyAsync}, {@code runAsync}</td><td>methods of {@link Request}</td><td>3: attached, claimed, finished</td></tr>
+ * <tr><td>{@code thenApply}, {@code thenAccept}, {@code thenRun}, {@code handle}, {@code whenComplete}, {@code exceptionally}, {@code thenCombine},
+ * {@code thenAcceptBoth}, {@code runAfterBoth}, {@code applyToEither}, {@code acceptEither}, {@code runAfterEither}, with and without
+ * {@code Async}</td><td>of several ready functions without {@code Async} the JDK calls the one that was attached last. If several sources are settled
+ * by one event, an either form takes the first one. An executor gets a task only for a function that is to be called</td><td>3; 1 if the function
+ * isn't called</td></tr>
+ * <tr><td>{@code thenCompose}, {@code exceptionallyCompose}</td><td>take two stages</td><td>4, and 1 for the relay</td></tr>
+ * <tr><td>{@code allOf}, {@code anyOf}</td><td>methods of {@link Request}; of n stages they take n - 1, in a {@link Flow} one</td><td>1
+ * each</td></tr>
+ * <tr><td>{@code completedFuture}, {@code failedFuture}, {@code completedStage}, {@code failedStage}</td><td>methods of
+ * {@link Request}</td><td>2</td></tr>
+ * <tr><td>{@code copy}, {@code minimalCompletionStage}</td><td></td><td>1</td></tr>
+ * <tr><td>{@code newIncompleteFuture}</td><td>gives a {@code CompletableFuture} that is no stage. Other methods don't ask the
+ * {@code newIncompleteFuture} of a subclass</td><td>0</td></tr>
+ * <tr><td>{@code complete}, {@code completeExceptionally}, {@code cancel}, {@code orTimeout}, {@code completeOnTimeout},
+ * {@code completeAsync}</td><td> the history tells of calls that came too late</td><td>1</td></tr>
+ * <tr><td>{@code get}, {@code join}, {@code getNow}, {@code resultNow}, {@code exceptionNow}, {@code isDone}, {@code isCancelled},
+ * {@code isCompletedExceptionally}, {@code toString}, {@code getNumberOfDependents}</td><td>tell what the request says. The JDK's own code, such as
+ * {@code CompletableFuture.allOf(stage)} or {@code state()}, looks at fields that the settling thread writes a moment later, so it may find a stage
+ * still running. That can happen only if another thread waits for the stage, or if the JDK has attached something to it.
+ * {@code getNumberOfDependents} counts what was attached</td><td>0</td></tr>
+ * <tr><td>{@code obtrudeValue}, {@code obtrudeException}</td><td>throw {@link UnsupportedOperationException}</td><td></td></tr>
+ * <tr><td>a second stage of another request, or any other {@link CompletionStage}</td><td>gets a relay: {@link Request#adopt}</td><td>2
+ * more</td></tr>
+ * </table>
+ *
+ * <p>{@code CompletableFuture.allOf(stage, ..)} and other classes of the JDK work on stages, and what they attach isn't in the history.
  */
 public class Stage<T> extends Waits<T> {
     final Request request;
@@ -100,6 +142,7 @@ public class Stage<T> extends Waits<T> {
         super.tells(outcome);
     }
 
+    /** The request that it belongs to. */
     public Request request() {
         return request;
     }

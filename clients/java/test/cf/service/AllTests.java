@@ -1,13 +1,25 @@
 package cf.service;
 
-import cf.service.testing.OrdersTest;
-import cf.service.testing.StoredOrdersTest;
+import cf.internal.Native;
+import cf.store.EtcdTest;
+import cf.store.StoreFaultsTest;
+import cf.store.StoredFunctionsTest;
+import cf.store.StoresTest;
+import cf.testing.OrdersTest;
+import cf.testing.StoredOrdersTest;
 import java.util.Arrays;
 import java.util.LinkedHashSet;
 import java.util.Set;
 import java.util.concurrent.Callable;
 
-/** Runs all tests, or those that are named, one after another in one process. They ask what OpenJDK's tests can't know of. */
+/**
+ * Runs all tests, or those that are named, one after another in one process. They ask what OpenJDK's tests can't know of.
+ *
+ * <p>Requests in stores are tested over SQLite, if the class path has its driver, and over etcd, if {@code etcd} is there. If {@code CF_STORES} is
+ * the address of a PostgreSQL, as {@code postgresql://postgres@127.0.0.1:5432/postgres}, they are tested over that, and nothing else is;
+ * {@code conformance/stores/over} starts one. What Java and Python do together is tested if {@code CF_LIBRARY} names {@code libcf.so}. Threads are
+ * stopped by a debugger, if the JDK has the module {@code jdk.jdi}. {@code told.json} is found from the top, or from {@code clients/java}.
+ */
 public final class AllTests {
     private static int tests;
     /** Names of tests that are still to be run; null where all are. */
@@ -86,6 +98,7 @@ public final class AllTests {
         test("one call", HistoriesTest::oneCall);
         test("histories", HistoriesTest::histories);
         test("histories of many threads", HistoriesTest::manyThreads);
+        test("numbers of callers", HistoriesTest::callers);
         test("pages", HistoriesTest::pages);
         test("what the library tells", TaleTest::told);
         test("texts of all kinds", TaleTest::texts);
@@ -177,6 +190,7 @@ public final class AllTests {
         test("puts that come late", StoredOrdersTest::late);
         test("moves between an answer and the next line", StoredOrdersTest::between);
         test("killed processes in every order", StoredOrdersTest::killed);
+        test("who attaches to a closed request in every order", StoredOrdersTest::attached);
         test("further tries in every order", StoredOrdersTest::triesAgain);
         test("processes taken for gone in every order", StoredOrdersTest::slow);
         test("clocks of processes", StoredOrdersTest::clocks);
@@ -196,6 +210,7 @@ public final class AllTests {
         test("who is gone", StoresTest::gone);
         test("which errors of PostgreSQL say that it is away", StoreFaultsTest::away);
         test("the module of JDBC", StoresTest::module);
+        test("what the module exports", StoresTest::exported);
         if (StoresTest.hasDriver()) {
             over(StoresTest.InFile::new, "puts of several threads to SQLite", StoresTest::together);
             test("jobs that no thread took", StoresTest::noThread);
@@ -221,6 +236,9 @@ public final class AllTests {
             over(EtcdTest.Server::new, "functions of requests in etcd", StoresTest::functions);
             over(EtcdTest.Server::new, "services that share a cluster", StoresTest::others);
             over(EtcdTest.Server::new, "closed requests in etcd", StoresTest::closed);
+            over(EtcdTest.Server::new, "words that open a request again in etcd", StoresTest::opens);
+            over(EtcdTest.Server::new, "who attaches to a closed request in etcd, and is killed", StoresTest::killedAtAttach);
+            over(EtcdTest.Server::new, "an attach that etcd is silent about", StoresTest::silentAtAttach);
             over(EtcdTest.Server::new, "timers in etcd", StoresTest::timers);
             over(EtcdTest.Server::new, "stages in etcd, settled once", StoresTest::settled);
             over(EtcdTest.Server::new, "functions that compose in etcd", StoredFunctionsTest::composing);
@@ -247,6 +265,11 @@ public final class AllTests {
         over(place, "functions of requests in " + engine, StoresTest::functions);
         over(place, "services that share a " + kind, StoresTest::others);
         over(place, "closed requests in " + engine, StoresTest::closed);
+        over(place, "words that open a request again in " + engine, StoresTest::opens);
+        over(place, "news of closed requests in " + engine, StoresTest::news);
+        over(place, "who attaches to a closed request in " + engine + ", and is killed", StoresTest::killedAtAttach);
+        over(place, "an attach that " + engine + " is silent about", StoresTest::silentAtAttach);
+        over(place, "who waits for the last word in " + engine, StoresTest::toldAtTheEnd);
         over(place, "timers in " + engine, StoresTest::timers);
         over(place, "stages in " + engine + ", settled once", StoresTest::settled);
         over(place, "a process that dies", StoresTest::dies);
@@ -283,6 +306,10 @@ public final class AllTests {
     }
 
     private static void test(String name, Checks.Test test) {
+        if (Boolean.getBoolean("test.list")) {
+            System.out.println("test: " + name);
+            return;
+        }
         if (chosen != null && !chosen.remove(name)) {
             return;
         }

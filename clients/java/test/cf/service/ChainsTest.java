@@ -5,6 +5,7 @@ import static cf.service.Checks.is;
 import static cf.service.Checks.SERVICE;
 import static cf.service.Checks.thrown;
 
+import cf.internal.Form;
 import java.util.ArrayList;
 import java.util.Arrays;
 import java.util.List;

@@ -1,5 +1,6 @@
 package cf.service;
 
+import cf.internal.Words;
 import java.io.IOException;
 import java.lang.management.LockInfo;
 import java.lang.management.ManagementFactory;
@@ -10,10 +11,7 @@ import java.nio.file.Files;
 import java.nio.file.Path;
 import java.nio.file.Paths;
 import java.util.Arrays;
-import java.util.HashSet;
-import java.util.List;
 import java.util.Objects;
-import java.util.Set;
 import java.util.concurrent.CompletableFuture;
 import java.util.concurrent.CompletionStage;
 import java.util.concurrent.CountDownLatch;
@@ -28,7 +26,7 @@ public final class Checks {
 
     private Checks() {}
 
-    interface Test {
+    public interface Test {
         void run() throws Exception;
     }
 
@@ -42,19 +40,6 @@ public final class Checks {
         if (!text.contains(part)) {
             throw new AssertionError(text + " hasn't " + part);
         }
-    }
-
-    /** The stages of a row that a finish with a value has settled, since no word has settled them before. */
-    public static Set<Integer> finished(List<Store.Entry> row) {
-        Set<Integer> settled = new HashSet<>(), finished = new HashSet<>();
-        for (Store.Entry entry : row) {
-            int kind = Words.kind(entry.word);
-            if (kind != Words.ATTACH && kind != Words.CLAIM && !Words.linking(entry.word) && settled.add(Words.stage(entry.word))
-                    && kind == Words.FINISH && !Words.throwing(entry.word)) {
-                finished.add(Words.stage(entry.word));
-            }
-        }
-        return finished;
     }
 
     /** Whether a stage is settled, for which no other thread goes on first where a test is run in all orders. */
@@ -79,7 +64,7 @@ public final class Checks {
         }
     }
 
-    static <X extends Throwable> X thrown(Class<X> kind, Test test) {
+    public static <X extends Throwable> X thrown(Class<X> kind, Test test) {
         try {
             test.run();
         } catch (Throwable thrown) {
@@ -111,6 +96,8 @@ public final class Checks {
     }
 
     static final class Broken extends Error {
+        private static final long serialVersionUID = 1;
+
         Broken() {
             super("broken");
         }

@@ -3,7 +3,7 @@ package cf.service;
 import static cf.service.Checks.is;
 import static cf.service.Checks.SERVICE;
 
-import cf.service.testing.Orders;
+import cf.testing.Orders;
 import java.util.ArrayList;
 import java.util.Arrays;
 import java.util.Collections;

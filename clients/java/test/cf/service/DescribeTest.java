@@ -4,6 +4,7 @@ import static cf.service.Checks.INLINE;
 import static cf.service.Checks.is;
 import static cf.service.Checks.thrown;
 
+import cf.internal.Text;
 import java.lang.ref.WeakReference;
 import java.nio.file.Files;
 import java.nio.file.Path;

@@ -6,6 +6,7 @@ import static cf.service.Checks.is;
 import static cf.service.Checks.resident;
 import static cf.service.Checks.SERVICE;
 
+import cf.internal.Freed;
 import com.sun.management.GarbageCollectionNotificationInfo;
 import java.lang.management.GarbageCollectorMXBean;
 import java.lang.management.ManagementFactory;

@@ -7,10 +7,13 @@ import static cf.service.Checks.refusing;
 import static cf.service.Checks.SERVICE;
 import static cf.service.Checks.thrown;
 
+import cf.internal.Words;
 import java.util.ArrayList;
 import java.util.Arrays;
 import java.util.HashSet;
 import java.util.List;
+import java.util.Set;
+import java.util.TreeSet;
 import java.util.concurrent.CompletableFuture;
 import java.util.concurrent.CompletionException;
 import java.util.concurrent.CompletionStage;
@@ -21,6 +24,8 @@ import java.util.concurrent.ExecutorService;
 import java.util.concurrent.Executors;
 import java.util.concurrent.RejectedExecutionException;
 import java.util.concurrent.TimeUnit;
+import java.util.stream.Collectors;
+import java.util.stream.IntStream;
 
 /** Which thread calls a stage's function, and by which executor? What if the function or the executor throws? */
 final class FunctionsTest {
@@ -215,6 +220,8 @@ final class FunctionsTest {
             is(each.join(), 2);
         }
         is(calling.history().toString().contains("some thread attaches"), true);
+        Set<Integer> numbers = Arrays.stream(calling.history().words()).mapToObj(Words::who).collect(Collectors.toCollection(TreeSet::new));
+        is(numbers, IntStream.range(Request.FIRST_THREAD, 64).boxed().collect(Collectors.toSet()));
     }
 
     static void refusedTasks() {

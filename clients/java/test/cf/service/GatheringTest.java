@@ -112,7 +112,7 @@ final class GatheringTest {
         Stage<Void> all = gathering.allOf(row);
         Stage<Object> any = gathering.anyOf(mixed);
         is(lives.getNumberOfDependents(), 1);
-        ((Stage<?>) row[7]).complete(null);
+        row[7].complete(null);
         is(any.isDone(), true);
         is(lives.getNumberOfDependents(), 0);
         for (Stage<?> each : row) {

@@ -16,7 +16,7 @@ import java.util.concurrent.TimeoutException;
 import java.util.concurrent.atomic.AtomicInteger;
 import java.util.function.Supplier;
 
-/** What README.md says to write for what isn't there, row by row. */
+/** What GUIDE.md says to write for limits, scopes, several stages, later starts and further tries. */
 final class InsteadTest {
     private InsteadTest() {}
 

@@ -2,6 +2,8 @@ package cf.service;
 
 import static cf.service.Checks.is;
 
+import cf.internal.Form;
+import cf.internal.Words;
 import java.util.ArrayList;
 import java.util.Arrays;
 import java.util.IdentityHashMap;

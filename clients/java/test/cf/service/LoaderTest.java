@@ -3,6 +3,7 @@ package cf.service;
 import static cf.service.Checks.is;
 import static cf.service.Checks.thrown;
 
+import cf.internal.Native;
 import java.io.InputStream;
 import java.lang.ref.WeakReference;
 import java.lang.reflect.InvocationTargetException;

@@ -3,6 +3,9 @@ package cf.service;
 import static cf.service.Checks.is;
 import static cf.service.Checks.thrown;
 
+import cf.internal.Form;
+import cf.internal.Native;
+import cf.internal.Words;
 import java.util.ArrayList;
 import java.util.Arrays;
 import java.util.List;
@@ -197,7 +200,7 @@ final class MachineTest {
         History history = new History("causes", null, machine, new String[3], new Object[0], new Throwable[0], threads, null);
         is(history.script(), "{\"cf\":3,\"room\":3,\"stages\":[],\"steps\":[[\"attach\",{\"form\":\"source\"}],"
                 + "[\"attach\",{\"form\":\"handle\",\"of\":[0],\"fn\":{\"const\":1}}],[\"attach\",{\"form\":\"source\"}],"
-                + "[\"failAs\",0,\"badanswer\"],[\"claim\",2,1],[\"failAs\",2,\"timeout\"],[\"failAs\",2,\"badanswer\"]]}");
+                + "[\"failAs\",0,\"badanswer\"],[\"claim\",3,1],[\"failAs\",2,\"timeout\"],[\"failAs\",2,\"badanswer\"]]}");
         is(history.report(), "attached 0\nattached 1\nattached 2\ntrue\ngranted got fault badanswer raw\ntrue\nfalse\n"
                 + "stage 0 fault badanswer raw\nstage 1 pending\nstage 2 fault timeout raw\n");
         String said = history.toString();

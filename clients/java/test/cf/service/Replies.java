@@ -1,5 +1,6 @@
 package cf.service;
 
+import cf.internal.Words;
 import java.util.ArrayList;
 import java.util.Arrays;
 import java.util.List;

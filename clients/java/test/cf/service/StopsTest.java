@@ -2,6 +2,9 @@ package cf.service;
 
 import static cf.service.Checks.is;
 
+import cf.internal.Form;
+import cf.internal.Freed;
+import cf.internal.Words;
 import com.sun.jdi.Bootstrap;
 import com.sun.jdi.ClassType;
 import com.sun.jdi.Location;
@@ -142,7 +145,7 @@ public final class StopsTest {
 
     /** Where cores are handled: all of these classes, and these methods of a machine. */
     private static final List<String> CLASSES = Arrays.asList("cf.service.Machine$Core", "cf.service.Machine$Core$Outside", "cf.service.Machine$Pool",
-            "cf.service.Freed"), METHODS = Arrays.asList("<init>", "core", "taken", "open", "first", "over", "rest", "rests", "restsUnasked");
+            "cf.internal.Freed"), METHODS = Arrays.asList("<init>", "core", "taken", "open", "first", "over", "rest", "rests", "restsUnasked");
 
     private final Set<Location> places = new LinkedHashSet<>();
     private Iterator<Location> left;
@@ -188,7 +191,7 @@ public final class StopsTest {
                 ClassType own = (ClassType) ((BreakpointEvent) event).location().declaringType();
                 death = (ObjectReference) own.getValue(own.fieldByName("DEATH"));
                 StepRequest steps = led.eventRequestManager().createStepRequest(thread, StepRequest.STEP_MIN, StepRequest.STEP_INTO);
-                steps.addClassFilter("cf.service.*");
+                steps.addClassFilter("cf.*");
                 steps.enable();
             }
         }

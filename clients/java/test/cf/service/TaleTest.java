@@ -3,6 +3,10 @@ package cf.service;
 import static cf.service.Checks.is;
 import static cf.service.Checks.thrown;
 
+import cf.internal.Form;
+import cf.internal.Native;
+import cf.internal.Tale;
+import cf.internal.Words;
 import java.nio.charset.StandardCharsets;
 import java.nio.file.Files;
 import java.nio.file.Path;

@@ -7,7 +7,8 @@ import static cf.service.Checks.SERVICE;
 import static cf.service.Checks.thrown;
 import static cf.service.Checks.timeOut;
 
-import cf.service.testing.Orders;
+import cf.internal.Words;
+import cf.testing.Orders;
 import java.util.ArrayList;
 import java.util.Arrays;
 import java.util.Collections;
@@ -99,7 +100,7 @@ final class TimeoutsTest {
         for (long each : history.words()) {
             word = Words.kind(each) == Words.FAIL_AS ? each : word;
         }
-        is(word, 8L << 56);
+        is(word, 8L << 56 | 1L << 48);
         is(Words.name(word), "failAs");
         // Each has its own; who comes too late is told so.
         Request otherTimed = SERVICE.request();

@@ -402,6 +402,24 @@ fn others_move_before_an_answer_comes() {
 }
 
 #[test]
+fn what_is_attached_to_a_closed_request_is_called_whoever_is_killed() {
+    let report = orders(|world| {
+        let store = world.store(Bounds::new().killed(1));
+        let functions = Functions::new().with("charge", 1, || Done::Ok(()));
+        let _worker = store.worker("worker", &functions);
+        let shop = store.process("shop", &functions);
+        let mut flow = Flow::new("order");
+        flow.promise("order");
+        let request = shop.start(&flow, "order 17", &[json!(17)]).unwrap();
+        shop.calls("client", move || drop(request.supply("charge", &[])));
+        world.end_is(move || store.outcomes().join(", "));
+    });
+    let over = "order 17: order ends: 17";
+    let gone = "order 17: charge ends: the worker that ran charge is gone, and it may have run";
+    assert_eq!(ends(&report), [over.into(), format!("{over}, order 17: charge ends: null"), format!("{over}, {gone}")]);
+}
+
+#[test]
 fn a_killed_process_does_nothing_more() {
     let report = orders(|world| {
         let (store, log, its) = (world.store(Bounds::new().killed(1)), Shared::<Vec<&str>>::default(), world.clone());
@@ -641,7 +659,10 @@ fn a_further_try_is_called_with_the_same() {
         let report = orders(move |world| {
             let (store, called) = (world.store(Bounds::new().killed(1)), Shared::<Vec<u32>>::default());
             let calls = called.clone();
-            let functions = Functions::new().with("load", 1, move |number: u32| Done::Ok(calls.get().push(number)));
+            let functions = Functions::new().with("load", 1, move |number: u32| {
+                calls.get().push(number);
+                Done::Ok(())
+            });
             let request = store.process_with("shop", &functions, ProcessOptions::new().workers(0)).request("order").unwrap();
             let [one, two] = ["one", "two"].map(|name| request.promise(name).unwrap());
             let before = is_before.then(|| one.either(&two, "load").unwrap());

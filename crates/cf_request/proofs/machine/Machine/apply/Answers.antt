@@ -1,4 +1,6 @@
 use Rattle.std.proofs.Common.{◌-◌, ◌≤◌, ◌∙◌, ℕ, List, ap, arith, length, refl, subst}
+use Rattle.std.specs.Prelude.{vec_capacity}
+use Rattle.std.specs.VecDeque.{deque_capacity}
 use Rattle.cf_ledger.specs.Ledgers.{state_of}
 use Rattle.cf_request.specs.Machines.{AppliesWord, Machine}
 use Rattle.cf_request.specs.Ready.{with_lane}
@@ -45,7 +47,7 @@ returns-clause-done c =
     let d = c.catch_up.new.teller in
     let most = c.self.invariant.2.most in
     let few = c.self.invariant.2.few in
-    let new : Machine = record { teller = d; follows = m.follows.items; deadlines = m.deadlines.items; moment = m.moment; own = m.own } in
+    let new : Machine = record { teller = d; follows = m.follows.items; deadlines = m.deadlines.items; moment = m.moment; own = m.own; relay_places = vec_capacity m.follows; deadline_places = deque_capacity m.deadlines } in
     subst (λ (old : Machine). AppliesWord c.args.word c.args.lane old c.in_ok-reply.reply new) c.self.view_is
     (record {
       found = c.reserve.new.self;

@@ -1,4 +1,6 @@
 use Rattle.std.proofs.Common.{arith, subst}
+use Rattle.std.specs.Prelude.{vec_capacity}
+use Rattle.std.specs.VecDeque.{deque_capacity}
 use Rattle.cf_request.specs.Machines.{CancelsAll, Machine}
 use Rattle.cf_request.specs.Refusals.{IsCancelled}
 use Rattle.cf_request.specs.Relays.{IsRelayOr}
@@ -20,7 +22,7 @@ invariant_of-self-2 c =
 pub returns-clause-cancels : goal.returns-clause-cancels
 returns-clause-cancels c =
     let m = c.self.inside in
-    let old : Machine = record { teller = m.teller; follows = m.follows.items; deadlines = m.deadlines.items; moment = m.moment; own = m.own } in
+    let old : Machine = record { teller = m.teller; follows = m.follows.items; deadlines = m.deadlines.items; moment = m.moment; own = m.own; relay_places = vec_capacity m.follows; deadline_places = deque_capacity m.deadlines } in
     subst (λ (x : Machine). CancelsAll c.args.who x (record old { teller = c.end_all.new.teller })) c.self.view_is
     (cancels_is old c.reserve.new.self c.end_all.new.teller c.deref.result.now c.args.who c.open_stages.result c.deref.ensures.value c.open_stages.ensures c.in_ok-reserve.ensures.found (omega arith)
     c.end_all.ensures.none c.end_all.ensures.settles)

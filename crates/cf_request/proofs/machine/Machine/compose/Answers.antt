@@ -1,4 +1,6 @@
 use Rattle.std.proofs.Common.{◌+◌, ◌≡◌, ◌∙◌, ◌∷◌, ◌++◌, [], ℕ, List, ap, arith, length, refl, subst}
+use Rattle.std.specs.Prelude.{vec_capacity}
+use Rattle.std.specs.VecDeque.{deque_capacity}
 use Rattle.cf_ledger.specs.Ledgers.{state_of}
 use Rattle.cf_model.specs.declared.events.Event.{Event}
 use Rattle.cf_request.specs.Composing.{Composes, composes}
@@ -24,7 +26,7 @@ invariant_of-self-2 c =
 pub returns-clause-done : goal.returns-clause-done
 returns-clause-done c =
     let m = c.self.inside in
-    let new : Machine = record { teller = c.compose.new.teller; follows = m.follows.items; deadlines = m.deadlines.items; moment = m.moment; own = m.own } in
+    let new : Machine = record { teller = c.compose.new.teller; follows = m.follows.items; deadlines = m.deadlines.items; moment = m.moment; own = m.own; relay_places = vec_capacity m.follows; deadline_places = deque_capacity m.deadlines } in
     let most = c.self.invariant.2.most in
     let few = c.self.invariant.2.few in
     let same = ap (λ (t : Teller). length (state_of t.ledger).plan.stages) c.in_ok-reserve.ensures.found in
@@ -48,7 +50,7 @@ returns-clause-written c =
 pub returns-clause-calls : goal.returns-clause-calls
 returns-clause-calls c =
     let m = c.self.inside in
-    let first : Machine = record { teller = m.teller; follows = m.follows.items; deadlines = m.deadlines.items; moment = m.moment; own = m.own } in
+    let first : Machine = record { teller = m.teller; follows = m.follows.items; deadlines = m.deadlines.items; moment = m.moment; own = m.own; relay_places = vec_capacity m.follows; deadline_places = deque_capacity m.deadlines } in
     let most = c.self.invariant.2.most in
     let enough = c.in_ok-reserve.ensures.enough in
     subst (λ (old : Machine). AreCalls old (nothing ∷ nothing ∷ nothing ∷ []) (record first { teller = c.compose.new.teller })) c.self.view_is

@@ -1,5 +1,6 @@
 use Rattle.std.proofs.Common.{◌+◌, ◌≤◌, ℕ, List, ap, arith, length, subst, sym}
-use Rattle.std.specs.Prelude.{Some}
+use Rattle.std.specs.Prelude.{Some, vec_capacity}
+use Rattle.std.specs.VecDeque.{deque_capacity}
 use Rattle.cf_forms.specs.declared.forms.Answer.TheVariants.{Link}
 use Rattle.cf_ledger.specs.Ledgers.{state_of}
 use Rattle.cf_ledger.specs.declared.step.Held.{Held}
@@ -49,7 +50,7 @@ returns c =
     let m = c.self.inside in
     let b = c.finish-finish.new.teller in
     let d = c.catch_up.new.teller in
-    let first : Machine = record { teller = m.teller; follows = m.follows.items; deadlines = m.deadlines.items; moment = m.moment; own = m.own } in
+    let first : Machine = record { teller = m.teller; follows = m.follows.items; deadlines = m.deadlines.items; moment = m.moment; own = m.own; relay_places = vec_capacity m.follows; deadline_places = deque_capacity m.deadlines } in
     let enough = subst (λ (x : Machine). 1 + waiting_in x ≤ free_in x) (sym c.self.view_is) c.requires.memory in
     subst (λ (old : Machine). FinishesClaimed c.args.who c.args.composed old c.finish-finish.result (record first { teller = d })) c.self.view_is
     (finishes_claimed c.args.who c.args.composed first c.finish-finish.result b d c.lanes-known.ensures.all c.finish-finish.ensures

@@ -1,4 +1,6 @@
 use Rattle.std.proofs.Common.{◌∙◌, ◌∷◌, ◌++◌, [], ◌+◌, List, ap, arith, length, refl, subst}
+use Rattle.std.specs.Prelude.{vec_capacity}
+use Rattle.std.specs.VecDeque.{deque_capacity}
 use Rattle.cf_ledger.specs.Ledgers.{state_of}
 use Rattle.cf_request.specs.Machines.{IsMachine, Machine, SetsFollow}
 use Rattle.cf_request.specs.Relays.{AreRelays, IsRelayDue, NoneBehind}
@@ -67,11 +69,13 @@ returns-clause-set c =
     let few = c.self.invariant.2.few in
     let count = c.stages-stages.ensures.count in
     let same = ap (λ (t : Teller). length (state_of t.ledger).plan.stages) c.in_ok-reserve.ensures.found in
-    let new : Machine = record { teller = e; follows = c.push_reserved.new.self.items; deadlines = m.deadlines.items; moment = m.moment; own = m.own } in
+    let new : Machine = record { teller = e; follows = c.push_reserved.new.self.items; deadlines = m.deadlines.items; moment = m.moment; own = m.own; relay_places = vec_capacity c.push_reserved.new.self; deadline_places = deque_capacity m.deadlines } in
     subst (λ (old : Machine). SetsFollow c.args.relay c.args.stage old new) c.self.view_is
     (record {
       there = (omega (arith, count, same, c.if-relay-stages.false), omega (arith, count, same, c.if-stage-stages.false));
       set = c.push_reserved.ensures.items ∙ ap (λ (l : List Follow). l ++ f ∷ []) c.in_ok-reserve-2.ensures.items;
+      fits = omega (arith, c.push_reserved.new.self.ok);
+      places = omega (arith, c.push_reserved.ensures.capacity, c.in_ok-reserve-2.ensures.capacity);
       found = r;
       finds = record { words = 1 + m.waiting; enough = omega (arith, most); few = omega (arith, few); is = c.in_ok-reserve.ensures.found };
       catches_up = record {

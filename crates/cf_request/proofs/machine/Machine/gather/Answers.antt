@@ -1,4 +1,6 @@
 use Rattle.std.proofs.Common.{◌+◌, ◌≡◌, ◌∙◌, ◌∷◌, ◌++◌, ℕ, List, ap, arith, length, refl, replicate, subst}
+use Rattle.std.specs.Prelude.{vec_capacity}
+use Rattle.std.specs.VecDeque.{deque_capacity}
 use Rattle.cf_ledger.specs.Ledgers.{state_of}
 use Rattle.cf_request.specs.Attaching.{TellsAttaches}
 use Rattle.cf_request.specs.Gathering.{Gathers, gathers, stages_for}
@@ -25,7 +27,7 @@ invariant_of-self-2 c =
 pub returns-clause-done : goal.returns-clause-done
 returns-clause-done c =
     let m = c.self.inside in
-    let new : Machine = record { teller = c.gather.new.teller; follows = m.follows.items; deadlines = m.deadlines.items; moment = m.moment; own = m.own } in
+    let new : Machine = record { teller = c.gather.new.teller; follows = m.follows.items; deadlines = m.deadlines.items; moment = m.moment; own = m.own; relay_places = vec_capacity m.follows; deadline_places = deque_capacity m.deadlines } in
     let most = c.self.invariant.2.most in
     let few = c.self.invariant.2.few in
     let count = c.in_ok-count.ensures.count in
@@ -52,7 +54,7 @@ returns-clause-written c =
 pub returns-clause-calls : goal.returns-clause-calls
 returns-clause-calls c =
     let m = c.self.inside in
-    let first : Machine = record { teller = m.teller; follows = m.follows.items; deadlines = m.deadlines.items; moment = m.moment; own = m.own } in
+    let first : Machine = record { teller = m.teller; follows = m.follows.items; deadlines = m.deadlines.items; moment = m.moment; own = m.own; relay_places = vec_capacity m.follows; deadline_places = deque_capacity m.deadlines } in
     let most = c.self.invariant.2.most in
     let count = c.in_ok-count.ensures.count in
     let enough = c.in_ok-reserve.ensures.enough in

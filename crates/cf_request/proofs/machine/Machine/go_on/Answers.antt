@@ -1,4 +1,6 @@
 use Rattle.std.proofs.Common.{◌+◌, ◌<◌, ℕ, List, ap, arith, inr, length, refl, subst, sym}
+use Rattle.std.specs.Prelude.{vec_capacity}
+use Rattle.std.specs.VecDeque.{deque_capacity}
 use Rattle.cf_ledger.specs.Ledgers.{state_of}
 use Rattle.cf_request.specs.Lanes.{IsIdle}
 use Rattle.cf_request.specs.Machines.{GoesOn, Machine}
@@ -73,7 +75,7 @@ returns-clause-done c =
     let e = c.take-taken.new.teller in
     let most = c.self.invariant.2.most in
     let few = c.self.invariant.2.few in
-    let new : Machine = record { teller = e; follows = m.follows.items; deadlines = m.deadlines.items; moment = m.moment; own = m.own } in
+    let new : Machine = record { teller = e; follows = m.follows.items; deadlines = m.deadlines.items; moment = m.moment; own = m.own; relay_places = vec_capacity m.follows; deadline_places = deque_capacity m.deadlines } in
     subst (λ (old : Machine). GoesOn c.args.who c.args.lane c.args.held old (record { finish = c.finish_held-finish.result; taken = c.take-taken.result }) new) c.self.view_is
     (record {
       found = c.reserve.new.self;

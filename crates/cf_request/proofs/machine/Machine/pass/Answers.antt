@@ -1,4 +1,6 @@
-use Rattle.std.proofs.Common.{◌+◌, ◌≤◌, List, arith, length, length-take, refl, subst, sym, take}
+use Rattle.std.proofs.Common.{◌+◌, ◌≤◌, ℕ, List, ap, arith, length, length-take, subst, sym, take}
+use Rattle.std.specs.Prelude.{vec_capacity}
+use Rattle.std.specs.VecDeque.{deque_capacity}
 use Rattle.cf_ledger.specs.Ledgers.{state_of}
 use Rattle.cf_request.specs.Deadlines.{IsOverdue}
 use Rattle.cf_request.specs.Machines.{FindsToPass, Machine, Passes}
@@ -50,7 +52,7 @@ returns-clause-passes c =
     let few = c.self.invariant.2.few in
     let limits = few_limits (state_of m.teller.ledger).stages (take c.come_by-come.result m.deadlines.items) in
     let size = length-take c.come_by-come.result m.deadlines.items in
-    let new : Machine = record { teller = e; follows = m.follows.items; deadlines = c.pass.new.deadlines.items; moment = c.args.moment; own = m.own } in
+    let new : Machine = record { teller = e; follows = m.follows.items; deadlines = c.pass.new.deadlines.items; moment = c.args.moment; own = m.own; relay_places = vec_capacity m.follows; deadline_places = deque_capacity c.pass.new.deadlines } in
     subst (λ (old : Machine). Passes c.args.moment old new) c.self.view_is
     (record {
       onward = omega arith;
@@ -61,7 +63,7 @@ returns-clause-passes c =
       settles = subst (λ (l : List Follow). SettlesDue (IsRelayOr l (IsOverdue c.args.moment m.deadlines.items)) m.own r e) c.deref.ensures.value c.pass.ensures.settles;
       none = (subst (λ (l : List Follow). NoneBehind l (state_of e.ledger).stages) c.deref.ensures.value c.pass.ensures.none.0, c.pass.ensures.none.1);
       forgets = c.pass.ensures.forgets;
-      same = refl;
+      same = ap (λ (k : ℕ). let x : Machine = record new { deadline_places = k } in x) c.pass.ensures.places;
     })
 
 pub returns-then-moment-self-clause-found : goal.returns-then-moment-self-clause-found
@@ -72,6 +74,6 @@ returns-then-moment-self-clause-found c is =
     let limits = few_limits (state_of m.teller.ledger).stages (take c.come_by-come.result m.deadlines.items) in
     let size = length-take c.come_by-come.result m.deadlines.items in
     let enough = c.in_ok-reserve.ensures.enough in
-    let new : Machine = record { teller = r; follows = m.follows.items; deadlines = m.deadlines.items; moment = m.moment; own = m.own } in
+    let new : Machine = record { teller = r; follows = m.follows.items; deadlines = m.deadlines.items; moment = m.moment; own = m.own; relay_places = vec_capacity m.follows; deadline_places = deque_capacity m.deadlines } in
     subst (λ (old : Machine). FindsToPass c.args.moment old new) c.self.view_is
     (record { come = c.come_by-come.result; are_come = c.come_by-come.ensures; enough = omega (arith, most, limits, size, enough) })

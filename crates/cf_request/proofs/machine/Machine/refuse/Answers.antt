@@ -1,4 +1,6 @@
 use Rattle.std.proofs.Common.{subst}
+use Rattle.std.specs.Prelude.{vec_capacity}
+use Rattle.std.specs.VecDeque.{deque_capacity}
 use Rattle.cf_request.specs.Machines.{Machine, Refuses}
 use Rattle.cf_request.specs.Refusals.{IsRefused}
 use Rattle.cf_request.specs.Relays.{IsRelayOr}
@@ -21,7 +23,7 @@ invariant_of-self-2 c =
 pub returns-clause-refuses : goal.returns-clause-refuses
 returns-clause-refuses c =
     let m = c.self.inside in
-    let old : Machine = record { teller = m.teller; follows = m.follows.items; deadlines = m.deadlines.items; moment = m.moment; own = m.own } in
+    let old : Machine = record { teller = m.teller; follows = m.follows.items; deadlines = m.deadlines.items; moment = m.moment; own = m.own; relay_places = vec_capacity m.follows; deadline_places = deque_capacity m.deadlines } in
     subst (λ (x : Machine). Refuses c.args.lane c.args.code x (record old { teller = c.end_all.new.teller })) c.self.view_is
     (refuses_is old c.reserve.new.self c.end_all.new.teller c.deref.result.now c.args.lane c.args.code c.open_stages.result c.deref.ensures.value c.open_stages.ensures c.in_ok-reserve.ensures.found
     c.end_all.ensures.behind c.end_all.ensures.none c.end_all.ensures.settles)

@@ -1,7 +1,0 @@
-package cf.service.testing;
-
-/** What is tried in every order. It is called once for each, makes all anew that it uses, and does the same each time. */
-@FunctionalInterface
-public interface Scenario {
-    void run(World world) throws Exception;
-}

@@ -1,0 +1,453 @@
+package cf.store;
+
+import java.lang.reflect.InvocationHandler;
+import java.lang.reflect.InvocationTargetException;
+import java.lang.reflect.Proxy;
+import java.sql.Connection;
+import java.sql.DriverManager;
+import java.sql.ResultSet;
+import java.sql.SQLException;
+import java.util.ArrayList;
+import java.util.Arrays;
+import java.util.HashMap;
+import java.util.List;
+import java.util.Map;
+import java.util.concurrent.ConcurrentHashMap;
+import java.util.concurrent.ConcurrentLinkedDeque;
+
+/**
+ * Rows in tables, by JDBC: a file of SQLite's, which processes of one machine share, or a database of PostgreSQL's. The tables are those of
+ * Python's {@code cf.store} and Rust's {@code cf-store}. What it has answered is on disk; an engine that is set to lose something is refused.
+ */
+public abstract class JdbcStore implements Store {
+    /** How long a writer waits for an engine that others have, in seconds. */
+    static final int LONGEST_WAIT = 20;
+
+    private static final List<String> ENDS_IT = Arrays.asList("commit", "rollback", "setAutoCommit", "close", "abort");
+
+    private final String url;
+    private final ConcurrentLinkedDeque<PreparedConnection> idle = new ConcurrentLinkedDeque<>();
+    private volatile boolean isClosed;
+
+    JdbcStore(String url) {
+        this.url = url;
+    }
+
+    /**
+     * The store of an address of JDBC's: {@code jdbc:sqlite:FILE}, for which Xerial's driver has to be there, or
+     * {@code jdbc:postgresql://HOST/DATABASE?user=..}.
+     *
+     * @throws StoreException.Unknown the engine doesn't answer
+     * @throws StoreException the address is another engine's, or the engine refuses it
+     */
+    public static JdbcStore open(String url) {
+        JdbcStore store;
+        if (url.startsWith("jdbc:sqlite:")) {
+            store = new SqliteStore(url);
+        } else if (url.startsWith("jdbc:postgresql:")) {
+            store = new PostgresStore(url);
+        } else {
+            throw new StoreException("no store is known by " + url.replaceAll("[?;].*", ""));
+        }
+        store.setUp();
+        return store;
+    }
+
+    /** Makes the tables. */
+    abstract void setUp();
+
+    /** Makes a new connection safe; {@code StoreException} where it can't be. */
+    abstract void prepare(PreparedConnection db) throws SQLException;
+
+    /** Whether it isn't known what became of a statement, or the engine can't write now. */
+    abstract boolean isAway(SQLException error);
+
+    /** Whether a place is taken. */
+    abstract boolean isTaken(SQLException error);
+
+    /** What stands for the engine's clock in a statement. */
+    abstract String clock();
+
+    /** Begins a transaction of a function's; then commits it. */
+    abstract void begin(PreparedConnection db) throws SQLException;
+
+    abstract void commit(PreparedConnection db) throws SQLException;
+
+    /** Takes this thread's turn to write, and gives it to the next one. */
+    void take() {}
+
+    void give() {}
+
+    /** Undoes what such a transaction did, and says whether the engine can't write now. */
+    abstract boolean undoes(PreparedConnection db) throws SQLException;
+
+    /** Something that is done on a connection. */
+    interface Act<T> {
+        T on(PreparedConnection db) throws SQLException;
+    }
+
+    final PreparedConnection connect() throws SQLException {
+        PreparedConnection db = new PreparedConnection(DriverManager.getConnection(url));
+        try {
+            prepare(db);
+        } catch (SQLException | RuntimeException fault) {
+            db.close();
+            throw fault;
+        }
+        return db;
+    }
+
+    /** Uses a connection. One that failed isn't used again, unless it was the statement's fault. */
+    final <T> T using(Act<T> act) {
+        PreparedConnection db = idle.pollFirst();
+        boolean isKept = false;
+        try {
+            if (db == null) {
+                db = connect();
+            }
+            T told = act.on(db);
+            isKept = true;
+            return told;
+        } catch (SQLException error) {
+            isKept = !isAway(error);
+            throw told(error);
+        } finally {
+            if (db != null) {
+                giveBack(db, isKept);
+            }
+        }
+    }
+
+    private void giveBack(PreparedConnection db, boolean isKept) {
+        try {
+            if (isKept && !isClosed && db.db.getAutoCommit()) {
+                idle.addFirst(db);
+                return;
+            }
+            db.close();
+        } catch (SQLException lost) {
+            // It is gone anyway.
+        }
+    }
+
+    final StoreException told(SQLException error) {
+        return isAway(error) ? new StoreException.Unknown(error.getMessage(), error) : new StoreException(error.getMessage(), error);
+    }
+
+    /** Acts on a connection in this thread's turn to write. */
+    final <T> T writing(Act<T> act) {
+        take();
+        try {
+            return using(act);
+        } finally {
+            give();
+        }
+    }
+
+    /** Acts in a transaction of its own. */
+    final <T> T within(Act<T> act) {
+        return writing(inTransaction(act));
+    }
+
+    static <T> Act<T> inTransaction(Act<T> act) {
+        return it -> {
+            it.db.setAutoCommit(false);
+            boolean stands = false;
+            try {
+                T told = act.on(it);
+                it.db.commit();
+                stands = true;
+                return told;
+            } finally {
+                if (!stands) {
+                    it.db.rollback(); // (whatever was thrown: the next call would commit)
+                }
+                it.db.setAutoCommit(true);
+            }
+        };
+    }
+
+    final <T> List<T> ask(String statement, PreparedConnection.Reader<T> reader, Object... values) {
+        return using(db -> db.rows(statement, reader, values));
+    }
+
+    /** How many rows a statement changed, which is a transaction of its own. */
+    final int change(String statement, Object... values) {
+        return writing(db -> db.change(statement, values));
+    }
+
+    /** {@code Gone} where a request of this number isn't there. */
+    final void isThere(String name, long number) {
+        if (ask("select 1 from cf_request where id = ?", row -> 1, number).isEmpty()) {
+            throw new StoreException.Gone(name);
+        }
+    }
+
+    @Override
+    public final Opened open(String name, String plan) {
+        Opened found = find(name);
+        while (found == null) { // (it may be dropped meanwhile)
+            change("insert into cf_request (name, plan, opened) values (?, ?, " + clock() + ") on conflict do nothing", name, plan);
+            found = find(name);
+        }
+        return found;
+    }
+
+    @Override
+    public final Opened find(String name) {
+        List<Opened> found = ask("select plan, id from cf_request where name = ?", row -> new Opened(name, row.getString(1), row.getLong(2)), name);
+        return found.isEmpty() ? null : found.get(0);
+    }
+
+    @Override
+    public final List<Entry> append(Put put) {
+        boolean landed;
+        try {
+            landed = puts(put);
+        } catch (StoreException refused) {
+            if (!(refused.getCause() instanceof SQLException) || !isTaken((SQLException) refused.getCause())) {
+                throw refused;
+            }
+            landed = false;
+        }
+        if (landed) {
+            hasPut();
+            return null;
+        }
+        List<Entry> stands = read(put.request, put.number, put.at);
+        if (stands.isEmpty()) {
+            throw new StoreException.Gone(put.request);
+        }
+        return stands;
+    }
+
+    @Override
+    public final boolean isTransactional() {
+        return true;
+    }
+
+    @Override
+    public Transaction transaction() {
+        return new Within();
+    }
+
+    /** A connection as a transactional function has it: it refuses what ends the transaction, since the function's finish does that. */
+    static Connection lent(Connection db) {
+        InvocationHandler calls = (proxy, method, args) -> {
+            if (ENDS_IT.contains(method.getName()) && (args == null || !method.getName().equals("rollback"))) {
+                throw new SQLException("the finish of a transactional function ends its transaction, and not " + method.getName());
+            }
+            try {
+                return method.invoke(db, args);
+            } catch (InvocationTargetException thrown) {
+                throw thrown.getCause();
+            }
+        };
+        return (Connection) Proxy.newProxyInstance(JdbcStore.class.getClassLoader(), new Class<?>[] {Connection.class}, calls);
+    }
+
+    /** A transaction of a function's, on a connection of its own, in the turn of the thread that makes it. */
+    class Within implements Transaction {
+        private final PreparedConnection db;
+
+        Within() {
+            take();
+            PreparedConnection made = null;
+            try {
+                made = connect();
+                begin(made);
+                made.execute("savepoint cf_function");
+            } catch (SQLException | RuntimeException fault) {
+                leave(made);
+                throw fault instanceof SQLException ? told((SQLException) fault) : (RuntimeException) fault;
+            }
+            db = made;
+        }
+
+        @Override
+        public Connection connection() {
+            return lent(db.db);
+        }
+
+        @Override
+        public boolean isAway() {
+            try {
+                return undoes(db);
+            } catch (SQLException lost) {
+                return true;
+            }
+        }
+
+        @Override
+        public boolean append(Put put) {
+            try {
+                db.execute("release savepoint cf_function"); // (it is there, unless the function has ended the transaction)
+                return put(db, put);
+            } catch (SQLException error) {
+                if (isTaken(error)) {
+                    return false;
+                }
+                throw told(error);
+            }
+        }
+
+        @Override
+        public void commit() {
+            try {
+                JdbcStore.this.commit(db);
+            } catch (SQLException error) {
+                throw told(error);
+            }
+            hasPut();
+        }
+
+        @Override
+        public void close() {
+            leave(db);
+        }
+
+        private void leave(PreparedConnection made) {
+            try {
+                if (made != null) {
+                    made.close(); // What wasn't committed is undone by that.
+                }
+            } catch (SQLException lost) {
+                // It is gone anyway.
+            } finally {
+                give();
+            }
+        }
+    }
+
+    /** Puts a group in a transaction, and says whether it landed. A place that is taken may be an error, too. Nothing of the group stands then. */
+    abstract boolean put(PreparedConnection db, Put put) throws SQLException;
+
+    /** Puts a group, and says whether it landed. What it throws may be due to a place that {@link #isTaken}. */
+    boolean puts(Put put) {
+        return using(db -> put(db, put));
+    }
+
+    private static final String PUT = "insert into cf_word (request, at, word, token, payload) select id, ";
+    private final Map<Integer, String> putGroups = new ConcurrentHashMap<>();
+
+    /** What stands for the request of a number in a statement, as a table that is empty where it isn't there. ({@code where true} ends it for SQLite.) */
+    abstract String there();
+
+    /** Puts a group by one statement, but for payloads of more bytes; whether its request is there and its first place was free. */
+    final boolean putAtOnce(PreparedConnection db, Put put, int most) throws SQLException {
+        int many = put.entries.size();
+        Object[] values = new Object[4 * many + 1];
+        for (int k = 0, at = 0; k < many; k++) {
+            Entry entry = put.entries.get(k);
+            byte[] payload = put.payloads.get(put.at + 1 + k);
+            values[at++] = put.at + k;
+            values[at++] = entry.word;
+            values[at++] = entry.token;
+            values[at++] = payload == null || payload.length > most ? null : payload;
+        }
+        values[4 * many] = put.number;
+        return db.change(putGroups.computeIfAbsent(many, this::putGroup), values) == many;
+    }
+
+    /** Of a group, a place that is taken is an error: else words behind it might stand. */
+    private String putGroup(int many) {
+        String values = String.join(", ", java.util.Collections.nCopies(many, "(?, ?, ?, ?)"));
+        return many == 1 ? PUT + "?, ?, ?, ? from " + there() + " where true on conflict do nothing" : PUT + "v.* from (values " + values + ") as v, " + there();
+    }
+
+    /** The payload of a word, or null where it is large. */
+    abstract String smallPayload();
+
+    /** Something was put. */
+    abstract void hasPut();
+
+    @Override
+    public final List<Entry> read(String name, long number, int at) {
+        List<Entry> entries = new ArrayList<>();
+        boolean[] isThere = {false};
+        ask("select at, word, token, " + smallPayload() + " from cf_request left join cf_word on request = id and at >= ? where id = ? order by at",
+                row -> {
+                    isThere[0] = true;
+                    long place = row.getLong(1);
+                    if (!row.wasNull()) {
+                        Entry.add(entries, name, at, place, row.getLong(2), row.getLong(3), row.getBytes(4));
+                    }
+                    return null;
+                }, at, number);
+        if (!isThere[0]) {
+            throw new StoreException.Gone(name);
+        }
+        return entries;
+    }
+
+    static final String ENDS = "select name, (select max(at) + 1 from cf_word where request = id) from cf_request where closed is null";
+
+    /** Adds requests to those that are told, each with how many words it has. */
+    static void tell(Map<String, Integer> ends, List<Map.Entry<String, Integer>> rows) {
+        rows.forEach(row -> ends.merge(row.getKey(), row.getValue(), Math::max));
+    }
+
+    static Map.Entry<String, Integer> end(ResultSet row) throws SQLException {
+        return new java.util.AbstractMap.SimpleEntry<>(row.getString(1), row.getInt(2));
+    }
+
+    @Override
+    public final void beat(long session) {
+        change("insert into cf_beat (session, count) values (?, 1) on conflict (session) do update set count = cf_beat.count + 1", session);
+    }
+
+    @Override
+    public final Map<Long, Long> beats() {
+        Map<Long, Long> beats = new HashMap<>();
+        ask("select session, count from cf_beat", row -> beats.put(row.getLong(1), row.getLong(2)));
+        return beats;
+    }
+
+    @Override
+    public final void dropBeat(long session) {
+        within(db -> db.change("delete from cf_beat where session = ?", session)
+                + db.change("delete from cf_name where request = 0 and session = ?", session));
+    }
+
+    @Override
+    public final void nameSession(long session, String name) {
+        change("insert into cf_name (request, session, name) values (0, ?, ?) on conflict (request, session) do update set name = excluded.name",
+                session, name);
+    }
+
+    @Override
+    public final Map<Long, String> sessionNames(String request, long number) {
+        Map<Long, String> names = new HashMap<>();
+        ask("select session, name from cf_name where request = ?", row -> names.put(row.getLong(1), row.getString(2)), number);
+        return names;
+    }
+
+    @Override
+    public final void setTimer(Timer timer) {
+        int kept = change("insert into cf_timer (request, stage, due, payload) select id, ?, ?, ? from " + there()
+                + " where true on conflict (request, stage) do update set due = excluded.due, payload = excluded.payload",
+                timer.stage, timer.due, timer.payload, timer.number);
+        if (kept == 0) {
+            throw new StoreException.Gone(timer.request);
+        }
+    }
+
+    @Override
+    public final List<Timer> due(double now) {
+        return ask("select name, id, stage, due, payload from cf_timer join cf_request on id = request where due <= ? order by due",
+                row -> new Timer(row.getString(1), row.getLong(2), row.getInt(3), row.getDouble(4), row.getBytes(5)), now);
+    }
+
+    @Override
+    public final void dropTimer(Timer timer) {
+        change("delete from cf_timer where request = ? and stage = ?", timer.number, timer.stage);
+    }
+
+    @Override
+    public void close() {
+        isClosed = true;
+        for (PreparedConnection db = idle.pollFirst(); db != null; db = idle.pollFirst()) {
+            giveBack(db, false);
+        }
+    }
+}

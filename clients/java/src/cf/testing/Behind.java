@@ -1,0 +1,40 @@
+package cf.testing;
+
+import java.util.ArrayDeque;
+import java.util.Collection;
+import java.util.Deque;
+import java.util.HashMap;
+import java.util.HashSet;
+import java.util.LinkedHashSet;
+import java.util.Map;
+import java.util.Set;
+import java.util.function.BiConsumer;
+import java.util.function.Predicate;
+
+/** Which stages stand behind which. */
+final class Behind {
+    private final Map<Long, Set<Long>> behind = new HashMap<>();
+
+    void add(long stage, long source) {
+        behind.computeIfAbsent(source, none -> new LinkedHashSet<>()).add(stage);
+    }
+
+    /**
+     * Tells what changed stages lead to. That one behind them is settled already is read: it hides the change from those behind it.
+     */
+    void reached(Collection<Long> changed, Predicate<Long> isSettled, BiConsumer<Long, Footprint.How> tells) {
+        Deque<Long> left = new ArrayDeque<>(changed);
+        Set<Long> seen = new HashSet<>(changed);
+        for (Long at; (at = left.poll()) != null;) {
+            for (Long stage : behind.getOrDefault(at, new LinkedHashSet<>())) {
+                if (seen.add(stage)) {
+                    boolean is = isSettled.test(stage);
+                    tells.accept(stage, is ? Footprint.How.READS : Footprint.How.LEADS);
+                    if (!is) {
+                        left.add(stage);
+                    }
+                }
+            }
+        }
+    }
+}

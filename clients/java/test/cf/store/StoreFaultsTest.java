@@ -1,0 +1,584 @@
+package cf.store;
+
+import static cf.service.Checks.is;
+import static cf.service.Checks.thrown;
+
+import cf.internal.Host;
+import cf.internal.Words;
+import cf.store.StoresTest.Database;
+import cf.store.StoresTest.InFile;
+import cf.store.StoresTest.InPostgres;
+import java.sql.Connection;
+import java.sql.PreparedStatement;
+import java.sql.ResultSet;
+import java.sql.SQLException;
+import java.sql.Statement;
+import java.util.ArrayDeque;
+import java.util.ArrayList;
+import java.util.Arrays;
+import java.util.Collections;
+import java.util.Deque;
+import java.util.HashMap;
+import java.util.List;
+import java.util.Map;
+import java.util.concurrent.CompletableFuture;
+import java.util.concurrent.CountDownLatch;
+import java.util.concurrent.ExecutionException;
+import java.util.concurrent.TimeUnit;
+import java.util.concurrent.TimeoutException;
+import java.util.concurrent.atomic.AtomicBoolean;
+import java.util.concurrent.atomic.AtomicInteger;
+import java.util.function.Consumer;
+
+/** What if a store is slow, refuses something for a while, is silent, or breaks a call off; and if a process is taken for gone that is there? */
+public final class StoreFaultsTest {
+    private static final long LEASE = 1_000_000; // nanoseconds
+
+    private StoreFaultsTest() {}
+
+    /** A host whose clock and threads a test has: jobs are done where it says so. */
+    private static final class ByHand extends Host {
+        final Deque<Runnable> jobs = new ArrayDeque<>();
+        long clock;
+
+        @Override
+        public long nanoTime() {
+            return clock;
+        }
+
+        @Override
+        public void sleep(long millis) {
+            clock += millis * 1_000_000;
+        }
+
+        @Override
+        public void begin(int threads, Runnable looks) {}
+
+        @Override
+        public void execute(Job job, String request, Runnable act) {
+            jobs.add(act);
+        }
+
+        @Override
+        public void end() {}
+
+        @Override
+        public void warns(String text, String request, Throwable thrown) {}
+
+        /** Some time passes, and a service that has this host looks what is new, and does what is to be done. */
+        void looks(StoreService service, long nanos) {
+            clock += nanos;
+            service.round();
+            while (!jobs.isEmpty()) {
+                jobs.poll().run();
+            }
+        }
+    }
+
+    private static StoreService service(Store store, Functions functions, ByHand host) {
+        return new StoreService(store, functions, 1, LEASE, TimeUnit.NANOSECONDS, true, null, null, host);
+    }
+
+    /** Who reads many requests for the first time, each of which takes a while, says all along that he is there. */
+    public static void beats(InFile file) {
+        try (StoreService asks = StoresTest.service(file, new Functions(), 0, false)) {
+            for (int k = 0; k < 20; k++) {
+                asks.request("open " + k);
+            }
+        }
+        ByHand host = new ByHand();
+        List<Long> pauses = new ArrayList<>();
+        long[] last = {0};
+        Store slow = StoresTest.seen(file.open(), (call, args) -> {
+            if (call.equals("beat")) {
+                pauses.add(host.clock - last[0]);
+                last[0] = host.clock;
+            }
+            host.clock += call.equals("read") ? LEASE / 10 : 0;
+            return null;
+        });
+        try (StoreService works = service(slow, new Functions(), host)) {
+            works.round();
+            pauses.add(host.clock - last[0]);
+            is(host.clock, 2 * LEASE);
+            is(Collections.max(pauses) <= LEASE / 2, true);
+        }
+    }
+
+    /**
+     * A process that was silent is taken for gone, and learns that by the row. It says that it is there before it claims a further try, and that claim
+     * says so, too: the further tries aren't lost one after another.
+     */
+    public static void comesBack(InFile file) throws Exception {
+        ByHand first = new ByHand(), second = new ByHand();
+        List<String> calls = new ArrayList<>();
+        AtomicInteger called = new AtomicInteger();
+        StoreService[] judges = new StoreService[1];
+        Functions functions = new Functions().with("charge", 1, () -> {
+            for (int looks = 0; looks < 4; looks++) {
+                second.looks(judges[0], called.get() == 0 ? LEASE : 1);
+            }
+            calls.add("called");
+            return (long) called.incrementAndGet();
+        });
+        Store seen = StoresTest.seen(file.open(), (call, args) -> {
+            if (call.equals("beat") || call.equals("append")) {
+                calls.add(call);
+            }
+            return null;
+        });
+        try (StoreService works = service(seen, functions, first);
+                StoreService judge = new StoreService(file.open(), functions, 0, LEASE, TimeUnit.NANOSECONDS, true, null, null, second)) {
+            judges[0] = judge;
+            StoredRequest request = works.request("comes back");
+            StoredStage last = request.supply("charge").again(3);
+            judge.open("comes back");
+            calls.clear();
+            first.looks(works, 0);
+            is(StoresTest.end(last), 2L);
+            is(called.get(), 2);
+            // (the first finish comes late; then it says that it is there, claims, and puts the second finish)
+            is(String.join(" ", calls.subList(calls.indexOf("called"), calls.size())).startsWith("called append append beat append called append"), true);
+        }
+    }
+
+    /**
+     * A process is cut off within a function that composes, and a further try goes on in another process: it finds what the first one has attached. That
+     * one attaches nothing any more.
+     */
+    public static void composesAgain(InFile file) throws Exception {
+        ByHand first = new ByHand(), second = new ByHand();
+        List<String> done = new ArrayList<>();
+        StoreService[] heirs = new StoreService[1];
+        Functions functions = new Functions().composing("order", 1, (request, item) -> {
+            done.add("order");
+            StoredStage paid = request.supply("charge", item, 2), told = request.supply("charge", item, 2);
+            if (done.size() == 1) {
+                for (int looks = 0; looks < 6; looks++) {
+                    second.looks(heirs[0], LEASE);
+                }
+            }
+            return paid.combine(told, "ship");
+        }).with("charge", 1, (item, count) -> {
+            done.add("charge " + count + " " + item);
+            return item;
+        }).with("ship", 1, (item, other) -> {
+            done.add("ship");
+            return item;
+        });
+        try (StoreService works = service(file.open(), functions, first); StoreService heir = service(file.open(), functions, second)) {
+            heirs[0] = heir;
+            StoredRequest request = works.request("composes again");
+            StoredStage item = request.promise("item"), ordered = item.compose("order"), last = ordered.again(1).again(1);
+            item.complete("lamp");
+            heir.open("composes again");
+            first.looks(works, 0);
+            first.looks(works, 1);
+            is(StoresTest.end(last), "lamp");
+            is(StoresTest.remote(ordered).kind(), RemoteException.ABANDONED);
+            is(done, Arrays.asList("order", "charge 2 lamp", "charge 2 lamp", "order", "ship"));
+            is(request.stage(last.number() + 3).name() + " " + request.stage(last.number() + 4), "ship null");
+            is(request.with(view -> Arrays.toString(view.sources(last.number() + 3))), "[7, 8]");
+        }
+    }
+
+    /** A service that is closed waits for the functions that run, and says meanwhile that it is there. */
+    public static void closes(InFile file) throws Exception {
+        CountDownLatch began = new CountDownLatch(1), goesOn = new CountDownLatch(1);
+        Functions functions = new Functions().with("slow", 1, () -> {
+            began.countDown();
+            goesOn.await();
+            return 7L;
+        });
+        try (Store store = file.open(); StoreService asks = StoresTest.service(file, functions, 0, false)) {
+            StoreService works = new StoreService(file.open(), functions, 1, 50, TimeUnit.MILLISECONDS, true);
+            StoredStage slow = works.request("closes").supply("slow");
+            began.await();
+            Thread closes = new Thread(works::close);
+            closes.start();
+            while (!works.isStopped()) {
+                Thread.sleep(1);
+            }
+            long before = store.beats().get(works.session);
+            for (int looks = 0; store.beats().get(works.session) < before + 3; looks++) {
+                is(looks < 2000, true);
+                Thread.sleep(1);
+            }
+            goesOn.countDown();
+            closes.join();
+            is(StoresTest.end(asks.open("closes").stage(slow.number())), 7L);
+            is(store.beats().containsKey(works.session), false);
+        }
+    }
+
+    /** Nobody waits for ever whose service is closed: not who waits, also in a request that was closed, and not who asks for a stage then. */
+    public static void over(InFile file) throws Exception {
+        StoreService service;
+        StoredRequest request;
+        StoredStage waits;
+        try (StoreService other = StoresTest.service(file, new Functions())) {
+            StoredRequest theirs = other.request("over");
+            theirs.promise("open");
+            theirs.promise("settled").complete(7);
+            service = StoresTest.service(file, new Functions());
+            request = service.request("over");
+            waits = service.request("closed").promise("waits");
+            other.open("closed").end();
+            for (int looks = 0; service.knownOf("closed") != null; looks++) {
+                is(looks < 2000, true);
+                Thread.sleep(1); // (it is let go, since it is closed)
+            }
+        }
+        service.close();
+        is(StoresTest.end(waits).getClass(), IllegalStateException.class);
+        is(StoresTest.end(request.stage(0)).getClass(), IllegalStateException.class);
+        is(StoresTest.end(request.stage(1)), 7L);
+    }
+
+    /** What a function gave stands in the end, also where the store takes nothing for a while. A value that it doesn't take fails its stage. */
+    public static void refused(InFile file) throws Exception {
+        AtomicInteger left = new AtomicInteger();
+        AtomicBoolean takesBeats = new AtomicBoolean();
+        Store refusing = StoresTest.seen(file.open(), (call, args) -> {
+            boolean isFinish = call.equals("append") && Words.kind(((Store.Put) args[0]).entries().get(0).word()) == Words.FINISH;
+            if (isFinish && left.getAndDecrement() > 0 || call.equals("beat") && left.get() > 0 && !takesBeats.get()) {
+                throw new StoreException("it takes nothing now");
+            }
+            return null;
+        });
+        ByHand host = new ByHand();
+        Functions functions = new Functions().with("seven", 1, times -> {
+            left.set(((Long) times).intValue());
+            return 7L;
+        });
+        try (StoreService service = service(refusing, functions, host)) {
+            StoredRequest request = service.request("refused");
+            StoredStage kept = request.supply("seven", 3);
+            host.looks(service, 0);
+            is(StoresTest.end(kept) + " " + left, "7 -1");
+            takesBeats.set(true);
+            StoredStage once = request.supply("seven", 1);
+            host.looks(service, 0);
+            is(StoresTest.end(once) + " " + left, "7 -1");
+            StoredStage twice = request.supply("seven", 2);
+            host.looks(service, 0);
+            is(StoresTest.remote(twice).getMessage() + " " + left, "StoreError: it takes nothing now -1");
+        }
+    }
+
+    /** An answer is missing, and what is asked again then is refused: whether it stands is read. */
+    public static void refusedLater(InFile file) throws Exception {
+        Store store = file.open();
+        AtomicInteger left = new AtomicInteger();
+        Store refusing = StoresTest.seen(store, (call, args) -> {
+            if (!call.equals("append") || left.get() == 0) {
+                return null;
+            }
+            if (left.getAndDecrement() % 2 == 0) {
+                store.append((Store.Put) args[0]);
+                throw new StoreException.Unknown("no answer", null);
+            }
+            throw new StoreException("it takes nothing now");
+        });
+        try (StoreService service = service(refusing, new Functions(), new ByHand())) {
+            StoredRequest request = service.request("refused later");
+            StoredStage promise = request.promise("promise");
+            left.set(2);
+            is(promise.complete(7), true);
+            left.set(1);
+            thrown(StoreException.class, () -> request.promise("refused"));
+            is(request.promise("next").number(), 1);
+        }
+    }
+
+    /** Which of PostgreSQL's errors say that the same may be asked again. */
+    public static void away() {
+        JdbcStore store = new PostgresStore("jdbc:postgresql:none");
+        for (String state : new String[] {null, "08006", "25006", "40001", "53300", "55P03", "57014", "57P01", "58030"}) {
+            is(store.isAway(new SQLException("away", state)) + " " + state, "true " + state);
+        }
+        for (String state : new String[] {"22001", "23505", "25P02", "42501", "42P01", "54000"}) {
+            is(store.isAway(new SQLException("refused", state)) + " " + state, "false " + state);
+        }
+    }
+
+    /** While a payload can't be read nobody has the request's lock; and it is told soon after it can be, also in a request that was closed. */
+    public static void unread(InFile file) throws Exception {
+        CountDownLatch asked = new CountDownLatch(1), goesOn = new CountDownLatch(1);
+        AtomicBoolean isSilent = new AtomicBoolean(true);
+        Store silent = StoresTest.seen(file.open(), (call, args) -> {
+            if (!call.equals("payload") || !isSilent.get()) {
+                return null;
+            }
+            asked.countDown();
+            try {
+                goesOn.await();
+            } catch (InterruptedException interrupted) {
+                throw new AssertionError(interrupted);
+            }
+            throw new StoreException.Unknown("silent", null);
+        });
+        try (StoreService completes = StoresTest.service(file, new Functions()); StoreService waits = StoresTest.service(() -> silent, new Functions())) {
+            StoredRequest theirs = completes.request("unread"), request;
+            StoredStage promise = theirs.promise("promise"), stage;
+            request = waits.open("unread");
+            stage = request.stage(0);
+            promise.complete(7);
+            asked.await();
+            for (int looks = 0; !request.withIfFree(view -> true, false); looks++) {
+                is(looks < 2000, true);
+                Thread.sleep(1);
+            }
+            is(stage.isDone(), false);
+            thrown(TimeoutException.class, () -> stage.get(1, TimeUnit.MILLISECONDS));
+            theirs.end();
+            goesOn.countDown();
+            for (int looks = 0; waits.knownOf("unread") != null; looks++) {
+                is(looks < 5000, true);
+                Thread.sleep(1); // (it is let go, since it is closed)
+            }
+            is(stage.isDone(), false);
+            isSilent.set(false);
+            is(stage.get(5, TimeUnit.SECONDS), 7L);
+        }
+    }
+
+    // Calls that are broken off.
+
+    private static final String[] TABLES = {"cf_request", "cf_word", "cf_beat", "cf_timer", "cf_glance", "cf_name", "effect"};
+
+    /** Puts a large payload beside its word, not into it. */
+    private static boolean hasLarge(Database at) {
+        return at instanceof InFile;
+    }
+
+    /** Aborts a change of a table: the one that makes the number in {@code cut} zero. */
+    private static void makeTriggers(Database at, Statement db) throws SQLException {
+        db.execute("create table effect (name text)");
+        db.execute("create table cut (changes integer)");
+        db.execute("insert into cut values (0)");
+        String counts = "update cut set changes = changes - 1; ", isZero = "(select changes from cut) = 0";
+        boolean isSqlite = at instanceof InFile;
+        if (!isSqlite) {
+            db.execute("create function cuts() returns trigger language plpgsql as $$ begin " + counts + "if " + isZero
+                    + " then raise exception 'cut off'; end if; return case when tg_op = 'DELETE' then old else new end; end $$");
+        }
+        for (String table : tables(at)) {
+            for (String change : new String[] {"insert", "update", "delete"}) {
+                db.execute("create trigger " + change + "_" + table + " before " + change + " on " + table + (isSqlite
+                        ? " begin " + counts + "select raise(abort, 'cut off') where " + isZero + "; end" : " for each row execute function cuts()"));
+            }
+        }
+    }
+
+    private static List<String> tables(Database at) {
+        List<String> tables = new ArrayList<>(Arrays.asList(TABLES));
+        if (hasLarge(at)) {
+            tables.add("cf_large");
+        }
+        return tables;
+    }
+
+    /** All that stands. */
+    private static String all(Database at, Statement db) throws SQLException {
+        StringBuilder text = new StringBuilder();
+        for (String table : tables(at)) {
+            try (ResultSet rows = db.executeQuery("select * from " + table + " order by 1")) {
+                while (rows.next()) {
+                    text.append('\n').append(table);
+                    for (int k = 1; k <= rows.getMetaData().getColumnCount(); k++) {
+                        Object value = rows.getObject(k);
+                        text.append(' ').append(value instanceof byte[] ? Arrays.hashCode((byte[]) value) : value);
+                    }
+                }
+            }
+        }
+        return text.toString();
+    }
+
+    private static Store.Put put(Store.Opened to, int at, int many, byte[]... payloads) {
+        List<Store.Entry> entries = new ArrayList<>();
+        Map<Integer, byte[]> given = new HashMap<>();
+        for (int k = 0; k < many; k++) {
+            entries.add(new Store.Entry(at + k, at + k));
+        }
+        for (int k = 0; k < payloads.length; k++) {
+            given.put(at + 1 + k, payloads[k]);
+        }
+        return new Store.Put(to.name, to.number, at, entries, given, false);
+    }
+
+    /** Each call of a store is broken off at each change that it makes: then nothing of it stands, nothing is held, and it can be made again. */
+    public static void brokenOff(Database at) throws Exception {
+        try (JdbcStore store = at.open(); Connection beside = at.connect(); Statement db = beside.createStatement()) {
+            makeTriggers(at, db);
+            Store.Opened to = store.open("broken off", "{}");
+            byte[] small = {7}, large = new byte[5000];
+            List<Runnable> calls = Arrays.asList(() -> store.open("another", "{}"), () -> store.append(put(to, 0, 1, small)),
+                    () -> store.append(put(to, 1, 1, large)), () -> store.append(put(to, 2, 2, small)), () -> store.append(put(to, 4, 3, large, large, small)),
+                    () -> store.setTimer(new Store.Timer("broken off", to.number, 0, 1e12, small)), () -> store.beat(1),
+                    () -> store.nameSession(1, "one"), () -> store.end("broken off", to.number, 7),
+                    () -> store.setTimer(new Store.Timer("broken off", to.number, 0, 1e12, small)),
+                    () -> store.dropTimer(new Store.Timer("broken off", to.number, 0, 0, small)), () -> store.dropBeat(1), () -> transacts(store, to));
+            List<Integer> changes = new ArrayList<>();
+            for (Runnable call : calls) {
+                if (changes.size() == 8) { // (it is about to be closed)
+                    db.execute("update cut set changes = 0");
+                    db.execute("insert into cf_glance values (" + to.number + ", 7, '')");
+                }
+                changes.add(brokenOff(at, db, call));
+            }
+            // How many changes each makes: where a request is closed its timer and glance go.
+            is(changes, hasLarge(at) ? Arrays.asList(1, 1, 2, 2, 5, 1, 1, 1, 3, 1, 1, 1, 2, 4) : Arrays.asList(1, 1, 1, 2, 3, 1, 1, 1, 3, 1, 1, 1, 2, 3));
+            is(store.read("broken off", to.number, 0).size(), 8);
+        }
+    }
+
+    private static int brokenOff(Database at, Statement db, Runnable call) throws Exception {
+        for (int change = 1;; change++) {
+            db.execute("update cut set changes = " + change);
+            String before = all(at, db);
+            try {
+                call.run();
+                return change - 1;
+            } catch (StoreException refused) {
+                is(refused.getMessage().contains("cut off") ? "cut off" : refused.toString(), "cut off");
+                is(all(at, db), before);
+            }
+        }
+    }
+
+    /** A function's effect of two changes, and its finish, of a word and a large payload. */
+    private static void transacts(Store store, Store.Opened to) {
+        try (Store.Transaction transaction = store.transaction()) {
+            for (int k = 0; k < 2; k++) {
+                try (PreparedStatement made = transaction.connection().prepareStatement("insert into effect values ('paid')")) {
+                    made.executeUpdate();
+                } catch (SQLException refused) {
+                    throw new StoreException(refused.getMessage(), refused);
+                }
+            }
+            is(transaction.append(put(to, 7, 1, new byte[5000])), true);
+            transaction.commit();
+        }
+    }
+
+    /** What is thrown within a transaction undoes all of it, whatever it is. */
+    public static void undone(Database at) {
+        try (JdbcStore store = at.open()) {
+            for (Throwable fault : new Throwable[] {new SQLException("refused"), new IllegalStateException("wrong"), new OutOfMemoryError("none left")}) {
+                thrown(Throwable.class, () -> store.within(db -> {
+                    db.change("insert into cf_beat (session, count) values (7, 1)");
+                    throw StoreFaultsTest.<RuntimeException>sneaky(fault);
+                }));
+                is(store.beats(), Collections.emptyMap());
+            }
+        }
+    }
+
+    // PostgreSQL alone.
+
+    /** Somebody drops a request while another puts to it: the put waits for that, and finds none; or the drop waits, and what was put goes, too. */
+    public static void dropped(InPostgres at) throws Exception {
+        try (JdbcStore store = at.open(); Connection drops = at.connect(); Statement db = drops.createStatement()) {
+            drops.setAutoCommit(false);
+            List<Consumer<Store.Opened>> puts = Arrays.asList(to -> store.append(put(to, 0, 1)), to -> store.append(put(to, 0, 2)),
+                    to -> store.append(put(to, 0, 3)), to -> store.setTimer(new Store.Timer(to.name, to.number, 0, 1e12, new byte[] {'N'})), to -> {
+                        try (Store.Transaction transaction = store.transaction()) {
+                            is(transaction.append(put(to, 0, 1)), false);
+                        }
+                        throw new StoreException.Gone(to.name);
+                    });
+            for (Consumer<Store.Opened> put : puts) {
+                Store.Opened to = store.open("dropped", "{}");
+                db.execute("delete from cf_request where id = " + to.number);
+                CompletableFuture<Void> told = CompletableFuture.runAsync(() -> put.accept(to));
+                awaitLock(at, told);
+                drops.commit();
+                is(thrown(ExecutionException.class, () -> told.get(30, TimeUnit.SECONDS)).getCause().getClass(), StoreException.Gone.class);
+                is(left(db), 0);
+                drops.commit();
+            }
+            Store.Opened to = store.open("dropped", "{}");
+            CompletableFuture<Void> dropped;
+            try (Store.Transaction transaction = store.transaction()) {
+                is(transaction.append(put(to, 0, 1)), true);
+                dropped = CompletableFuture.runAsync(() -> {
+                    try {
+                        db.execute("select 1 from cf_request where id = " + to.number + " for update");
+                        db.execute("delete from cf_word where request = " + to.number);
+                        db.execute("delete from cf_request where id = " + to.number);
+                        drops.commit();
+                    } catch (SQLException refused) {
+                        throw new AssertionError(refused);
+                    }
+                });
+                awaitLock(at, dropped);
+                is(dropped.isDone(), false);
+                transaction.commit();
+            }
+            dropped.get(30, TimeUnit.SECONDS);
+            is(left(db), 0);
+        }
+    }
+
+    /** How many words and timers are left. */
+    private static int left(Statement db) throws SQLException {
+        try (ResultSet rows = db.executeQuery("select (select count(*) from cf_word) + (select count(*) from cf_timer)")) {
+            rows.next();
+            return rows.getInt(1);
+        }
+    }
+
+    /** Waits until somebody waits for a lock in the database, or for what is done. */
+    private static void awaitLock(InPostgres at, CompletableFuture<?> done) throws Exception {
+        try (Connection beside = at.connect(); Statement db = beside.createStatement()) {
+            while (!done.isDone()) {
+                try (ResultSet rows = db.executeQuery("select 1 from pg_locks where not granted")) {
+                    if (rows.next()) {
+                        return;
+                    }
+                }
+            }
+        }
+    }
+
+    /** Somebody has the table of words for longer than this process waits for a lock: what a function gave is put again. */
+    public static void lockedOut(InPostgres at) throws Exception {
+        CountDownLatch runs = new CountDownLatch(1), goesOn = new CountDownLatch(1);
+        Functions functions = new Functions().with("seven", 1, () -> {
+            runs.countDown();
+            goesOn.await();
+            return 7L;
+        });
+        Host host = new Host() {
+            @Override
+            public void warns(String text, String request, Throwable thrown) {}
+        };
+        Store impatient = JdbcStore.open(at.url() + "&options=-c%20lock_timeout=20");
+        try (StoreService service = new StoreService(impatient, functions, 1, 10, TimeUnit.SECONDS, false, null, null, host);
+                Connection locks = at.connect(); Statement db = locks.createStatement()) {
+            StoredStage seven = service.request("locked out").supply("seven");
+            runs.await();
+            locks.setAutoCommit(false);
+            db.execute("lock table cf_word in access exclusive mode");
+            goesOn.countDown();
+            try (Connection beside = at.connect(); Statement looks = beside.createStatement()) {
+                for (int waits = 0; waits < 2;) { // (the put is tried again)
+                    try (ResultSet rows = looks.executeQuery("select count(*) from pg_locks where not granted")) {
+                        rows.next();
+                        waits += rows.getInt(1);
+                    }
+                    Thread.sleep(15);
+                }
+            }
+            locks.commit();
+            is(StoresTest.end(seven), 7L);
+        }
+    }
+
+    @SuppressWarnings("unchecked")
+    private static <X extends Throwable> X sneaky(Throwable thrown) throws X {
+        throw (X) thrown;
+    }
+}

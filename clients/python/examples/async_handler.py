@@ -1,0 +1,38 @@
+"""A handler on an event loop: an answer within half a second, and nothing is left running.
+
+    python3 async_handler.py
+"""
+import asyncio
+
+from cf.service import LoopService
+
+
+async def load(number):
+    return {"number": number, "item": "lamp"}
+
+
+async def quote(number):
+    await asyncio.sleep(0 if number == 17 else 60)
+    return 4900
+
+
+async def handle(service, number):
+    request = service.request(f"order {number}")
+    order = request.supply(load, number)
+    cents = request.supply(quote, number)
+    answer = order.combine(cents, lambda order, cents: {**order, "cents": cents}).named("answer")
+    try:
+        return 200, await answer.or_timeout(0.5)
+    except TimeoutError as error:
+        return 504, str(error)
+    finally:  # also if the client hangs up, and the server cancels this handler
+        request.cancel()
+
+
+async def main():
+    service = LoopService(asyncio.get_running_loop())
+    print(await handle(service, 17))
+    print(await handle(service, 18))
+
+
+asyncio.run(main())
