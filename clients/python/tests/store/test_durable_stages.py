@@ -427,6 +427,18 @@ class DurableStages(Case):
             self.assertEqual([type(it) for it in told], [asyncio.CancelledError, asyncio.CancelledError,
                                                          TimeoutError, PermissionError])
 
+    def test_a_callback_that_raises_is_logged_and_the_others_are_called(self):
+        def raises(_):
+            raise KeyError("x")
+        stage, called = self.service().request("r").promise("answer"), []
+        for callback in (raises, called.append):
+            stage.add_done_callback(callback)
+        with self.assertLogs("concurrent.futures", "ERROR") as logs:
+            stage.complete(1)
+            self.until(lambda: called)
+        self.assertEqual((called, len(logs.output)), ([stage], 1))
+        self.assertIn("exception calling callback for", logs.output[0])
+
     def test_a_step_of_another_flow(self):
         """It names no stage of the request, whatever stands at its place; the same flow built again does."""
         def built(*names, name="order"):
