@@ -11,45 +11,11 @@ from mutating.mutant import Place, statement_rule
 from mutating.tokens import Tokens
 
 Signatures = Mapping[str, Sequence[str]]
-OTHER = {
-    "<": ("bound", "<="),
-    "<=": ("bound", "<"),
-    ">": ("bound", ">="),
-    ">=": ("bound", ">"),
-    "==": ("equal", "!="),
-    "!=": ("equal", "=="),
-    "&&": ("and/or", "||"),
-    "||": ("and/or", "&&"),
-}
+OTHER = {"<": ("bound", "<="), "<=": ("bound", "<"), ">": ("bound", ">="), ">=": ("bound", ">"), "==": ("equal", "!="), "!=": ("equal", "=="),
+         "&&": ("and/or", "||"), "||": ("and/or", "&&")}
 NO_VALUE = {"move", "return", "in", "else", "match", "if", "while", "=", "(", ",", "=>", "{", ";", "&"}  # behind these `||` begins a closure
-NOT_DROPPED = {
-    "use",
-    "fn",
-    "struct",
-    "enum",
-    "impl",
-    "const",
-    "static",
-    "type",
-    "mod",
-    "pub",
-    "macro_rules",
-    "extern",
-    "#",
-    "assert",
-    "assert_eq",
-    "assert_ne",
-    "debug_assert",
-    "debug_assert_eq",
-    "debug_assert_ne",
-    "unsafe",
-    "trait",
-    "case",
-    "default",
-    "goto",
-    "typedef",
-    "register",
-}
+NOT_DROPPED = {"use", "fn", "struct", "enum", "impl", "const", "static", "type", "mod", "pub", "macro_rules", "extern", "#", "assert", "assert_eq",
+               "assert_ne", "debug_assert", "debug_assert_eq", "debug_assert_ne", "unsafe", "trait", "case", "default", "goto", "typedef", "register"}
 BLOCKS = {"if", "while", "for", "loop", "match", "unsafe", "{", "do", "switch"}  # statements that end with a block
 DEFAULTS = r"(?:[ui](?:8|16|32|64|128|size)|f64|String|Duration|Vec<.*>)$"
 
@@ -98,9 +64,8 @@ def functions(tokens: Tokens, is_c: bool) -> List[Function]:
             where = tokens.next_of("where {", closing + 1, opening + 1) or opening
             returns = tokens.said(closing + 2, where - 1) if tokens.word(closing + 1) == "->" else ""
         before = [tokens.word(it) for it in range(max(0, k - 4), k)]
-        found.append(
-            Function(tokens.word(k), [it for it in types if it], returns, opening, "const" in before, tokens.word(k) == "drop" and types == [""])
-        )
+        found.append(Function(tokens.word(k), [it for it in types if it], returns, opening, "const" in before,
+                              tokens.word(k) == "drop" and types == [""]))
     return found
 
 
@@ -259,12 +224,8 @@ class Finder:
             if tokens.word(first + 1).startswith("_"):
                 self.replace("with", first, last, ";")
             return
-        is_declared = (
-            self.is_c
-            and tokens[first].kind == "name"
-            and (tokens[first + 1].kind == "name" or tokens.word(first + 1) == "*")
+        is_declared = self.is_c and tokens[first].kind == "name" and (tokens[first + 1].kind == "name" or tokens.word(first + 1) == "*") \
             and word not in ("return", "break", "continue")
-        )
         if word in NOT_DROPPED or is_declared or word in BLOCKS or first == last:
             return
         calls = [tokens.word(k - 1) for k in range(first + 1, last) if tokens.word(k) == "(" and tokens[k - 1].kind == "name"]
