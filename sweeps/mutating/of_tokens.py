@@ -228,6 +228,8 @@ class Finder:
             and word not in ("return", "break", "continue")
         if word in NOT_DROPPED or is_declared or word in BLOCKS or first == last:
             return
+        if tokens.said(first, last - 1).startswith("drop(") and last == first + 4 and last + 1 == tokens.other[function.opening]:
+            return  # (it is dropped there anyway)
         calls = [tokens.word(k - 1) for k in range(first + 1, last) if tokens.word(k) == "(" and tokens[k - 1].kind == "name"]
         self.replace(statement_rule(calls[-1] if calls else "", is_last), first, last, ";")
 
@@ -237,7 +239,8 @@ class Finder:
         closing = tokens.other[opening]
         if function.returns == "" and (tokens.next_of(";", opening + 1, closing) or closing) >= closing - 1:
             return  # one statement, which is dropped
-        news = [f" return {it};" for it in defaults(function.returns)] if function.returns else [" return;"]
+        said = tokens.said(opening + 1, closing - 1)  # (where that is all that it does anyway, nothing changes)
+        news = [f" return {it};" for it in defaults(function.returns) if it != said] if function.returns else [" return;"]
         for new in news if closing > opening + 1 else []:
             self.places.append(Place("early", tokens[opening].end, tokens[opening].end, new))
 

@@ -1,4 +1,5 @@
 """Builds mutants of a client and tries them: its test programs run over each, the nearest first, until one fails."""
+import hashlib
 import json
 import os
 import re
@@ -131,6 +132,12 @@ class Client:
     def take_back(self, mutant: Mutant, seat: int) -> None:
         """Undoes what `put` did."""
 
+    def begin(self) -> None:
+        """Mutants are built, and are tried from now on."""
+
+    def goes_on(self) -> None:
+        """Waits until there is something new to try those mutants with of which `tried` said nothing yet."""
+
     def nearest(self, file: str) -> List[Program]:
         """The test programs that may reach a file, in the order in which they are run."""
         reaching = [it for it in self.programs if file in it.reaches and self.whole.get(it.name, True)]
@@ -166,7 +173,8 @@ class Client:
             self.put(mutant, seat)
         return self.whole.get(program.name, True)
 
-    def tried(self, mutant: Mutant, seat: int) -> Result:
+    def tried(self, mutant: Mutant, seat: int) -> Optional[Result]:
+        """What came of a mutant, or None where it isn't known yet."""
         began = time.monotonic()
         self.put(mutant, seat)
         try:
@@ -369,8 +377,9 @@ class CModule(Python):
 
 
 class Java(Client):
-    """All mutants are compiled by one process, and each stands in a jar of its own while it is tried. At first all tests run once, and say which
-    statements they reach. A mutant is tried with those that come by it, the quick ones first; several of them run in one process."""
+    """All mutants are compiled by one process, and each stands in a jar of its own while it is tried. All tests run once, and say which statements
+    they reach. A mutant is tried with those that come by it, the quick ones first; several of them run in one process. It is tried with some
+    while others are still to say what they reach."""
 
     def __init__(self, language: Language, made: Path, say: Callable[[str], None], seats: int) -> None:
         super().__init__(language, made, say)
@@ -384,14 +393,16 @@ class Java(Client):
         self.jars = self.built(self.folder, made / "jars")
         reach = self.copy("reach")
         self.places = reaching_java.Places(reach)
-        key = reaching_java.key_of([language.folder, TOP / "crates/cf_c/include"])
-        tests = reaching_java.kept(key)
-        if tests is None:
-            began = time.monotonic()
-            tests = self.recorded(self.built(reach, made / "reach-jars"), seats)
-            reaching_java.keep(key, tests)
-            say(f"looked what {len(tests)} tests reach in {time.monotonic() - began:.0f} s")
-        self.tests: List[reaching_java.Test] = tests
+        self.key = reaching_java.key_of([language.folder, TOP / "crates/cf_c/include"])
+        kept = reaching_java.kept(self.key)
+        self.reach_jars = made / "reach-jars" if kept else self.built(reach, made / "reach-jars")
+        self.unread: List[reaching_java.Test] = [] if kept else self.listed()  # tests that haven't said what they reach
+        self.tests: List[reaching_java.Test] = kept or []
+        self.many = len(self.tests) + len(self.unread)
+        self.seats = seats
+        self.new = threading.Condition()
+        self.over: Dict[str, Set[str]] = {}  # of mutants that aren't noticed yet, the tests that were looked at
+        self.spent: Dict[str, float] = {}  # of these, the seconds
         self.sound: Dict[str, bool] = {}  # of tests that failed over a mutant, or that can't say what they reach: whether they pass otherwise
 
     def built(self, folder: Path, jars: Path) -> Path:
@@ -411,25 +422,44 @@ class Java(Client):
     def java(self, path: str, words: Sequence[str]) -> List[str]:
         return ["java", "-Xmx64m", "-XX:+UseSerialGC", "-XX:TieredStopAtLevel=1", "-Dtest.times=true", "-cp", path, *words]
 
-    def recorded(self, jars: Path, seats: int) -> List[reaching_java.Test]:
-        """Runs each test once over the copy that says what is reached."""
-        command = ["java", "-Dtest.list=true", "-cp", self.path(jars), reaching_java.ALL]
+    def listed(self) -> List[reaching_java.Test]:
+        """All tests, in an order by chance, so that those of all parts come early."""
+        command = ["java", "-Dtest.list=true", "-cp", self.path(self.reach_jars), reaching_java.ALL]
         said = subprocess.run(command, cwd=str(TOP), env=self.environment, stdout=subprocess.PIPE, check=True).stdout.decode()
         names = re.findall(r"^test: (.+)$", said, re.M) + [reaching_java.EVERY_ORDER][: bool(self.libraries)]
+        tests = [reaching_java.Test(name, place, 0.0, None) for place, name in enumerate(names)]
+        return sorted(tests, key=lambda it: hashlib.sha256(it.name.encode()).digest())
 
-        def one(place: int) -> reaching_java.Test:
-            file = self.made / f"reached-{place}"
+    def begin(self) -> None:
+        for _ in range(self.seats):
+            threading.Thread(target=self.read, daemon=True).start()
+
+    def read(self) -> None:
+        """Runs tests once over the copy that says what is reached, as long as some are left."""
+        while True:
+            with self.new:
+                if not self.unread:
+                    return
+                test = self.unread.pop(0)
+            file = self.made / f"reached-{test.place}"
             file.write_bytes(bytes(self.places.count))
-            test, began = reaching_java.Test(names[place], place, 0.0, None), time.monotonic()
-            is_well, said = run(self.java(self.path(jars), test.words), TOP, dict(self.environment, CF_REACHED=str(file)), reaching_java.LONG)
+            began, command = time.monotonic(), self.java(self.path(self.reach_jars), test.words)
+            is_well, said = run(command, TOP, dict(self.environment, CF_REACHED=str(file)), reaching_java.LONG)
             if not is_well:
                 self.say(f"{test.name} fails where statements say that they are reached, so it isn't left out anywhere:\n{said[-600:]}")
-            reached = file.read_bytes() if is_well else None
+            read = test._replace(seconds=time.monotonic() - began, reached=file.read_bytes() if is_well else None)
             file.unlink()
-            return test._replace(seconds=time.monotonic() - began, reached=reached)
+            with self.new:
+                self.tests = [*self.tests, read]
+                if len(self.tests) == self.many:
+                    reaching_java.keep(self.key, self.tests)
+                    self.say(f"{self.many} tests have said what they reach")
+                self.new.notify_all()
 
-        with ThreadPoolExecutor(seats) as pool:
-            return list(pool.map(one, range(len(names))))
+    def goes_on(self) -> None:
+        with self.new:
+            known = len(self.tests)
+            self.new.wait_for(lambda: len(self.tests) >= min(self.many, known + 10))
 
     def build(self, mutants: Sequence[Mutant]) -> List[Mutant]:
         made = self.made / "mutants"
@@ -476,23 +506,36 @@ class Java(Client):
                 self.say(f"left out {test.name}: it fails over the code as it is")
         return self.sound[test.name]
 
-    def tried(self, mutant: Mutant, seat: int) -> Result:
-        began, places = time.monotonic(), self.places.of(mutant)
-        tests = [it for it in self.tests if reaching_java.reaches(it, places) and self.sound.get(it.name, True)]
-        self.put(mutant, seat)
-        try:
-            for batch in reaching_java.batches(tests):
-                left = batch
-                while left:
-                    failed = self.first_failed(left, mutant)
-                    if failed is None:
-                        break
-                    if self.first_failed([failed], mutant) is not None and self.is_well(failed):  # (else it was by chance)
-                        return Result(mutant, failed.name, time.monotonic() - began)
-                    left = [it for it in left if it.place > failed.place]
-            return Result(mutant, "", time.monotonic() - began)
-        finally:
-            self.take_back(mutant, seat)
+    def tried(self, mutant: Mutant, seat: int) -> Optional[Result]:
+        began, places, known = time.monotonic(), self.places.of(mutant), self.tests
+        over = self.over.setdefault(mutant.number, set())
+        tests = [it for it in known if it.name not in over and reaching_java.reaches(it, places) and self.sound.get(it.name, True)]
+        spent = self.spent.get(mutant.number, 0.0)
+        if tests:
+            self.put(mutant, seat)
+            try:
+                failed = self.noticing(tests, mutant)
+            finally:
+                self.take_back(mutant, seat)
+            spent += time.monotonic() - began
+            if failed:
+                return Result(mutant, failed.name, spent)
+        over.update(it.name for it in known)
+        self.spent[mutant.number] = spent
+        return Result(mutant, "", spent) if len(over) == self.many else None
+
+    def noticing(self, tests: Sequence[reaching_java.Test], mutant: Mutant) -> Optional[reaching_java.Test]:
+        """The first of these tests that fails over a mutant with others and by itself, and passes over the code as it is."""
+        for batch in reaching_java.batches(tests):
+            left = batch
+            while left:
+                failed = self.first_failed(left, mutant)
+                if failed is None:
+                    break
+                if self.first_failed([failed], mutant) is not None and self.is_well(failed):  # (else it was by chance)
+                    return failed
+                left = [it for it in left if it.place > failed.place]
+        return None
 
 
 class Rust(Client):
@@ -607,7 +650,7 @@ class Rust(Client):
         again = not is_late and found.run(self.run_in, chosen, found.limit)[0]
         return [] if again else list(found.tests)
 
-    def tried(self, mutant: Mutant, seat: int) -> Result:
+    def tried(self, mutant: Mutant, seat: int) -> Optional[Result]:
         if mutant.number in self.apart:
             return super().tried(mutant, seat)
         began = time.monotonic()
@@ -626,22 +669,31 @@ def try_all(client: Client, mutants: Sequence[Mutant], seats: int) -> List[Resul
     free, lock = list(range(seats)), threading.Lock()
     results: List[Result] = []
 
-    def tried(mutant: Mutant) -> None:
+    def tried(mutant: Mutant) -> bool:
+        """Whether it is known what came of a mutant."""
         with lock:
             seat = free.pop()
+        is_known = True
         try:
             result = client.tried(mutant, seat)
             with lock:
-                results.append(result)
-                client.say(str(result))
+                is_known = result is not None
+                if result:
+                    results.append(result)
+                    client.say(str(result))
         except Missing as what:
             client.say(f"{mutant}: not tried, for want of {what}")
         with lock:
             free.append(seat)
+        return is_known
 
-    together = [it for it in mutants if it.number not in client.apart]
-    with ThreadPoolExecutor(seats) as pool:
-        list(pool.map(tried, together))
+    client.begin()
+    left = [it for it in mutants if it.number not in client.apart]
+    while left:
+        with ThreadPoolExecutor(seats) as pool:
+            left = [it for it, is_known in zip(left, list(pool.map(tried, left))) if not is_known]
+        if left:
+            client.goes_on()
     for mutant in mutants:
         if mutant.number in client.apart:
             client.apart[mutant.number]()

@@ -7,8 +7,8 @@ use crate::request::{Request, Stage};
 use crate::service::{Job, Looks, Options, Service, Shared};
 use crate::store::{Mark, News, Opened, Put, Store, Timer};
 use crate::testing::Memory;
-use crate::view::Wanted;
-use cf_graph::{Call, Entry, Event};
+use crate::view::{View, Wanted};
+use cf_graph::{Answer, Call, Entry, Event};
 use std::collections::{BTreeMap, VecDeque};
 use std::sync::atomic::{AtomicBool, AtomicU32, Ordering::SeqCst};
 use std::sync::{mpsc, Arc, Mutex};
@@ -487,6 +487,17 @@ fn who_waits_is_told_of_the_last_word_of_a_request_that_was_closed() {
 }
 
 #[test]
+fn what_others_have_put_is_read_when_asked_for() {
+    let (memory, clock) = (Arc::new(Memory::default()), Clock::new());
+    let (stage, _process) = begun(&memory, &clock, silent());
+    let other = Process::new(&memory, &clock, 2, 0, Functions::new(), silent());
+    other.service.open("r").unwrap().promise("late").unwrap();
+    assert!(stage.request.stage(1).is_none());
+    stage.request.refresh().unwrap();
+    assert!(stage.request.stage(1).is_some());
+}
+
+#[test]
 fn a_request_that_goes_on_as_it_is_let_go() {
     let (memory, clock) = (Arc::new(Memory::default()), Clock::new());
     let (stage, process) = begun(&memory, &clock, silent());
@@ -521,7 +532,7 @@ fn an_attach_that_the_store_is_silent_about() {
     is_silent.store(true, SeqCst);
     assert_eq!(stage.request.promise("late").map(|_| ()), Err(StoreError::Unknown("silent".into())));
     drop(stage);
-    assert!(process.service.shared.kept_as("r").is_some(), "it may stand, so the service goes on with it");
+    assert_eq!(process.service.shared.goes_on_with().len(), 1, "it may stand, so the service works on it");
     is_silent.store(false, SeqCst);
     process.turn();
     let late = process.service.open("r").unwrap().stage(1).unwrap();
@@ -594,4 +605,72 @@ fn a_wait_keeps_its_limit_whoever_hangs() {
     assert_eq!(ask(&stage), (Ok(None), Ok(None)), "another thread has the view");
     drop(view);
     assert_eq!(soon(move || stage.wait_timeout::<i64>(Duration::from_secs(60))), Ok(Some(7)));
+}
+
+#[test]
+fn a_put_whose_answer_was_lost_is_told_what_it_did_and_no_more() {
+    let (memory, clock) = (Arc::new(Memory::default()), Clock::new());
+    let other = Process::new(&memory, &clock, 2, 0, Functions::new(), silent());
+    let is_lost = Arc::new(AtomicBool::new(false));
+    let loses = Arc::clone(&is_lost);
+    let called = move |call: &str, _: &[Entry]| {
+        if call == "appended" && loses.swap(false, SeqCst) {
+            other.service.open("r").unwrap().promise("another's").unwrap(); // (behind it, before it is asked for again)
+            return Err(StoreError::Unknown("no answer".into()));
+        }
+        Ok(())
+    };
+    let process = Process::new(&memory, &clock, 1, 0, Functions::new(), Arc::new(called));
+    let request = process.service.request("r").unwrap();
+    is_lost.store(true, SeqCst);
+    let own = request.promise("own").unwrap();
+    assert_eq!((own.number(), own.name().unwrap()), (0, "own".into()));
+    assert_eq!(request.stage(1).unwrap().name().unwrap(), "another's");
+}
+
+#[test]
+fn a_stage_whose_function_runs_is_abandoned_and_not_cancelled() {
+    let process = Process::new(&Arc::default(), &Clock::new(), 1, 0, Functions::new(), silent());
+    let request = process.service.request("r").unwrap();
+    let stage = request.supply("cf.gather", &[1.into()]).unwrap();
+    request.inner.act(|_| Ok(vec![Wanted { call: Call::Claim(stage.number()), payload: None }])).unwrap();
+    assert_eq!(stage.cancel(), Ok(false));
+    assert_eq!(stage.abandon(), Ok(true));
+    assert_eq!(stage.peek::<i64>(), Err(Error::Cancelled));
+}
+
+#[test]
+fn a_stage_that_ends_as_one_that_is_not_there() {
+    let functions = Functions::new().composing("gives", 1, |request: &Request, _: i64| request.promise("p"));
+    let process = Process::new(&Arc::default(), &Clock::new(), 1, 0, functions, silent());
+    let request = process.service.request("r").unwrap();
+    let number = request.promise("number").unwrap();
+    let stage = number.compose("gives").unwrap();
+    assert!(number.complete(&1).unwrap());
+    let (composes, promise) = (stage.number(), stage.number() - 1);
+    request.inner.act(|_| Ok(vec![Wanted { call: Call::Claim(composes), payload: None }])).unwrap();
+    let said = format!("{{\"stage\":{}}}", composes + 1).into_bytes();
+    let links = |view: &mut View| Ok(view.finish(composes, Answer::Link(promise), Some(said.clone()))?.into_iter().collect());
+    request.inner.act(links).unwrap();
+    process.turn();
+    assert!(matches!(stage.peek::<i64>(), Err(Error::Store(StoreError::Broken { .. }))), "the row names a stage that isn't there");
+}
+
+#[test]
+fn what_goes_wrong_in_a_look_is_told() {
+    static TOLD: AtomicU32 = AtomicU32::new(0);
+    let left = AtomicU32::new(1);
+    let called = move |call: &str, _: &[Entry]| match call {
+        "due" if left.swap(0, SeqCst) > 0 => Err(StoreError::Unknown("no answer".into())),
+        _ => Ok(()),
+    };
+    let tells = |text: &str| drop(TOLD.fetch_add(u32::from(text == "the store doesn't answer: no answer"), SeqCst));
+    let options = Options { warns: tells, ..Options::default() };
+    let store = Arc::new(Told { memory: Arc::default(), called: Arc::new(called) });
+    let _service = Service::hosted(store, Functions::new(), options, Arc::new(Machine)).unwrap();
+    let until = Instant::now() + LONG;
+    while TOLD.load(SeqCst) == 0 {
+        assert!(Instant::now() < until);
+        thread::yield_now();
+    }
 }

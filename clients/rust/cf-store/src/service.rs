@@ -447,7 +447,7 @@ impl Shared {
     }
 
     /// Those that weren't closed, as far as is known.
-    fn goes_on_with(&self) -> Vec<Arc<Inner>> {
+    pub(crate) fn goes_on_with(&self) -> Vec<Arc<Inner>> {
         let requests = locked(&self.requests);
         requests.values().filter_map(|kept| if let Kept::Open(inner) = kept { Some(Arc::clone(inner)) } else { None }).collect()
     }

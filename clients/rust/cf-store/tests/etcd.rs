@@ -208,6 +208,7 @@ fn rows_stand_in_keys() {
     assert_eq!(store.news(Some(before)).unwrap().0, all);
     assert_eq!(store.news(Some(mark)), Ok((BTreeMap::new(), mark)));
     assert_eq!(store.end(name, number, 2), Ok(false), "it has more words");
+    assert_eq!(store.end(name, number + 1, 3), Err(StoreError::Gone(name.into())));
     assert_eq!(store.end(name, number, 3), Ok(true));
     assert_eq!(store.end(name, number, 3), Ok(false));
     assert_eq!(store.news(None).unwrap().0, BTreeMap::new());

@@ -160,6 +160,7 @@ fn a_call_is_done_whole_or_not_at_all() {
     assert_eq!(cut.whole("a put of two words that opens it again", &store, |it| opens(7, &more, &both, it)), (None, changes));
     assert_eq!(store.payloads("r", opened.number, &[8, 9]).unwrap(), both.values().cloned().map(Some).collect::<Vec<_>>());
     assert_eq!(store.read("r", opened.number, 7).unwrap(), more);
+    assert_eq!(store.end("r", opened.number + 1, 9), Err(StoreError::Gone("r".into())));
     assert_eq!(store.end("r", opened.number, 9), Ok(true));
     assert_eq!(opens(8, &more, &both, &store), Ok(Some(more[1..].to_vec())), "its place is taken");
     assert_eq!(store.news(None).unwrap().0, BTreeMap::new(), "and it stays closed");

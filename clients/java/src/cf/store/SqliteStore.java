@@ -287,11 +287,7 @@ final class SqliteStore extends JdbcStore {
         db.execute("savepoint cf_opens"); // (where the request can't be opened again, the words don't stand)
         boolean landed = false;
         try {
-            boolean stands = words(db, put);
-            if (stands) {
-                db.change("update cf_request set closed = null where id = ? and closed is not null", put.number);
-            }
-            landed = stands;
+            landed = words(db, put) && db.change("update cf_request set closed = null where id = ? and closed is not null", put.number) >= 0;
         } finally {
             if (!landed) {
                 db.execute("rollback to cf_opens");

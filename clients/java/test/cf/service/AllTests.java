@@ -225,8 +225,9 @@ public final class AllTests {
             over(StoresTest.InFile::new, "payloads that can't be read for a while", StoreFaultsTest::unread);
             if (StoresTest.onPath("flock")) {
                 over(StoresTest.InFile::new, "the line of who writes to a file", StoredFunctionsTest::line);
+                over(StoresTest.InFile::new, "a transaction that can't begin", StoreFaultsTest::cantBegin);
             } else {
-                System.out.println("left out the line of who writes to a file: there is no flock");
+                System.out.println("left out the line of who writes to a file, and a transaction that can't begin: there is no flock");
             }
         } else {
             System.out.println("left out requests in SQLite: the class path has no driver, as sqlite-jdbc.jar of Debian's libxerial-sqlite-jdbc-java");

@@ -8,6 +8,9 @@ import cf.internal.Words;
 import cf.store.StoresTest.Database;
 import cf.store.StoresTest.InFile;
 import cf.store.StoresTest.InPostgres;
+import java.nio.file.Files;
+import java.nio.file.Path;
+import java.nio.file.Paths;
 import java.sql.Connection;
 import java.sql.PreparedStatement;
 import java.sql.ResultSet;
@@ -397,6 +400,10 @@ public final class StoreFaultsTest {
     }
 
     private static Store.Put put(Store.Opened to, int at, int many, byte[]... payloads) {
+        return put(to, at, many, false, payloads);
+    }
+
+    private static Store.Put put(Store.Opened to, int at, int many, boolean opens, byte[]... payloads) {
         List<Store.Entry> entries = new ArrayList<>();
         Map<Integer, byte[]> given = new HashMap<>();
         for (int k = 0; k < many; k++) {
@@ -405,7 +412,7 @@ public final class StoreFaultsTest {
         for (int k = 0; k < payloads.length; k++) {
             given.put(at + 1 + k, payloads[k]);
         }
-        return new Store.Put(to.name, to.number, at, entries, given, false);
+        return new Store.Put(to.name, to.number, at, entries, given, opens);
     }
 
     /** Each call of a store is broken off at each change that it makes: then nothing of it stands, nothing is held, and it can be made again. */
@@ -417,7 +424,7 @@ public final class StoreFaultsTest {
             List<Runnable> calls = Arrays.asList(() -> store.open("another", "{}"), () -> store.append(put(to, 0, 1, small)),
                     () -> store.append(put(to, 1, 1, large)), () -> store.append(put(to, 2, 2, small)), () -> store.append(put(to, 4, 3, large, large, small)),
                     () -> store.setTimer(new Store.Timer("broken off", to.number, 0, 1e12, small)), () -> store.beat(1),
-                    () -> store.nameSession(1, "one"), () -> store.end("broken off", to.number, 7),
+                    () -> store.nameSession(1, "one"), () -> store.end("broken off", to.number, 7), () -> store.append(put(to, 7, 2, true, large)),
                     () -> store.setTimer(new Store.Timer("broken off", to.number, 0, 1e12, small)),
                     () -> store.dropTimer(new Store.Timer("broken off", to.number, 0, 0, small)), () -> store.dropBeat(1), () -> transacts(store, to));
             List<Integer> changes = new ArrayList<>();
@@ -429,8 +436,8 @@ public final class StoreFaultsTest {
                 changes.add(brokenOff(at, db, call));
             }
             // How many changes each makes: where a request is closed its timer and glance go.
-            is(changes, hasLarge(at) ? Arrays.asList(1, 1, 2, 2, 5, 1, 1, 1, 3, 1, 1, 1, 2, 4) : Arrays.asList(1, 1, 1, 2, 3, 1, 1, 1, 3, 1, 1, 1, 2, 3));
-            is(store.read("broken off", to.number, 0).size(), 8);
+            is(changes, hasLarge(at) ? Arrays.asList(1, 1, 2, 2, 5, 1, 1, 1, 3, 4, 1, 1, 2, 4) : Arrays.asList(1, 1, 1, 2, 3, 1, 1, 1, 3, 3, 1, 1, 2, 3));
+            is(store.read("broken off", to.number, 0).size(), 10);
         }
     }
 
@@ -458,8 +465,24 @@ public final class StoreFaultsTest {
                     throw new StoreException(refused.getMessage(), refused);
                 }
             }
-            is(transaction.append(put(to, 7, 1, new byte[5000])), true);
+            is(transaction.append(put(to, 9, 1, new byte[5000])), true);
             transaction.commit();
+        }
+    }
+
+    /** A transaction that can't begin says that the store is away, and leaves its turn to write to others. */
+    public static void cantBegin(InFile file) throws Exception {
+        String line = file.path + "-line";
+        Path path = Paths.get(file.path), aside = Paths.get(file.path + " aside");
+        try (JdbcStore store = file.open()) {
+            Files.move(path, aside);
+            Files.createDirectory(path);
+            thrown(StoreException.Unknown.class, store::transaction);
+            is(new ProcessBuilder("flock", "-n", line, "true").start().waitFor(), 0);
+            Files.delete(path);
+            Files.move(aside, path);
+            store.transaction().close();
+            store.beat(1);
         }
     }
 
