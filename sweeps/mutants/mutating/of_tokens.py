@@ -5,17 +5,51 @@ since the sources are laid out by rustfmt: only an operator that joins two expre
 expression or statement after all can't be built, and then counts for nothing. C's sources are laid out alike.
 """
 import re
-from typing import Dict, List, Mapping, NamedTuple, Optional, Sequence
+from typing import Dict, List, Mapping, NamedTuple, Sequence
 
 from mutating.mutant import Place, statement_rule
 from mutating.tokens import Tokens
 
 Signatures = Mapping[str, Sequence[str]]
-OTHER = {"<": ("bound", "<="), "<=": ("bound", "<"), ">": ("bound", ">="), ">=": ("bound", ">"), "==": ("equal", "!="), "!=": ("equal", "=="),
-         "&&": ("and/or", "||"), "||": ("and/or", "&&")}
+OTHER = {
+    "<": ("bound", "<="),
+    "<=": ("bound", "<"),
+    ">": ("bound", ">="),
+    ">=": ("bound", ">"),
+    "==": ("equal", "!="),
+    "!=": ("equal", "=="),
+    "&&": ("and/or", "||"),
+    "||": ("and/or", "&&"),
+}
 NO_VALUE = {"move", "return", "in", "else", "match", "if", "while", "=", "(", ",", "=>", "{", ";", "&"}  # behind these `||` begins a closure
-NOT_DROPPED = {"use", "fn", "struct", "enum", "impl", "const", "static", "type", "mod", "pub", "macro_rules", "extern", "#", "assert", "assert_eq",
-               "assert_ne", "debug_assert", "debug_assert_eq", "debug_assert_ne", "unsafe", "trait", "case", "default", "goto", "typedef", "register"}
+NOT_DROPPED = {
+    "use",
+    "fn",
+    "struct",
+    "enum",
+    "impl",
+    "const",
+    "static",
+    "type",
+    "mod",
+    "pub",
+    "macro_rules",
+    "extern",
+    "#",
+    "assert",
+    "assert_eq",
+    "assert_ne",
+    "debug_assert",
+    "debug_assert_eq",
+    "debug_assert_ne",
+    "unsafe",
+    "trait",
+    "case",
+    "default",
+    "goto",
+    "typedef",
+    "register",
+}
 BLOCKS = {"if", "while", "for", "loop", "match", "unsafe", "{", "do", "switch"}  # statements that end with a block
 DEFAULTS = r"(?:[ui](?:8|16|32|64|128|size)|f64|String|Duration|Vec<.*>)$"
 
@@ -64,8 +98,9 @@ def functions(tokens: Tokens, is_c: bool) -> List[Function]:
             where = tokens.next_of("where {", closing + 1, opening + 1) or opening
             returns = tokens.said(closing + 2, where - 1) if tokens.word(closing + 1) == "->" else ""
         before = [tokens.word(it) for it in range(max(0, k - 4), k)]
-        found.append(Function(tokens.word(k), [it for it in types if it], returns, opening, "const" in before,
-                              tokens.word(k) == "drop" and types == [""]))
+        found.append(
+            Function(tokens.word(k), [it for it in types if it], returns, opening, "const" in before, tokens.word(k) == "drop" and types == [""])
+        )
     return found
 
 
@@ -224,8 +259,12 @@ class Finder:
             if tokens.word(first + 1).startswith("_"):
                 self.replace("with", first, last, ";")
             return
-        is_declared = self.is_c and tokens[first].kind == "name" and (tokens[first + 1].kind == "name" or tokens.word(first + 1) == "*") \
+        is_declared = (
+            self.is_c
+            and tokens[first].kind == "name"
+            and (tokens[first + 1].kind == "name" or tokens.word(first + 1) == "*")
             and word not in ("return", "break", "continue")
+        )
         if word in NOT_DROPPED or is_declared or word in BLOCKS or first == last:
             return
         if tokens.said(first, last - 1).startswith("drop(") and last == first + 4 and last + 1 == tokens.other[function.opening]:
