@@ -88,15 +88,3 @@ def mutants(language: Language, wanted: Sequence[str] = ()) -> List[Mutant]:
     files = [it for it in every if it in wanted] if wanted else every
     found = places(language.name, language.folder, files, [it for it in every if it not in files])
     return [it for file in files for it in mutants_of(file, (language.folder / file).read_text(encoding="utf-8"), found[file])]
-
-
-def closure(first: Iterable[str], follow: Dict[str, List[str]]) -> List[str]:
-    """All that can be reached from the first ones."""
-    found: Dict[str, None] = {}
-    left = list(first)
-    while left:
-        it = left.pop()
-        if it not in found:
-            found[it] = None
-            left += follow.get(it, [])
-    return list(found)
